@@ -1,0 +1,11 @@
+pub mod Numbers
+pub mod Operators
+pub mod Kinds
+pub mod Groups
+pub mod Table
+pub mod Rows
+pub mod Counts
+pub mod Values
+pub mod Placed
+pub mod Bits
+pub mod Constants
