@@ -1,0 +1,14 @@
+pub mod Ascii
+pub mod Ends
+pub mod Numbers
+pub mod Scanning
+pub mod Spelling
+pub mod Longest
+pub mod PieceLaws
+pub mod ScanLaws
+pub mod Expansion
+pub mod Numbered
+pub mod Asking
+pub mod Walking
+pub mod Roots
+pub mod Joins
