@@ -1,0 +1,10 @@
+pub mod Joined
+pub mod Trees
+pub mod Resized
+pub mod Values
+pub mod Divisors
+pub mod Concats
+pub mod Agree
+pub mod Kept
+pub mod Settling
+pub mod Combs

@@ -1,0 +1,14 @@
+pub mod Variables
+pub mod Term
+pub mod Classes
+pub mod Sizes
+pub mod Sized
+pub mod Joined
+pub mod Code
+pub mod Running
+pub mod Mentions
+pub mod Fresh
+pub mod Settled
+pub mod Steps
+pub mod Sound
+pub mod Worked
