@@ -1,0 +1,6 @@
+pub mod Nibble
+pub mod Moved
+pub mod Nodes
+pub mod FixedTexts
+pub mod Grown
+pub mod MovedTasks

@@ -1,0 +1,7 @@
+-- The reserved words of SystemVerilog (IEEE 1800-2017, annex B).
+use Rattle.std.specs.Prelude.{ℕ, List, Bool, bytes_eq}
+use Rattle.std.specs.List.{list_any}
+use Rattle.scc_svtext.specs.declared.keyword.TheConstants.{KEYWORDS}
+
+unfoldable pub is_keyword : List ℕ → Bool
+is_keyword name = list_any (λ w. bytes_eq w.now name) KEYWORDS

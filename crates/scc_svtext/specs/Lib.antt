@@ -1,0 +1,9 @@
+pub mod Keyword
+pub mod Fixed
+pub mod Pieces
+pub mod ExprText
+pub mod StmtText
+pub mod ModuleText
+pub mod Pending
+pub mod Tasks
+pub mod Emitted
