@@ -1,0 +1,12 @@
+use Rattle.scc_drive.proofs.Saying.{saying_fewer}
+use Rattle.scc_drive.proofs.Telling.{told_refused, told_ends}
+use Rattle.scc_drive.proofs.command.run.Goals as goal
+
+pub returns-in-Err-Failed-clause-said : goal.returns-in-Err-Failed-clause-said
+returns-in-Err-Failed-clause-said g c = λ _. saying_fewer 2 _ _ (saying_fewer 1 _ _ c.output_failed.ensures.parts)
+
+pub returns-clause-refused : goal.returns-clause-refused
+returns-clause-refused g c = λ one. told_refused c.args.words.now _ _ _ _ _ _ _ _ _ _ c.in-Err.stopped c.in-Err.ensures.answers c.tell.ensures.told one
+
+pub returns-clause-ends : goal.returns-clause-ends
+returns-clause-ends g c = λ shelf h. told_ends c.args.words.now _ _ _ _ _ _ _ _ _ _ c.in-Err.stopped c.in-Err.ensures.answers c.tell.ensures.told shelf h

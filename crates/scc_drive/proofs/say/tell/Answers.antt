@@ -1,0 +1,14 @@
+use Rattle.scc_drive.specs.Said.{bad_words, refused, missing, failed}
+use Rattle.scc_drive.proofs.say.tell.Goals as goal
+
+pub returns-in-BadWords-clause-parts : goal.returns-in-BadWords-clause-parts
+returns-in-BadWords-clause-parts g c = c.say.ensures.parts bad_words c.bad_words.ensures.text
+
+pub returns-in-Refused-clause-parts : goal.returns-in-Refused-clause-parts
+returns-in-Refused-clause-parts g c = c.say_made.ensures.parts (refused c.word-name.result.now 1 1 c.in-Refused.code) c.refusal.ensures.text
+
+pub returns-in-Missing-clause-parts : goal.returns-in-Missing-clause-parts
+returns-in-Missing-clause-parts g c = c.say_made-in-Missing.ensures.parts (missing c.word-name.result.now) c.missing.ensures.text
+
+pub returns-in-Failed-clause-parts : goal.returns-in-Failed-clause-parts
+returns-in-Failed-clause-parts g c = c.say_made-in-Failed.ensures.parts (failed c.word-name.result.now) c.failed.ensures.text

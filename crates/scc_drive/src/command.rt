@@ -1,0 +1,64 @@
+ghost use Rattle.std.specs.Prelude.{◌≡◌, ◌≤◌, ◌⊎◌, false, Result, Ok};
+ghost use Rattle.std.specs.Io.KnownBytes.{Appends, Keeps};
+ghost use Rattle.scc_base.specs.Outside.{Rose, Told};
+ghost use Rattle.scc_drive.specs.Said.{SaysParts};
+ghost use Rattle.scc_drive.specs.Answer.{Ends, IsCompiled, IsRefused, IsMissing, HasFailed, IsPartOfOutput};
+ghost use Rattle.scc_drive.specs.Texts.{words_text};
+ghost use Rattle.scc_drive.specs.Words.{are_words};
+
+use crate::answer::answer;
+use crate::say::{no_memory, output_failed, tell};
+use scc_base::{Files, Sink, SinkFault, Status, put_all};
+use std::alloc::Global;
+
+/// Does all that the program does: reads the words, which are those behind the program's name, and the file that they
+/// name, writes the command's output to `out`, or says on `err` why there is none. Each is handed whole to one
+/// `put_all`. It answers the status with which the program ends:
+///
+/// | status | when | text on `err` |
+/// |---|---|---|
+/// | 0 | done | none |
+/// | 1 | the file is refused | `FILE:LINE:COL: Ennn TEXT` |
+/// | 2 | the words are no command | `scc: bad words` |
+/// | 3 | the file is missing, or could not be read | `scc: missing NAME`, `scc: failed NAME` |
+/// | 4 | memory ran out, which may take the place of any other status | `scc: no memory` |
+/// | 5 | an output failed | `scc: output failed` |
+pub fn run<F: Files, O: Sink, E: Sink>(
+    alloc: Global,
+    words: &[String],
+    files: &mut F,
+    out: &mut O,
+    err: &mut E,
+) -> Status
+    ensures six { result ≤ 5 }
+    // 0: the text of the module of the design in the file was written, and nothing was said
+    ensures done { result ≡ 0 → Told (F.held files.old) (λ shelf. IsCompiled shelf words.now (O.taken out.old) (O.taken out.new)) }
+    ensures silent { result ≡ 0 → Keeps (E.taken err.old) (E.taken err.new) }
+    // 1: the first refusal was said, at the first byte of the first file
+    ensures refused { result ≡ 1 → IsRefused words.now (F.held files.old) (E.taken err.old) (E.taken err.new) }
+    // 2: exactly where the words are bad, and it was said
+    ensures words { result ≡ 2 → (are_words words.now ≡ false) × Appends (E.taken err.old) (E.taken err.new) words_text }
+    ensures bad_words { are_words words.now ≡ false → (result ≡ 2) ⊎ (result ≡ 4) ⊎ (result ≡ 5) }
+    // 3: a file is missing, or failed, where that count rose, and it was said
+    ensures absent { result ≡ 3 → IsMissing words.now (F.held files.old) (F.misses files.old) (F.misses files.new) (E.taken err.old) (E.taken err.new)
+        ⊎ HasFailed words.now (F.faults files.old) (F.faults files.new) (E.taken err.old) (E.taken err.new) }
+    // 5: an output failed where its count rose
+    ensures failed { result ≡ 5 → Rose (O.faults out.old) (O.faults out.new) ⊎ Rose (E.faults err.old) (E.faults err.new) }
+    // 1, 2 and 3, and bad words: nothing was written, whether or not it is told what the files hold
+    ensures unwritten { are_words words.now ≡ false → O.taken out.new ≡ O.taken out.old }
+    ensures kept { (result ≡ 1) ⊎ (result ≡ 2) ⊎ (result ≡ 3) → O.taken out.new ≡ O.taken out.old }
+    // 4 and 5: a first part of the output was written, which is empty where there is none, and first parts of at most three texts were said
+    ensures part { (result ≡ 4) ⊎ (result ≡ 5) → Told (F.held files.old) (λ shelf. IsPartOfOutput shelf words.now (O.taken out.old) (O.taken out.new)) }
+    ensures said { (result ≡ 4) ⊎ (result ≡ 5) → SaysParts 3 (E.taken err.old) (E.taken err.new) }
+    // what the command comes to decides the status, but for want of memory and faults of the outside
+    ensures ends { Told (F.held files.old) (λ shelf. Ends shelf words.now (F.faults files.old) (F.faults files.new) result) }
+{
+    match answer(alloc, words, files) {
+        Ok(text) => match put_all(out, text.bytes()) {
+            Ok(()) => Status::new(0),
+            Err(SinkFault::Failed) => output_failed(err),
+            Err(SinkFault::NoMemory) => no_memory(err),
+        },
+        Err(stopped) => tell(alloc, words, err, stopped),
+    }
+}

@@ -1,0 +1,19 @@
+//! The whole program, over files and outputs that are handed in.
+#![tactic(auto)]
+
+mod answer;
+mod bytes;
+mod command;
+mod design;
+mod emit;
+mod halt;
+mod laws;
+mod say;
+mod stopped;
+#[cfg(test)]
+mod tests;
+mod texts;
+mod thin;
+mod words;
+
+pub use command::run;

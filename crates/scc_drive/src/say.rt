@@ -1,0 +1,81 @@
+//! Says on the second output why the program does not end with status 0.
+ghost use Rattle.std.specs.Prelude.{◌≡◌, ◌≤◌, ◌⊎◌, IfOk, OnErr};
+ghost use Rattle.scc_base.specs.Outside.{Rose};
+ghost use Rattle.scc_drive.specs.Said.{Said, Saying, SaysParts, text_of};
+ghost use Rattle.scc_drive.specs.Answer.{Tells};
+
+use crate::stopped::Stopped;
+use crate::texts;
+use crate::words::word;
+use scc_base::{NoMemory, Sink, SinkFault, Status, Text, put_all};
+use std::alloc::Global;
+
+/// Ends with status 5, whether or not the text could be written.
+#[tactic(auto, using(crate::proofs::Saying::output_whole, crate::proofs::Saying::output_part))]
+pub fn output_failed<E: Sink>(err: &mut E) -> Status
+    ensures status { result ≡ 5 }
+    ensures parts { SaysParts 1 (E.taken err.old) (E.taken err.new) }
+    ensures no_fewer_faults { E.faults err.old ≤ E.faults err.new }
+{
+    match put_all(err, texts::output_failed()) {
+        Ok(()) => Status::new(5),
+        Err(_) => Status::new(5),
+    }
+}
+
+/// Ends with status 4, or with 5 where its text failed.
+#[tactic(auto, using(crate::proofs::Saying::memory_whole, crate::proofs::Saying::memory_part, crate::proofs::Saying::memory_more))]
+pub fn no_memory<E: Sink>(err: &mut E) -> Status
+    ensures status { (result ≡ 4) ⊎ ((result ≡ 5) × Rose (E.faults err.old) (E.faults err.new)) }
+    ensures parts { SaysParts 2 (E.taken err.old) (E.taken err.new) }
+    ensures no_fewer_faults { E.faults err.old ≤ E.faults err.new }
+{
+    match put_all(err, texts::no_memory()) {
+        Ok(()) => Status::new(4),
+        Err(SinkFault::Failed) => output_failed(err),
+        Err(SinkFault::NoMemory) => Status::new(4),
+    }
+}
+
+#[tactic(auto, using(crate::proofs::Saying::saying_whole, crate::proofs::Saying::saying_more, crate::proofs::Saying::saying_fewer))]
+fn say<E: Sink>(err: &mut E, text: &[u8], status: u8) -> Status
+    requires { status ≤ 5 }
+    ensures said { Said status text.now (E.taken err.old) (E.taken err.new) (E.faults err.old) (E.faults err.new) result }
+    ensures parts { (s : Saying) → text.now ≡ text_of s → SaysParts 3 (E.taken err.old) (E.taken err.new) }
+    ensures no_fewer_faults { E.faults err.old ≤ E.faults err.new }
+{
+    match put_all(err, text) {
+        Ok(()) => Status::new(status),
+        Err(SinkFault::Failed) => output_failed(err),
+        Err(SinkFault::NoMemory) => no_memory(err),
+    }
+}
+
+fn say_made<E: Sink>(err: &mut E, text: Result<Text, NoMemory>, status: u8) -> Status
+    requires { status ≤ 5 }
+    ensures said { IfOk text (λ t. Said status t (E.taken err.old) (E.taken err.new) (E.faults err.old) (E.faults err.new) result) }
+    ensures memory { OnErr text ((result ≡ 4) ⊎ ((result ≡ 5) × Rose (E.faults err.old) (E.faults err.new))) }
+    ensures parts { (s : Saying) → IfOk text (λ t. t ≡ text_of s) → SaysParts 3 (E.taken err.old) (E.taken err.new) }
+    ensures no_fewer_faults { E.faults err.old ≤ E.faults err.new }
+{
+    match text {
+        Ok(text) => say(err, text.bytes(), status),
+        Err(_) => no_memory(err),
+    }
+}
+
+/// Says why a command has no output.
+pub fn tell<E: Sink>(alloc: Global, words: &[String], err: &mut E, stopped: Stopped) -> Status
+    ensures told { Tells words.now stopped (E.taken err.old) (E.taken err.new) (E.faults err.old) (E.faults err.new) result }
+    ensures parts { SaysParts 3 (E.taken err.old) (E.taken err.new) }
+    ensures no_fewer_faults { E.faults err.old ≤ E.faults err.new }
+{
+    let name = word(words, 2);
+    match stopped {
+        Stopped::BadWords => say(err, texts::bad_words(), 2),
+        Stopped::Refused(code) => say_made(err, texts::refusal(alloc, name, 1, 1, code), 1),
+        Stopped::Missing => say_made(err, texts::missing(alloc, name), 3),
+        Stopped::Failed => say_made(err, texts::failed(alloc, name), 3),
+        Stopped::NoMemory => no_memory(err),
+    }
+}
