@@ -1,0 +1,7 @@
+#include <systemc.h>
+SC_MODULE(And) {
+  sc_in<sc_uint<8> > a, b;
+  sc_out<sc_uint<8> > y;
+  void f() { y.write(a.read() & b.read()); }
+  SC_CTOR(And) { SC_METHOD(f); sensitive << a << b; }
+};
