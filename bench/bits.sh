@@ -1,5 +1,6 @@
 #!/usr/bin/env bash
-# Prints how long a call of `apply` takes, the mean of a million calls for each operator on small and on large operands.
+# Prints how long a call of `apply` takes, the mean of a million calls for each operator on small and on large operands, and
+# beside it what the same loop takes without the call: making the operands and seeing that they may be given.
 # The program that calls it is made, proved and built in a folder of its own.
 set -euo pipefail
 top=$(cd "$(dirname "$0")/.." && pwd)
@@ -18,9 +19,9 @@ use std::time::Instant;
 
 const CALLS: u32 = 1_000_000;
 
-/// The sum of the answers, so that no call is left out; 0 where the operator has no row. The operands change from call
-/// to call, below 2 to `bits`.
-fn calls(op: Op, a: Kind, b: Kind, bits: u32) -> u128 {
+/// The sum of the answers, or of the left operands where `apply` isn't called, so that no turn is left out; 0 where the
+/// operator has no row. The operands change from call to call, below 2 to `bits`.
+fn calls(called: bool, op: Op, a: Kind, b: Kind, bits: u32) -> u128 {
     let mut sum: u128 = 0;
     let mask = if bits < 128 { (1u128 << bits) - 1 } else { u128::MAX };
     let mut x: u128 = 0x0123_4567_89ab_cdef_0246_8ace_1357_9bdf;
@@ -29,7 +30,8 @@ fn calls(op: Op, a: Kind, b: Kind, bits: u32) -> u128 {
             x = x.wrapping_add(0x9e37_79b9_7f4a_7c15_f39c_c060_5ced_c835);
             let (left, right) = (Word { bits: x & mask }, Word { bits: (x >> 7) & mask });
             if fits(a, left) && fits(b, right) && takes_right(op, right) {
-                sum = sum.wrapping_add(apply(op, a, left, b, right).bits);
+                let answer = if called { apply(op, a, left, b, right) } else { left };
+                sum = sum.wrapping_add(answer.bits);
             }
         }
     }
@@ -47,10 +49,13 @@ fn main(rt: HostRuntime) -> io::Result<()> {
     ] {
         for (a, b, bits) in [(int, int, 31), (small, small, 47), (large, large, 99), (large, small, 47)] {
             let start = Instant::now(&rt)?;
-            let sum = calls(op, a, b, bits);
+            let sum = calls(true, op, a, b, bits);
             let took = start.elapsed(&rt)?.as_nanos() / u128::from(CALLS);
+            let start = Instant::now(&rt)?;
+            let rest = calls(false, op, a, b, bits);
+            let without = start.elapsed(&rt)?.as_nanos() / u128::from(CALLS);
             if result_kind(op, a, b).is_some() {
-                println!(rt; "{op:?} {a:?} {b:?}: {took} ns (sum {sum:x})")?;
+                println!(rt; "{op:?} {a:?} {b:?}: {took} ns, without the call {without} ns (sums {sum:x} {rest:x})")?;
             }
         }
     }

@@ -164,7 +164,7 @@ pub complement_agrees : (j : Kind) (x : ℕ) (k : Kind) (y : ℕ) → IsLow op.N
 complement_agrees j x k y f p q a = at_answer (λ m. low (width_of m) (placed op.Not rule.WideComplement j x k y) ≡ stored m (meant op.Not rule.WideComplement j x k y)) _ a (in_wide op.Not f j x k y p q (count_of j + (if is_signed j then 0 else 1)) true)
 
 -- a large kind with room for a kind's numbers keeps them
-kept : (k : Kind) (x : ℕ) (b : ℕ) (s : Bool) → IsValid k → Fits k x → padded s k ≤ b → b ≤ 128 → (is_signed k ≡ true → s ≡ true) → converted (wide b s) (number_of k x) ≡ number_of k x
+pub kept : (k : Kind) (x : ℕ) (b : ℕ) (s : Bool) → IsValid k → Fits k x → padded s k ≤ b → b ≤ 128 → (is_signed k ≡ true → s ≡ true) → converted (wide b s) (number_of k x) ≡ number_of k x
 kept k x b s v h p q e =
     let w = width_valid k v in
     let c : width_of k ≡ count_of k = omega (arith, width_count k v) in
@@ -174,15 +174,15 @@ kept k x b s v h p q e =
     let more : Holds s (width_of (wide b s)) z = holds_more (is_signed k) s (width_of k) (width_of (wide b s)) z (omega arith) e holds in
     read_low s (width_of (wide b s)) z (omega arith) more
 
-left_signed : (s t : Bool) → s ≡ true → (s || t) ≡ true
+pub left_signed : (s t : Bool) → s ≡ true → (s || t) ≡ true
 left_signed true t e = refl
 left_signed false t e = absurd (cc)
 
-right_signed : (s t : Bool) → t ≡ true → (s || t) ≡ true
+pub right_signed : (s t : Bool) → t ≡ true → (s || t) ≡ true
 right_signed true t e = refl
 right_signed false t e = e
 
-same_sign : (s : Bool) (w : ℕ) → w + (if s && not s then 1 else 0) ≤ w
+pub same_sign : (s : Bool) (w : ℕ) → w + (if s && not s then 1 else 0) ≤ w
 same_sign true w = omega arith
 same_sign false w = omega arith
 

@@ -13,4 +13,5 @@ pub mod Suited
 pub mod Parts
 pub mod Fewest
 pub mod Lowered
-pub mod Taken
+pub mod Standing
+pub mod Applied

@@ -14,17 +14,17 @@ use Rattle.scc_bits.proofs.Agreement.{Given}
 use Rattle.scc_bits.proofs.Validity.{left_valid, right_valid, answer_valid}
 use Rattle.scc_bits.proofs.Suited.{sound, signed_right, divided}
 
-abbrev of_answer : Rule → Kind → Kind → Kind → Operands
+abbrev pub of_answer : Rule → Kind → Kind → Kind → Operands
 of_answer r j k a = record { left = placed_left r j k; right = placed_right r j k; answer = a }
 
 -- an operator's rule, from the kinds of its operands
-record Row (o : Op) (j k : Kind) (p : Operands) : Type 0 where
+pub record Row (o : Op) (j k : Kind) (p : Operands) : Type 0 where
   pub by : Rule
   pub has : rule_at o j k ≡ Some by
   pub answers : answer_of by j k ≡ Some p.answer
   pub operands : of_answer by j k p.answer ≡ p
 
-row : (o : Op) (j k : Kind) (p : Operands) → operands_of o j k ≡ Some p → Row o j k p
+pub row : (o : Op) (j k : Kind) (p : Operands) → operands_of o j k ≡ Some p → Row o j k p
 row o j k p e = first (rule_at o j k) refl e
   where
     second : (r : Rule) → rule_at o j k ≡ Some r → (t : Option Kind) → answer_of r j k ≡ t → ◌≡◌ {A = Option Operands} (option_map (of_answer r j k) t) (Some p) → Row o j k p

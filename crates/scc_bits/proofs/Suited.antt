@@ -140,7 +140,7 @@ signed_right o j k r e = subst (OnRule (Signed o j k)) e (each_signed o j k)
 abbrev Divided : Op → Kind → Kind → ℕ → Rule → Type 0
 Divided o j k y r = IsValid j → IsValid k → Fits k y → Divisor o y → Divisor o (stored (placed_right r j k) (number_of k y))
 
-promoted_width : (k : Kind) → IsValid k → is_small (group_of k) ≡ true → (width_of k ≤ width_of (promoted k)) × ((width_of (promoted k) ≡ 32) ⊎ (width_of (promoted k) ≡ 64))
+pub promoted_width : (k : Kind) → IsValid k → is_small (group_of k) ≡ true → (width_of k ≤ width_of (promoted k)) × ((width_of (promoted k) ≡ 32) ⊎ (width_of (promoted k) ≡ 64))
 promoted_width kind.Bool v e = (omega arith, inl refl)
 promoted_width (kind.Native w s) v e = by (nat_lt w 32) refl
   where
@@ -176,7 +176,7 @@ quotient_divisor : (j k : Kind) (y : ℕ) → IsValid k → Fits k y → 0 < y �
 quotient_divisor j k y v h o =
     not_lost (is_signed k) (width_of k) (width_of (wide (quotient_bits j k) (some_signed j k))) y (omega (arith, width_count k v)) h o
 
-on_any : (P : Rule → Type 0) → ((r : Rule) → P r) → (t : Option Rule) → OnRule P t
+pub on_any : (P : Rule → Type 0) → ((r : Rule) → P r) → (t : Option Rule) → OnRule P t
 on_any P f None = tt
 on_any P f (Some r) = f r
 

@@ -7,5 +7,6 @@ pub mod Rows
 pub mod Counts
 pub mod Values
 pub mod Placed
+pub mod Standing
 pub mod Bits
 pub mod Constants

@@ -1,5 +1,5 @@
 //! The operators on numbers of 128 bits in two's complement: each gives the low 128 bits of the exact number.
-ghost use Rattle.std.specs.Prelude.{◌≡◌, ◌≤◌, ◌<◌, ◌^◌, ◌-◌, ◌/◌, ◌%◌, ℤ, pos, ◌+ℤ◌, ◌-ℤ◌, ◌*ℤ◌, neg_ℤ, int_div, int_rem, int_lt, nat_eq, not, count_ones, Bool};
+ghost use Rattle.std.specs.Prelude.{◌≡◌, ◌≤◌, ◌<◌, ◌^◌, ◌-◌, ◌/◌, ◌%◌, ℤ, pos, ◌+ℤ◌, ◌-ℤ◌, ◌*ℤ◌, neg_ℤ, int_div, int_rem, int_lt, nat_eq, not, count_ones, Bool, IsTrue, ◌↔◌};
 ghost use Rattle.std.specs.Ordering.{int_eq};
 ghost use Rattle.scc_bits.specs.Numbers.{low, reading, halved, both, either, differing, bit};
 ghost use Rattle.scc_bits.specs.Operators.{truth};
@@ -27,8 +27,21 @@ pub(crate) fn mul(a: u128, b: u128) -> u128
     a.wrapping_mul(b)
 }
 
-#[tactic(auto, using(crate::proofs::Exactly::signed_reading))]
+/// Numbers of at most 64 bits, which most are, take a processor's own division.
+#[inline(always)]
 pub(crate) fn div(signed: bool, a: u128, b: u128) -> u128
+    requires { 0 < b }
+    ensures { result ≡ low 128 (int_div (reading signed 128 a) (reading signed 128 b)) }
+{
+    if is_narrow(a) && is_narrow(b) {
+        u128::from(low_word(a) / low_word(b))
+    } else {
+        wide_div(signed, a, b)
+    }
+}
+
+#[tactic(auto, using(crate::proofs::Exactly::signed_reading))]
+fn wide_div(signed: bool, a: u128, b: u128) -> u128
     requires { 0 < b }
     ensures { result ≡ low 128 (int_div (reading signed 128 a) (reading signed 128 b)) }
 {
@@ -41,8 +54,20 @@ pub(crate) fn div(signed: bool, a: u128, b: u128) -> u128
     }
 }
 
-#[tactic(auto, using(crate::proofs::Exactly::signed_reading))]
+#[inline(always)]
 pub(crate) fn rem(signed: bool, a: u128, b: u128) -> u128
+    requires { 0 < b }
+    ensures { result ≡ low 128 (int_rem (reading signed 128 a) (reading signed 128 b)) }
+{
+    if is_narrow(a) && is_narrow(b) {
+        u128::from(low_word(a) % low_word(b))
+    } else {
+        wide_rem(signed, a, b)
+    }
+}
+
+#[tactic(auto, using(crate::proofs::Exactly::signed_reading))]
+fn wide_rem(signed: bool, a: u128, b: u128) -> u128
     requires { 0 < b }
     ensures { result ≡ low 128 (int_rem (reading signed 128 a) (reading signed 128 b)) }
 {
@@ -53,6 +78,21 @@ pub(crate) fn rem(signed: bool, a: u128, b: u128) -> u128
     } else {
         a % b
     }
+}
+
+#[inline(always)]
+fn is_narrow(a: u128) -> bool
+    ensures { IsTrue result ↔ (a < 2 ^ 64) }
+{
+    a < 1 << 64
+}
+
+#[inline(always)]
+fn low_word(a: u128) -> u64
+    requires { a < 2 ^ 64 }
+    ensures { result ≡ a }
+{
+    a as u64
 }
 
 #[tactic(auto, using(crate::proofs::Exactly::word_and))]

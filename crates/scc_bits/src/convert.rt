@@ -9,6 +9,7 @@ use crate::word::{cut, extend};
 /// The word of the same number converted to another kind (IEEE 1666-2011, 7.2.1 and 7.2.9; C++ \[conv\]):
 /// to `bool` 1 exactly where the number isn't 0, to another kind its low bits in two's complement.
 #[tactic(auto, using(crate::proofs::Words::truth_reading))]
+#[inline(always)]
 pub fn conv(from: Kind, to: Kind, x: Word) -> Word
     requires kinds { IsValid from × IsValid to }
     requires fits { Fits from x.bits }
@@ -26,6 +27,7 @@ pub fn conv(from: Kind, to: Kind, x: Word) -> Word
 
 /// The number's low bits in another kind's width.
 #[tactic(auto, using(crate::proofs::Words::cut_reading))]
+#[inline(always)]
 pub(crate) fn low_bits(from: Kind, to: Kind, x: Word) -> u128
     requires kinds { IsValid from × IsValid to }
     requires fits { Fits from x.bits }
@@ -35,33 +37,9 @@ pub(crate) fn low_bits(from: Kind, to: Kind, x: Word) -> u128
     cut(width(to), extend(from, x))
 }
 
+#[inline(always)]
 pub(crate) fn is_bool(k: Kind) -> bool
     ensures { result ≡ is_bool k }
 {
     matches!(k, Kind::Bool)
-}
-
-/// The number of 128 bits in two's complement that a word's number is after conversion.
-#[tactic(auto, using(crate::proofs::Taken::keeps_number))]
-pub(crate) fn take(from: Kind, to: Kind, x: Word) -> u128
-    requires kinds { IsValid from × IsValid to }
-    requires fits { Fits from x.bits }
-    ensures { reading (is_signed to) 128 result ≡ converted to (number_of from x.bits) }
-{
-    if has_room(from, to) {
-        extend(from, x)
-    } else {
-        extend(to, conv(from, to, x))
-    }
-}
-
-/// Whether conversion changes no number, decided for kinds of one sign.
-fn has_room(from: Kind, to: Kind) -> bool
-    ensures { IsTrue result → (is_bool to ≡ false) × (is_signed from ≡ is_signed to) × (width_of from ≤ width_of to) }
-{
-    if is_bool(to) || signed(from) != signed(to) {
-        false
-    } else {
-        width(from) <= width(to)
-    }
 }

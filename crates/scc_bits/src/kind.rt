@@ -43,6 +43,7 @@ pub fn valid(k: Kind) -> bool
 }
 
 /// The number of bits of a word of the kind, 1 to 128 where the kind is valid.
+#[inline(always)]
 pub fn width(k: Kind) -> u32
     ensures { result ≡ width_of k }
 {
@@ -56,6 +57,7 @@ pub fn width(k: Kind) -> u32
 }
 
 /// Whether words of the kind are read in two's complement.
+#[inline(always)]
 pub fn signed(k: Kind) -> bool
     ensures { result ≡ is_signed k }
 {
@@ -67,6 +69,7 @@ pub fn signed(k: Kind) -> bool
 }
 
 /// Whether the word is one of the kind: below 2 to the kind's width.
+#[inline(always)]
 pub fn fits(k: Kind, x: Word) -> bool
     requires { IsValid k }
     ensures { IsTrue result ↔ Fits k x.bits }

@@ -8,9 +8,11 @@ mod constant;
 mod convert;
 mod count;
 mod expression;
+mod form;
 mod group;
 mod kind;
 mod laws;
+mod number;
 mod op;
 mod operands;
 mod operation;
@@ -18,6 +20,7 @@ mod result;
 mod rows;
 mod rule;
 mod table;
+mod taken;
 #[cfg(test)]
 mod tests;
 #[cfg(test)]

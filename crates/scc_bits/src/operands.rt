@@ -16,12 +16,14 @@ pub struct Operands {
     pub answer: Kind,
 }
 
+#[inline(always)]
 fn alike(k: Kind) -> Option<Operands>
     ensures { result ≡ Some (record { left = k; right = k; answer = k }) }
 {
     kinds(k, k, k)
 }
 
+#[inline(always)]
 fn kinds(left: Kind, right: Kind, answer: Kind) -> Option<Operands>
     ensures { result ≡ Some (record { left = left; right = right; answer = answer }) }
 {
@@ -33,6 +35,7 @@ fn kinds(left: Kind, right: Kind, answer: Kind) -> Option<Operands>
 }
 
 /// The kinds of a rule's operands and answer, None where bit vectors differ in width.
+#[inline(always)]
 pub(crate) fn placed(rule: Rule, a: Kind, b: Kind) -> Option<Operands>
     ensures { result ≡ placed_of rule a b }
 {
@@ -61,18 +64,21 @@ pub(crate) fn placed(rule: Rule, a: Kind, b: Kind) -> Option<Operands>
     }
 }
 
+#[inline(always)]
 fn test_in(k: Kind) -> Option<Operands>
     ensures { result ≡ Some (record { left = k; right = k; answer = Kind.Bool }) }
 {
     kinds(k, k, Kind::Bool)
 }
 
+#[inline(always)]
 fn on_left(k: Kind, right: Kind) -> Option<Operands>
     ensures { result ≡ Some (record { left = k; right = right; answer = k }) }
 {
     kinds(k, right, k)
 }
 
+#[inline(always)]
 fn equal_widths(a: Kind, b: Kind, answer: Kind) -> Option<Operands>
     ensures { result ≡ (if nat_eq (width_of a) (width_of b) then Some (record { left = a; right = b; answer = answer }) else None) }
 {
@@ -83,12 +89,14 @@ fn equal_widths(a: Kind, b: Kind, answer: Kind) -> Option<Operands>
     }
 }
 
+#[inline(always)]
 fn bits(k: Kind) -> Kind
     ensures { result ≡ Kind.Bv (width_of k) }
 {
     Kind::Bv(width(k) as u8)
 }
 
+#[inline(always)]
 fn amount_kind(k: Kind) -> Kind
     ensures { result ≡ amount_kind k }
 {

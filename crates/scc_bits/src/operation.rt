@@ -1,5 +1,5 @@
 //! An operator on numbers in the kinds that it takes.
-ghost use Rattle.std.specs.Prelude.{◌≡◌, ◌≤◌, ◌↔◌, IsTrue, Bool};
+ghost use Rattle.std.specs.Prelude.{◌≡◌, ◌<◌, ◌≤◌, ◌^◌, ◌↔◌, IsTrue, Bool};
 ghost use Rattle.scc_bits.specs.Kinds.{IsValid, Fits, width_of, is_signed, number_of};
 ghost use Rattle.scc_bits.specs.Numbers.{low, reading};
 ghost use Rattle.scc_bits.specs.Operators.{exact, Signs, Divisor};
@@ -45,29 +45,32 @@ macro_rules! each_operator {
     };
 }
 
-/// What an operator of a form gives for words a and b: w is the width of a's bits, s its sign.
+/// What an operator of a form gives for words a and b: k is the kind of a's bits, s the sign.
 macro_rules! compute {
-    (both $f:ident ($w:expr, $s:expr, $a:expr, $b:expr)) => { $f($a, $b) };
-    (in_sign $f:ident ($w:expr, $s:expr, $a:expr, $b:expr)) => { $f($s, $a, $b) };
-    (test $f:ident ($w:expr, $s:expr, $a:expr, $b:expr)) => { word_of($f($a, $b)) };
-    (order $f:ident ($w:expr, $s:expr, $a:expr, $b:expr)) => { word_of($f($s, $a, $b)) };
-    (all $f:ident ($w:expr, $s:expr, $a:expr, $b:expr)) => { word_of($f($a) && $f($b)) };
-    (any $f:ident ($w:expr, $s:expr, $a:expr, $b:expr)) => { word_of($f($a) || $f($b)) };
-    (one $f:ident ($w:expr, $s:expr, $a:expr, $b:expr)) => { $f($a) };
-    (truth $f:ident ($w:expr, $s:expr, $a:expr, $b:expr)) => { word_of($f($a)) };
-    (bits $f:ident ($w:expr, $s:expr, $a:expr, $b:expr)) => { word_of($f($w, $a)) };
+    (both $f:ident ($k:expr, $s:expr, $a:expr, $b:expr)) => { $f($a, $b) };
+    (in_sign $f:ident ($k:expr, $s:expr, $a:expr, $b:expr)) => { $f($s, $a, $b) };
+    (test $f:ident ($k:expr, $s:expr, $a:expr, $b:expr)) => { word_of($f($a, $b)) };
+    (order $f:ident ($k:expr, $s:expr, $a:expr, $b:expr)) => { word_of($f($s, $a, $b)) };
+    (all $f:ident ($k:expr, $s:expr, $a:expr, $b:expr)) => { word_of($f($a) && $f($b)) };
+    (any $f:ident ($k:expr, $s:expr, $a:expr, $b:expr)) => { word_of($f($a) || $f($b)) };
+    (one $f:ident ($k:expr, $s:expr, $a:expr, $b:expr)) => { $f($a) };
+    (truth $f:ident ($k:expr, $s:expr, $a:expr, $b:expr)) => { word_of($f($a)) };
+    (bits $f:ident ($k:expr, $s:expr, $a:expr, $b:expr)) => { word_of($f(width($k), $a)) };
 }
 
-/// The low 128 bits of the operator's number for numbers of 128 bits in two's complement.
-fn full(op: Op, width: u32, s: bool, a: u128, b: u128) -> u128
-    requires width { (1 ≤ width) × (width ≤ 128) }
+/// The low 128 bits of the operator's number for numbers of 128 bits in two's complement. The kind is that of the bits
+/// of which a reduction speaks.
+#[inline(always)]
+fn full(op: Op, k: Kind, s: bool, a: u128, b: u128) -> u128
+    requires valid { IsValid k }
     requires divisor { Divisor op b }
-    ensures { (t : Bool) → Signs op s t → result ≡ low 128 (exact op width (reading s 128 a) (reading t 128 b)) }
+    ensures { (t : Bool) → Signs op s t → result ≡ low 128 (exact op (width_of k) (reading s 128 a) (reading t 128 b)) }
 {
-    each_operator!(op, compute(width, s, a, b))
+    each_operator!(op, compute(k, s, a, b))
 }
 
 /// Whether the operator may take the word on its right: a divisor isn't 0.
+#[inline(always)]
 pub fn takes_right(op: Op, y: Word) -> bool
     ensures { IsTrue result ↔ Divisor op y.bits }
 {
@@ -92,19 +95,20 @@ pub fn operate(op: Op, left: Kind, x: Word, right: Kind, y: Word, answer: Kind) 
 {
     let a = extend(left, x);
     let b = extend(right, y);
-    calculate(op, left, a, b, answer)
+    Word {
+        bits: calculate(op, left, signed(left), a, b, width(answer)),
+    }
 }
 
-/// The same for numbers of 128 bits in two's complement.
+/// The low bits of the operator's number for numbers of 128 bits in two's complement.
 #[tactic(auto, using(crate::proofs::Operated::cut_exact))]
-pub(crate) fn calculate(op: Op, left: Kind, a: u128, b: u128, answer: Kind) -> Word
-    requires kinds { IsValid left × IsValid answer }
+#[inline(always)]
+pub(crate) fn calculate(op: Op, k: Kind, s: bool, a: u128, b: u128, answer: u32) -> u128
+    requires valid { IsValid k }
+    requires answer { (1 ≤ answer) × (answer ≤ 128) }
     requires divisor { Divisor op b }
-    ensures word { (t : Bool) → Signs op (is_signed left) t → result.bits ≡ low (width_of answer) (exact op (width_of left) (reading (is_signed left) 128 a) (reading t 128 b)) }
-    ensures fits { Fits answer result.bits }
+    ensures word { (t : Bool) → Signs op s t → result ≡ low answer (exact op (width_of k) (reading s 128 a) (reading t 128 b)) }
+    ensures fits { result < 2 ^ answer }
 {
-    let whole = full(op, width(left), signed(left), a, b);
-    Word {
-        bits: cut(width(answer), whole),
-    }
+    cut(answer, full(op, k, s, a, b))
 }

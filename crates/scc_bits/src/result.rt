@@ -10,7 +10,8 @@ use crate::operands::{Operands, passes, placed};
 use crate::rule::{Rule, rule_of};
 
 /// The rule of an operator for operands of two kinds, None where there is no row.
-fn rule_at(op: Op, a: Kind, b: Kind) -> Option<Rule>
+#[inline(always)]
+pub(crate) fn rule_at(op: Op, a: Kind, b: Kind) -> Option<Rule>
     ensures { result ≡ rule_at op a b }
 {
     rule_of(op, group_of(a), group_of(b))
@@ -20,6 +21,7 @@ fn rule_at(op: Op, a: Kind, b: Kind) -> Option<Rule>
 /// exactly where `result_kind` is None. Small operands take their common kind; large ones the answer's kind or, in a
 /// comparison, one with room for both; the amount of a shift stands as it is, unsigned. `operands_keep_answer` says
 /// that an operator on the operands so converted gives its answer.
+#[inline(always)]
 pub fn operand_kinds(op: Op, a: Kind, b: Kind) -> Option<Operands>
     ensures kinds { result ≡ operands_of op a b }
     ensures answer { option_map (λ k. k.answer) result ≡ kind_of op a b }
@@ -30,6 +32,7 @@ pub fn operand_kinds(op: Op, a: Kind, b: Kind) -> Option<Operands>
 
 /// The kind of an operator's answer for operands of two kinds, None exactly where the operator table has no row
 /// for them. A unary operator takes `a` alone, and its rows stand where `b` is of the group of `a`.
+#[inline(always)]
 pub fn result_kind(op: Op, a: Kind, b: Kind) -> Option<Kind>
     ensures { result ≡ kind_of op a b }
 {

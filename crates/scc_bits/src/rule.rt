@@ -106,12 +106,14 @@ macro_rules! rule {
 
 /// The rule of an operator for operands of two groups, None where it has none: what the operator table has at their
 /// row, without a search.
+#[inline(always)]
 pub fn rule_of(op: Op, left: Group, right: Group) -> Option<Rule>
     ensures { result ≡ rule_of op left right }
 {
     each_operator!(op, rule(left, right))
 }
 
+#[inline(always)]
 fn is_small(group: Group) -> bool
     ensures { result ≡ is_small group }
 {
@@ -121,6 +123,7 @@ fn is_small(group: Group) -> bool
     )
 }
 
+#[inline(always)]
 fn by_groups(
     small: Option<Rule>,
     large: Option<Rule>,
@@ -138,6 +141,7 @@ fn by_groups(
     }
 }
 
+#[inline(always)]
 fn by_left(small: Rule, large: Rule, bits: Rule, left: Group, right: Group) -> Option<Rule>
     ensures { result ≡ by_left small large bits left right }
 {
@@ -149,6 +153,7 @@ fn by_left(small: Rule, large: Rule, bits: Rule, left: Group, right: Group) -> O
     is_small(right).then_some(rule)
 }
 
+#[inline(always)]
 fn alone(
     small: Option<Rule>,
     large: Option<Rule>,
@@ -171,6 +176,7 @@ fn alone(
     }
 }
 
+#[inline(always)]
 fn of_bits(rule: Rule, left: Group, right: Group) -> Option<Rule>
     ensures { result ≡ (if has_bits left then alone (Some rule) (Some rule) (Some rule) left right else None) }
 {
