@@ -8,7 +8,8 @@ pub struct FileTree {
     pub end: Place,
 }
 
-/// A declaration (C++, [dcl.dcl]). The place is that of its name, or of its first token where it has none.
+/// A declaration (C++, [dcl.dcl]). The place is that of its name, or of its first token where it has none; for a body outside
+/// its class it is that of the class's name.
 #[cycle(item)]
 #[derive(Debug, Drop)]
 pub struct Item {

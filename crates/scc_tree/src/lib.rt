@@ -6,6 +6,8 @@ mod item;
 mod local;
 mod simple;
 mod stmt;
+#[cfg(test)]
+mod tests;
 mod ty;
 
 pub use expr::{Expr, ExprNode, Link, Part, PartNode, UnaryOp};
