@@ -1,0 +1,12 @@
+pub mod Answer
+pub mod Core
+pub mod Steps
+pub mod Repeat
+pub mod Closed
+pub mod Leaves
+pub mod Loop
+pub mod Complete
+pub mod Whole
+pub mod Unique
+pub mod Behind
+pub mod OneFault
