@@ -10,6 +10,7 @@ use Rattle.scc_tokens.specs.declared.piece.Form.{Form}
 use Rattle.scc_tokens.specs.declared.piece.Piece.TheVariants.{Taken, Fault}
 use Rattle.scc_tokens.specs.declared.token.Token.{Token}
 use Rattle.scc_tokens.specs.Answers.{SpellsOk}
+use Rattle.scc_tokens.specs.Numbering.{with_piece, names_on, names_behind, names_after}
 use Rattle.scc_tokens.specs.Piece.{piece_at}
 use Rattle.scc_tokens.specs.Scan.{Scanned, put_front, piece_tokens, end_tokens, go_on, scan_behind, scan}
 use Rattle.scc_tokens.specs.Spelled.{Spelled, spelled_all}
@@ -53,11 +54,38 @@ unfolding scan_behind
 behind_end file line at [] h = refl
 behind_end file line at (b ∷ bs) h = absurd (omega arith)
 
+pub names_drop : (names : List (List ℕ)) (n : ℕ) (line : Line) (s : List ℕ) → n ≤ length s → names_behind names n line s ≡ names_behind names 0 line (drop n s)
+unfolding names_behind
+names_drop names zero line s h = refl
+names_drop names (suc n) line [] h = absurd (omega arith)
+names_drop names (suc n) line (b ∷ bs) h = names_drop names n line bs (omega arith)
+
+pub names_piece : (names : List (List ℕ)) (line : Line) (s : List ℕ) (f : Option Form) (n : ℕ) (next : Line) → 0 < length s → 0 < n → n ≤ length s → piece_at line s ≡ Taken f n next
+    → names_behind names 0 line s ≡ names_behind (with_piece names f (take n s)) 0 next (drop n s)
+unfolding names_behind
+names_piece names line [] f n next h p q e = absurd (omega arith)
+names_piece names line (b ∷ bs) f zero next h p q e = absurd (omega arith)
+names_piece names line (b ∷ bs) f (suc n) next h p q e =
+    let less : suc n - 1 ≡ n = omega arith in
+    ap (λ x. names_on names (b ∷ bs) x (λ ns k l. names_behind ns k l bs)) e
+    ∙ ap (λ k. names_behind (with_piece names f (take (suc n) (b ∷ bs))) k next bs) less ∙ names_drop (with_piece names f (take (suc n) (b ∷ bs))) n next bs (omega arith)
+
+pub names_fault : (names : List (List ℕ)) (line : Line) (s : List ℕ) (c : Code) (k : ℕ) → 0 < length s → piece_at line s ≡ Fault c k → names_behind names 0 line s ≡ names
+unfolding names_behind
+names_fault names line [] c k h e = absurd (omega arith)
+names_fault names line (b ∷ bs) c k h e = ap (λ x. names_on names (b ∷ bs) x (λ ns n l. names_behind ns n l bs)) e
+
+pub names_end : (names : List (List ℕ)) (line : Line) (s : List ℕ) → length s ≡ 0 → names_behind names 0 line s ≡ names
+unfolding names_behind
+names_end names line [] h = refl
+names_end names line (b ∷ bs) h = absurd (omega arith)
+
 -- the tokens so far, and what is left of the text
 pub record Scans (file : ℕ) (text : List ℕ) (old names : List (List ℕ)) (tokens : List Token) (line : Line) (rest : List ℕ) : Type 0 where
   pub done : List Spelled
   pub shown : spelled_all names tokens ≡ Some done
   pub left : put_front done (scan_behind 0 file line (length text - length rest) rest) ≡ scan file text
+  pub named : names_behind names 0 line rest ≡ names_after old text
   pub keeps : Keeps old names
   pub room : length names + length rest ≤ length old + length text
   pub within : length rest ≤ length text
@@ -67,6 +95,7 @@ scans_begin file text old tokens e = record {
   done = [];
   shown = ap (spelled_all old) e;
   left = first (scan_behind 0 file Start (length text - length text) text) ∙ ap (λ k. scan_behind 0 file Start k text) (omega arith);
+  named = refl;
   keeps = keeps_same old;
   room = omega arith;
   within = omega arith;
@@ -80,9 +109,9 @@ pub scans_more : {file : ℕ} {text : List ℕ} {old names : List (List ℕ)} {t
     → Scans file text old names tokens line rest → (f : Option Form) (n : ℕ) (next : Line) → 0 < length rest → 0 < n → n ≤ length rest → piece_at line rest ≡ Taken f n next
     → (names' : List (List ℕ)) (tokens' : List Token)
     → ((done : List Spelled) → spelled_all names tokens ≡ Some done → spelled_all names' tokens' ≡ Some (done ++ piece_tokens f (take n rest) (record { file = file; at = length text - length rest })))
-    → Keeps names names' → length names' ≤ length names + 1
+    → names' ≡ with_piece names f (take n rest) → Keeps names names' → length names' ≤ length names + 1
     → Scans file text old names' tokens' next (take (length rest - n) (drop n rest))
-scans_more {file} {text} {old} {names} {tokens} {line} {rest} s f n next h p q e names' tokens' shown keeps few =
+scans_more {file} {text} {old} {names} {tokens} {line} {rest} s f n next h p q e names' tokens' shown named keeps few =
     let place : Place = record { file = file; at = length text - length rest } in
     let piece = piece_tokens f (take n rest) place in
     let short = length-drop n rest in
@@ -93,6 +122,7 @@ scans_more {file} {text} {old} {names} {tokens} {line} {rest} s f n next h p q e
       left = put_front-append s.done piece (scan_behind 0 file next (length text - length (drop n rest)) (drop n rest))
           ∙ ap (put_front s.done) (ap (λ k. put_front piece (scan_behind 0 file next k (drop n rest))) (omega arith) ∙ sym (behind_piece file line (length text - length rest) rest f n next h p q e))
           ∙ s.left;
+      named = ap (λ ns. names_behind ns 0 next (drop n rest)) named ∙ sym (names_piece names line rest f n next h p q e) ∙ s.named;
       keeps = keeps_more old names names' s.keeps keeps;
       room = omega (arith, s.room);
       within = omega arith;

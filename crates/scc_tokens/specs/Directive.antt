@@ -1,6 +1,7 @@
 -- The words that begin directives (C++, "Preprocessing directives").
-use Rattle.std.specs.Prelude.{◌≡◌, ℕ, List, [], ◌∷◌, Bool, true, false, not, ◌==◌, if◌then◌else◌, Option, Some, None, codes, slice_get}
-use Rattle.std.specs.List.{prefix_len}
+use Rattle.std.specs.Prelude.{◌≡◌, ℕ, List, [], ◌∷◌, Bool, true, false, not, ◌==◌, if◌then◌else◌, Option, Some, None, codes, slice_get, bytes_eq}
+use Rattle.std.specs.List.{prefix_len, position_or_len}
+use Rattle.scc_base.specs.Names.{with_name}
 use Rattle.scc_base.specs.declared.code.Code.{Code}
 use Rattle.scc_base.specs.declared.code.Code.TheVariants as code
 use Rattle.scc_base.specs.declared.names.Name.{Name}
@@ -25,6 +26,35 @@ pub record IsWords (names : List (List ℕ)) (w : Words) : Type 0 where
   pub systemc : slice_get names w.systemc.0 ≡ Some (codes "systemc")
   pub h : slice_get names w.h.0 ≡ Some (codes "h")
   pub synthesis : slice_get names w.synthesis.0 ≡ Some (codes "SCC_SYNTHESIS")
+
+-- the texts of the words
+abbrev pub word_texts : List (List ℕ)
+word_texts =
+    codes "include" ∷ codes "define" ∷ codes "undef" ∷ codes "ifdef" ∷ codes "ifndef" ∷ codes "endif" ∷ codes "pragma" ∷ codes "once" ∷ codes "systemc"
+    ∷ codes "h" ∷ codes "SCC_SYNTHESIS" ∷ []
+
+abbrev pub with_names : List (List ℕ) → List (List ℕ) → List (List ℕ)
+with_names names [] = names
+with_names names (t ∷ ts) = with_names (with_name names t) ts
+
+abbrev pub name_in : List (List ℕ) → List ℕ → Name
+name_in names text = record { 0 = position_or_len (bytes_eq text) names }
+
+-- the words by their places in a table that has them
+abbrev pub words_in : List (List ℕ) → Words
+words_in names = record {
+  include = name_in names (codes "include");
+  define = name_in names (codes "define");
+  undef = name_in names (codes "undef");
+  ifdef = name_in names (codes "ifdef");
+  ifndef = name_in names (codes "ifndef");
+  endif = name_in names (codes "endif");
+  pragma = name_in names (codes "pragma");
+  once = name_in names (codes "once");
+  systemc = name_in names (codes "systemc");
+  h = name_in names (codes "h");
+  synthesis = name_in names (codes "SCC_SYNTHESIS");
+}
 
 -- three names have these texts
 pub record HasThree (names : List (List ℕ)) (x : Name × Name × Name) (a b c : List ℕ) : Type 0 where

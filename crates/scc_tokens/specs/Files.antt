@@ -1,7 +1,7 @@
 -- Files that are read: each is asked for once, numbered in the order in which it is first asked for, and cut into tokens whole.
 use Rattle.std.specs.Prelude.{◌≡◌, ℕ, ◌+◌, ◌-◌, ◌*◌, ◌^◌, ◌<◌, ◌≤◌, List, [], ◌∷◌, ◌++◌, map, max, take, length, nat_lt, if◌then◌else◌, Option, Some, None, option_map, position, Result, Ok, Err, bytes_eq}
 use Rattle.std.specs.List.{position_or_len}
-use Rattle.scc_base.specs.Names.{Keeps, AllDiffer}
+use Rattle.scc_base.specs.Names.{Keeps}
 use Rattle.scc_base.specs.Outside.{Shelf, Told, Rose}
 use Rattle.scc_base.specs.declared.code.Code.{Code}
 use Rattle.scc_base.specs.declared.code.Code.TheVariants as code
@@ -17,25 +17,15 @@ use Rattle.scc_tokens.specs.declared.token.Token.{Token}
 use Rattle.scc_tokens.specs.declared.token.TokenKind.{TokenKind}
 use Rattle.scc_tokens.specs.declared.token.TokenKind.TheVariants as kind
 use Rattle.scc_tokens.specs.File.{first_unclosed}
+use Rattle.scc_tokens.specs.Numbering.{names_after}
 use Rattle.scc_tokens.specs.Scan.{Scanned, scan}
 use Rattle.scc_tokens.specs.Spelled.{Spelled}
 use Rattle.scc_tokens.specs.Steps.{Stopped, Refuses, Absent}
-
--- what the names of files hold, and the numbers of the names of tokens
-pub record World : Type 0 where
-  pub shelf : Shelf
-  pub names : List (List ℕ)
 
 -- the files that were read are what their names hold
 abbrev pub HoldsAll : Shelf → List Source → Type 0
 HoldsAll shelf [] = Unit {0}
 HoldsAll shelf (s ∷ ss) = (shelf s.name ≡ Some s.bytes) × HoldsAll shelf ss
-
--- what was read and named so far is so in this world
-pub record Fits (world : World) (sources : List Source) (names : List (List ℕ)) : Type 0 where
-  pub holds : HoldsAll world.shelf sources
-  pub keeps : Keeps names world.names
-  pub differ : AllDiffer world.names
 
 abbrev pub number_in : List (List ℕ) → List ℕ → ℕ
 number_in names text = position_or_len (bytes_eq text) names
@@ -69,10 +59,15 @@ file_of names w number bytes =
     if nat_lt 1048576 (length bytes) then Err (code.FileTooLong, record { file = number; at = 0 })
     else file_by names w (scan number bytes)
 
--- the files that were asked for, and the tokens of those that have no fault
+-- the names after a file, of which none is read where it is too long
+abbrev pub names_read : List (List ℕ) → List ℕ → List (List ℕ)
+names_read names bytes = if nat_lt 1048576 (length bytes) then names else names_after names bytes
+
+-- the files that were asked for, the tokens of those that have no fault, and the names so far
 pub record Asked : Type 0 where
   pub known : List File
   pub sources : List Source
+  pub names : List (List ℕ)
 
 abbrev pub number_of : List Source → List ℕ → Option ℕ
 number_of sources name = position (λ s. bytes_eq s.name name) sources
@@ -81,20 +76,21 @@ abbrev pub lexed_by : Asked → ℕ → Result File (Code × Place) → Asked ×
 lexed_by a n (Err e) = (a, Err (Refuses e.0 e.1))
 lexed_by a n (Ok f) = (record a { known = a.known ++ f ∷ [] }, Ok n)
 
-abbrev pub read_by : World → Words → List ℕ → Asked → Option (List ℕ) → Asked × Result ℕ Stopped
-read_by world w name a None = (a, Err (Absent name))
-read_by world w name a (Some bytes) =
-    lexed_by (record a { sources = a.sources ++ record { name = name; bytes = bytes } ∷ [] }) (length a.sources) (file_of world.names w (length a.sources) bytes)
+abbrev pub read_by : Shelf → Words → List ℕ → Asked → Option (List ℕ) → Asked × Result ℕ Stopped
+read_by shelf w name a None = (a, Err (Absent name))
+read_by shelf w name a (Some bytes) =
+    lexed_by (record { known = a.known; sources = a.sources ++ record { name = name; bytes = bytes } ∷ []; names = names_read a.names bytes }) (length a.sources)
+    (file_of (names_read a.names bytes) w (length a.sources) bytes)
 
-abbrev pub asked_by : World → Words → List ℕ → Asked → Option ℕ → Asked × Result ℕ Stopped
-asked_by world w name a (Some n) = (a, Ok n)
-asked_by world w name a None = read_by world w name a (world.shelf name)
+abbrev pub asked_by : Shelf → Words → List ℕ → Asked → Option ℕ → Asked × Result ℕ Stopped
+asked_by shelf w name a (Some n) = (a, Ok n)
+asked_by shelf w name a None = read_by shelf w name a (shelf name)
 
 -- the number of the file of a name, which is read where it wasn't asked for before
-abbrev pub asked : World → Words → List ℕ → Asked → Asked × Result ℕ Stopped
-asked world w name a = asked_by world w name a (number_of a.sources name)
+abbrev pub asked : Shelf → Words → List ℕ → Asked → Asked × Result ℕ Stopped
+asked shelf w name a = asked_by shelf w name a (number_of a.sources name)
 
--- The answer says what the step does in this world. A name that was missing, or whose reading failed, counts as not held.
+-- The answer says what the step does where the names of files hold this. A name that was missing, or whose reading failed, counts as not held.
 abbrev pub AnswersIn : {S A B : Type 0} → (A → B) → Shelf → S → Result A Halt → S × Result B Stopped → Type 0
 AnswersIn view shelf s (Ok x) step = step ≡ (s, Ok (view x))
 AnswersIn view shelf s (Err (halt.Refused c p)) step = step ≡ (s, Err (Refuses c p))
@@ -110,13 +106,21 @@ first_part shelf name = option_map (take 1048577) (shelf name)
 abbrev pub ToldAll : Option Shelf → List Source → Type 0
 ToldAll held sources = Told held (λ shelf. HoldsAll (first_part shelf) sources)
 
--- the file is cut so, where the names are numbered so in the end
-abbrev pub FileIs : List (List ℕ) → List (List ℕ) → Result File Halt → Result File (Code × Place) → Type 0
-FileIs names n (Ok f) r = Keeps names n → AllDiffer n → r ≡ Ok f
-FileIs names n (Err (halt.Refused c p)) r = r ≡ Err (c, p)
-FileIs names n (Err (halt.Missing m)) r = ⊥
-FileIs names n (Err (halt.Failed m)) r = ⊥
-FileIs names n (Err halt.NoMemory) r = Unit {0}
+-- the file is cut so
+abbrev pub FileIs : Result File Halt → Result File (Code × Place) → Type 0
+FileIs (Ok f) r = r ≡ Ok f
+FileIs (Err (halt.Refused c p)) r = r ≡ Err (c, p)
+FileIs (Err (halt.Missing m)) r = ⊥
+FileIs (Err (halt.Failed m)) r = ⊥
+FileIs (Err halt.NoMemory) r = Unit {0}
+
+-- these are the names, unless memory ran out
+abbrev pub NamesStay : {A : Type 0} → Result A Halt → List (List ℕ) → List (List ℕ) → Type 0
+NamesStay (Ok x) names n = names ≡ n
+NamesStay (Err (halt.Refused c p)) names n = names ≡ n
+NamesStay (Err (halt.Missing m)) names n = ⊥
+NamesStay (Err (halt.Failed m)) names n = ⊥
+NamesStay (Err halt.NoMemory) names n = Unit {0}
 
 -- the file of this name is missing or failed, or memory ran out
 abbrev pub IsReadFault : List ℕ → Halt → Type 0
@@ -153,11 +157,31 @@ pub record HasRoom (names : List (List ℕ)) (sources : List Source) (known : Li
 abbrev pub Gains : List File → List File → Type 0
 Gains old new = (more : List File) × (new ≡ old ++ more)
 
+-- what the files that were read hold
+abbrev pub shelf_of : List Source → Shelf
+shelf_of [] name = None
+shelf_of (s ∷ ss) name = if bytes_eq s.name name then Some s.bytes else shelf_of ss name
+
+-- what reading more files keeps: each is new, and short
+pub record Reads (old new : List Source) : Type 0 where
+  pub earlier : (shelf : Shelf) → HoldsAll shelf new → HoldsAll shelf old
+  pub differ : HoldsAll (shelf_of old) old → HoldsAll (shelf_of new) new
+  pub short : AllShort old → AllShort new
+
+-- a file that is missing, or whose reading failed, is none of those that were read
+abbrev pub Unread : List Source → Option Halt → Type 0
+Unread sources None = Unit {0}
+Unread sources (Some (halt.Refused c p)) = Unit {0}
+Unread sources (Some (halt.Missing n)) = number_of sources n ≡ None
+Unread sources (Some (halt.Failed n)) = number_of sources n ≡ None
+Unread sources (Some halt.NoMemory) = Unit {0}
+
 -- what calls that read files do to the files, the names and what was read, whatever they answer
 pub record Moves (o o' : Option Shelf) (m m' f f' : ℕ) (names names' : List (List ℕ)) (src src' : List Source) (known known' : List File) (e : Option Halt) : Type 0 where
   pub keeps : Keeps names names'
-  pub earlier : (world : World) → Fits world src' names' → Fits world src names
+  pub reads : Reads src src'
   pub grows : Gains known known'
   pub more : length src' ≤ max 64 (length src)
   pub told : ToldAll o src → ToldAll o' src'
   pub says : FilesSay o o' m m' f f' e
+  pub unread : Unread src' e

@@ -15,8 +15,8 @@ use Rattle.scc_tokens.specs.declared.joining.JoinFault.TheVariants as fault
 use Rattle.scc_tokens.specs.declared.out.Out.{Out}
 use Rattle.scc_tokens.specs.declared.token.Token.{Token}
 use Rattle.scc_tokens.specs.declared.walk.Joining.{Joining}
-use Rattle.scc_tokens.specs.Files.{World, Asked, HoldsAll, asked}
-use Rattle.scc_tokens.specs.Directive.{IsWords}
+use Rattle.scc_tokens.specs.Files.{Asked, HoldsAll, asked, first_part}
+use Rattle.scc_tokens.specs.Directive.{words_in, with_names, word_texts}
 use Rattle.scc_tokens.specs.Out.{flushed}
 use Rattle.scc_tokens.specs.Steps.{Stopped, Refuses, Absent}
 use Rattle.scc_tokens.specs.Walk.{Full, file_walked, then_by}
@@ -46,18 +46,18 @@ abbrev pub number_after : ℕ → Full × Result (Unit {0}) Stopped → Full × 
 number_after n (f, Ok u) = (f, Ok n)
 number_after n (f, Err h) = (f, Err h)
 
-abbrev pub asked_walked : World → Words → Full → Asked × Result ℕ Stopped → Full × Result ℕ Stopped
-asked_walked world w f (a, Err h) = (record f { asked = a }, Err h)
-asked_walked world w f (a, Ok n) = number_after n (file_walked world w 16 n (record f { asked = a }))
+abbrev pub asked_walked : Shelf → Words → Full → Asked × Result ℕ Stopped → Full × Result ℕ Stopped
+asked_walked shelf w f (a, Err h) = (record f { asked = a }, Err h)
+asked_walked shelf w f (a, Ok n) = number_after n (file_walked shelf w 16 n (record f { asked = a }))
 
 -- one root: its file is asked for and walked; its number
-abbrev pub root_joined : World → Words → List ℕ → Full → Full × Result ℕ Stopped
-root_joined world w name f = asked_walked world w f (asked world w name f.asked)
+abbrev pub root_joined : Shelf → Words → List ℕ → Full → Full × Result ℕ Stopped
+root_joined shelf w name f = asked_walked shelf w f (asked shelf w name f.asked)
 
 -- the roots in order; the number of the last
-abbrev pub roots_joined : World → Words → List (List ℕ) → ℕ → Full → Full × Result ℕ Stopped
-roots_joined world w [] last f = (f, Ok last)
-roots_joined world w (r ∷ rs) last f = then_by (root_joined world w r f).1 (root_joined world w r f).0 (λ n g. roots_joined world w rs n g)
+abbrev pub roots_joined : Shelf → Words → List (List ℕ) → ℕ → Full → Full × Result ℕ Stopped
+roots_joined shelf w [] last f = (f, Ok last)
+roots_joined shelf w (r ∷ rs) last f = then_by (root_joined shelf w r f).1 (root_joined shelf w r f).0 (λ n g. roots_joined shelf w rs n g)
 
 abbrev pub length_at : Option Source → ℕ
 length_at None = 0
@@ -79,35 +79,42 @@ abbrev pub stop_settled : Out → Stopped → Stopped
 stop_settled o (Refuses c p) = stopped_at o o.scope c p
 stop_settled o (Absent n) = Absent n
 
-abbrev pub roots_finished : Full × Result ℕ Stopped → List Source × Result Joined Stopped
-roots_finished (f, Ok last) = (f.asked.sources, finished f.asked.sources last f.state.out)
-roots_finished (f, Err h) = (f.asked.sources, Err (stop_settled f.state.out h))
+-- the names after it, the files that were read, and what is joined, or where and why joining stops
+abbrev pub Ended : Type 0
+Ended = List (List ℕ) × List Source × Result Joined Stopped
 
--- the joined tokens of roots, or where and why joining stops, with the files that were read
-unfoldable pub join_of : World → Words → List (List ℕ) → List Source × Result Joined Stopped
-join_of world w roots = roots_finished (roots_joined world w roots 0 (record { state = starts w; asked = record { known = []; sources = [] } }))
+abbrev pub roots_finished : Full × Result ℕ Stopped → Ended
+roots_finished (f, Ok last) = (f.asked.names, f.asked.sources, finished f.asked.sources last f.state.out)
+roots_finished (f, Err h) = (f.asked.names, f.asked.sources, Err (stop_settled f.state.out h))
+
+abbrev pub joined_from : Shelf → List (List ℕ) → List (List ℕ) → Ended
+joined_from shelf names roots =
+    roots_finished (roots_joined shelf (words_in names) roots 0 (record { state = starts (words_in names); asked = record { known = []; sources = []; names = names } }))
+
+-- What the roots join to where the names of files hold this and the table has these names, to which those of the directives and of the
+-- files are added in the order in which they are met.
+unfoldable pub join_of : Shelf → List (List ℕ) → List (List ℕ) → Ended
+join_of shelf names roots = joined_from shelf (with_names names word_texts) roots
 
 -- What an answer says: the joined tokens; a refusal, of which only the place is given; a file that isn't held, where that is so. A file
 -- whose reading failed stops joining as one that isn't held does. Want of memory says nothing.
-abbrev pub JoinSays : Shelf → List Source → Result Joined JoinFault → List Source × Result Joined Stopped → Type 0
-JoinSays shelf sources (Ok j) r = r ≡ (sources, Ok j)
-JoinSays shelf sources (Err (fault.Stop (stop.Refused x))) r = (r ≡ (sources, Err (Refuses x.code x.place))) × (x.other ≡ None)
-JoinSays shelf sources (Err (fault.Stop stop.NoMemory)) r = Unit {0}
-JoinSays shelf sources (Err (fault.Missing n)) r = shelf n ≡ None → r ≡ (sources, Err (Absent n))
-JoinSays shelf sources (Err (fault.Failed n)) r = shelf n ≡ None → r ≡ (sources, Err (Absent n))
+abbrev pub JoinSays : Shelf → List (List ℕ) → List Source → Result Joined JoinFault → Ended → Type 0
+JoinSays shelf names sources (Ok j) r = r ≡ (names, sources, Ok j)
+JoinSays shelf names sources (Err (fault.Stop (stop.Refused x))) r = (r ≡ (names, sources, Err (Refuses x.code x.place))) × (x.other ≡ None)
+JoinSays shelf names sources (Err (fault.Stop stop.NoMemory)) r = Unit {0}
+JoinSays shelf names sources (Err (fault.Missing n)) r = shelf n ≡ None → r ≡ (names, sources, Err (Absent n))
+JoinSays shelf names sources (Err (fault.Failed n)) r = shelf n ≡ None → r ≡ (names, sources, Err (Absent n))
 
--- what is joined is so wherever the names of files hold what was read
-pub record Joins (roots : List (List ℕ)) (names : List (List ℕ)) (sources : List Source) (result : Result Joined JoinFault) : Type 0 where
-  pub words : Words
-  pub is_words : IsWords names words
-  pub says : (shelf : Shelf) → HoldsAll shelf sources → JoinSays shelf sources result (join_of (record { shelf = shelf; names = names }) words roots)
+-- what a shelf that holds the files that were read may lack
+abbrev pub LacksFault : Shelf → Result Joined JoinFault → Type 0
+LacksFault shelf (Ok j) = Unit {0}
+LacksFault shelf (Err (fault.Stop s)) = Unit {0}
+LacksFault shelf (Err (fault.Missing n)) = shelf n ≡ None
+LacksFault shelf (Err (fault.Failed n)) = shelf n ≡ None
 
-abbrev pub JoinAnswer : List (List ℕ) → List (List ℕ) → List Source → Result Joined JoinFault → Type 0
-JoinAnswer roots names sources (Err (fault.Stop stop.NoMemory)) = Unit {0}
-JoinAnswer roots names sources (Err (fault.Stop (stop.Refused x))) = Joins roots names sources (Err (fault.Stop (stop.Refused x)))
-JoinAnswer roots names sources (Err (fault.Missing n)) = Joins roots names sources (Err (fault.Missing n))
-JoinAnswer roots names sources (Err (fault.Failed n)) = Joins roots names sources (Err (fault.Failed n))
-JoinAnswer roots names sources (Ok j) = Joins roots names sources (Ok j)
+-- Some files hold what was read, and none of them is one that is missing or whose reading failed.
+abbrev pub Somewhere : List Source → Result Joined JoinFault → Type 0
+Somewhere sources result = (shelf : Shelf) × HoldsAll (first_part shelf) sources × LacksFault shelf result
 
 abbrev pub fault_halt : Result Joined JoinFault → Option Halt
 fault_halt (Ok j) = None

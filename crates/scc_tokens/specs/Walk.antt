@@ -2,6 +2,7 @@
 use Rattle.std.specs.Prelude.{ℕ, zero, suc, ◌+◌, ◌-◌, List, [], ◌∷◌, take, length, Bool, true, false, not, ◌&&◌, ◌||◌, ◌==◌, nat_lt, if◌then◌else◌, is_none, Option, Some, None, Result, Ok, Err, slice_get}
 use Rattle.std.specs.List.{list_any}
 use Rattle.std.specs.Str.{is_utf8}
+use Rattle.scc_base.specs.Outside.{Shelf}
 use Rattle.scc_base.specs.declared.code.Code.TheVariants as code
 use Rattle.scc_base.specs.declared.refusal.Place.{Place}
 use Rattle.scc_tokens.specs.declared.directive.Words.{Words}
@@ -18,7 +19,7 @@ use Rattle.scc_tokens.specs.Active.{token_taken}
 use Rattle.scc_tokens.specs.Define.{defined, undefined, with_once}
 use Rattle.scc_tokens.specs.Directive.{directive_of, is_line_end, line_len}
 use Rattle.scc_tokens.specs.File.{is_hash}
-use Rattle.scc_tokens.specs.Files.{World, Asked, asked, number_of}
+use Rattle.scc_tokens.specs.Files.{Asked, asked, number_of}
 use Rattle.scc_tokens.specs.Included.{operand_of, quoted, is_own, included_name}
 use Rattle.scc_tokens.specs.Lines.{side_opened, side_turned, side_closed}
 use Rattle.scc_tokens.specs.Sides.{is_live, opened}
@@ -107,20 +108,20 @@ abbrev pub number_asked : Full → Asked × Result ℕ Stopped → Full × Resul
 number_asked f (a, Ok n) = (record f { asked = a }, Ok (Some n))
 number_asked f (a, Err h) = (record f { asked = a }, Err h)
 
-abbrev pub text_asked : World → Words → Place → Full → Option (List ℕ) → Full × Result (Option ℕ) Stopped
-text_asked world w hash f None = (f, Err (Refuses code.Directive hash))
-text_asked world w hash f (Some name) = number_asked f (asked world w name f.asked)
+abbrev pub text_asked : Shelf → Words → Place → Full → Option (List ℕ) → Full × Result (Option ℕ) Stopped
+text_asked shelf w hash f None = (f, Err (Refuses code.Directive hash))
+text_asked shelf w hash f (Some name) = number_asked f (asked shelf w name f.asked)
 
-abbrev pub admitted_asked : World → Words → Place → List ℕ → Full → Result Bool Stopped → Full × Result (Option ℕ) Stopped
-admitted_asked world w hash name f (Err h) = (f, Err h)
-admitted_asked world w hash name f (Ok false) = (f, Ok None)
-admitted_asked world w hash name f (Ok true) = text_asked world w hash f (text_if name)
+abbrev pub admitted_asked : Shelf → Words → Place → List ℕ → Full → Result Bool Stopped → Full × Result (Option ℕ) Stopped
+admitted_asked shelf w hash name f (Err h) = (f, Err h)
+admitted_asked shelf w hash name f (Ok false) = (f, Ok None)
+admitted_asked shelf w hash name f (Ok true) = text_asked shelf w hash f (text_if name)
 
 -- the number of the file that an inclusion names, none where it isn't included again
-abbrev pub file_included : World → Words → ℕ → Place → List ℕ → Full → Full × Result (Option ℕ) Stopped
-file_included world w below hash name f =
+abbrev pub file_included : Shelf → Words → ℕ → Place → List ℕ → Full → Full × Result (Option ℕ) Stopped
+file_included shelf w below hash name f =
     let a = admitted f.asked.sources below hash name f.state in
-    admitted_asked world w hash name (record f { state = a.0 }) a.1
+    admitted_asked shelf w hash name (record f { state = a.0 }) a.1
 
 -- what a step gives, and a step with it where the first doesn't stop
 abbrev pub then_by : {S A B : Type 0} → Result A Stopped → S → (A → S → S × Result B Stopped) → S × Result B Stopped
@@ -190,20 +191,20 @@ abbrev pub stepped_with : ℕ → List Side → Full × Result (Option ℕ) Stop
 stepped_with n sides (f, Ok o) = (record { state = f.state; asked = f.asked; sides = sides }, Ok (n, o))
 stepped_with n sides (f, Err h) = (record { state = f.state; asked = f.asked; sides = sides }, Err h)
 
-abbrev pub name_stepped : World → Words → ℕ → Place → Asked → Lines → Result Taken Stopped → Inside × Result Stepped Stopped
-name_stepped world w below hash asked l (Err h) = (record { state = l.state; asked = asked; sides = l.sides }, Err h)
-name_stepped world w below hash asked l (Ok (n, None)) = (record { state = l.state; asked = asked; sides = l.sides }, Ok (n, None))
-name_stepped world w below hash asked l (Ok (n, Some name)) = stepped_with n l.sides (file_included world w below hash name (record { state = l.state; asked = asked }))
+abbrev pub name_stepped : Shelf → Words → ℕ → Place → Asked → Lines → Result Taken Stopped → Inside × Result Stepped Stopped
+name_stepped shelf w below hash asked l (Err h) = (record { state = l.state; asked = asked; sides = l.sides }, Err h)
+name_stepped shelf w below hash asked l (Ok (n, None)) = (record { state = l.state; asked = asked; sides = l.sides }, Ok (n, None))
+name_stepped shelf w below hash asked l (Ok (n, Some name)) = stepped_with n l.sides (file_included shelf w below hash name (record { state = l.state; asked = asked }))
 
-abbrev pub found_stepped : World → Words → ℕ → ℕ → List Token → Inside → Option File → Option Source → Inside × Result Stepped Stopped
-found_stepped world w number below ts x (Some file) (Some source) =
+abbrev pub found_stepped : Shelf → Words → ℕ → ℕ → List Token → Inside → Option File → Option Source → Inside × Result Stepped Stopped
+found_stepped shelf w number below ts x (Some file) (Some source) =
     let t = front_taken w source number file.unclosed ts (record { state = x.state; sides = x.sides }) in
-    name_stepped world w below (first_place ts) x.asked t.0 t.1
-found_stepped world w number below ts x f s = (x, Ok (1, None))
+    name_stepped shelf w below (first_place ts) x.asked t.0 t.1
+found_stepped shelf w number below ts x f s = (x, Ok (1, None))
 
 -- one step over the tokens of a file
-abbrev pub step_taken : World → Words → ℕ → ℕ → List Token → Inside → Inside × Result Stepped Stopped
-step_taken world w number below ts x = found_stepped world w number below ts x (slice_get x.asked.known number) (slice_get x.asked.sources number)
+abbrev pub step_taken : Shelf → Words → ℕ → ℕ → List Token → Inside → Inside × Result Stepped Stopped
+step_taken shelf w number below ts x = found_stepped shelf w number below ts x (slice_get x.asked.known number) (slice_get x.asked.sources number)
 
 abbrev pub in_file : List Side → Full → Inside
 in_file sides f = record { state = f.state; asked = f.asked; sides = sides }
@@ -221,14 +222,14 @@ walk_on inner (x, Err h) rest = (at_file x, Err h)
 walk_on inner (x, Ok (n, o)) rest = entered inner x o (λ y. rest (n - 1) y)
 
 -- The walk over tokens of a file behind so many of them, where `inner` walks the files that it includes.
-unfoldable pub walk_behind : (ℕ → Full → Full × Result (Unit {0}) Stopped) → World → Words → ℕ → ℕ → ℕ → List Token → Inside → Full × Result (Unit {0}) Stopped
-walk_behind inner world w number below n [] x = (at_file x, Ok tt)
-walk_behind inner world w number below (suc n) (t ∷ ts) x = walk_behind inner world w number below n ts x
-walk_behind inner world w number below zero (t ∷ ts) x = walk_on inner (step_taken world w number below (t ∷ ts) x) (λ n y. walk_behind inner world w number below n ts y)
+unfoldable pub walk_behind : (ℕ → Full → Full × Result (Unit {0}) Stopped) → Shelf → Words → ℕ → ℕ → ℕ → List Token → Inside → Full × Result (Unit {0}) Stopped
+walk_behind inner shelf w number below n [] x = (at_file x, Ok tt)
+walk_behind inner shelf w number below (suc n) (t ∷ ts) x = walk_behind inner shelf w number below n ts x
+walk_behind inner shelf w number below zero (t ∷ ts) x = walk_on inner (step_taken shelf w number below (t ∷ ts) x) (λ n y. walk_behind inner shelf w number below n ts y)
 
 -- The walk over a file: its tokens and directives are taken in order, and an included file's in the place of its directive. So many
 -- levels of files there may be, this one counted.
-unfoldable pub file_walked : World → Words → ℕ → ℕ → Full → Full × Result (Unit {0}) Stopped
-file_walked world w zero number f = (f, Ok tt)
-file_walked world w (suc below) number f =
-    walk_behind (file_walked world w below) world w number below 0 (tokens_of f.asked.known number) (in_file [] f)
+unfoldable pub file_walked : Shelf → Words → ℕ → ℕ → Full → Full × Result (Unit {0}) Stopped
+file_walked shelf w zero number f = (f, Ok tt)
+file_walked shelf w (suc below) number f =
+    walk_behind (file_walked shelf w below) shelf w number below 0 (tokens_of f.asked.known number) (in_file [] f)

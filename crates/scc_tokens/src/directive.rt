@@ -1,7 +1,7 @@
 //! The words that begin directives (C++, "Preprocessing directives").
-ghost use Rattle.std.specs.Prelude.{◌≡◌, ◌<◌, ◌≤◌, ◌+◌, ◌^◌, length, IfOk, Some, slice_get};
-ghost use Rattle.scc_base.specs.Names.{Keeps};
-ghost use Rattle.scc_tokens.specs.Directive.{directive_of, named_directive, refusal_of, first_refusal, is_named, IsWords, HasThree, is_line_end, line_len};
+ghost use Rattle.std.specs.Prelude.{◌≡◌, ◌<◌, ◌≤◌, ◌+◌, ◌^◌, length, IfOk, OnOk, Some, slice_get};
+ghost use Rattle.scc_base.specs.Names.{Keeps, with_name};
+ghost use Rattle.scc_tokens.specs.Directive.{directive_of, named_directive, refusal_of, first_refusal, is_named, IsWords, HasThree, with_names, word_texts, is_line_end, line_len};
 
 use crate::token::{Token, TokenKind};
 use scc_base::{Code, Name, Names, NoMemory, Place};
@@ -42,6 +42,7 @@ pub enum Directive {
 fn three(names: &mut Names, a: &str, b: &str, c: &str) -> Result<(Name, Name, Name), NoMemory>
     requires { length names.old + 3 < 2 ^ 32 }
     ensures texts { IfOk result (λ x. HasThree names.new x a.now b.now c.now) }
+    ensures names { OnOk result (names.new ≡ with_name (with_name (with_name names.old a.now) b.now) c.now) }
     ensures keeps { Keeps names.old names.new }
     ensures few { length names.new ≤ length names.old + 3 }
 {
@@ -54,6 +55,7 @@ fn three(names: &mut Names, a: &str, b: &str, c: &str) -> Result<(Name, Name, Na
 fn name(names: &mut Names, text: &str) -> Result<Name, NoMemory>
     requires { length names.old < 2 ^ 32 }
     ensures text { IfOk result (λ n. slice_get names.new n.0 ≡ Some text.now) }
+    ensures names { OnOk result (names.new ≡ with_name names.old text.now) }
     ensures keeps { Keeps names.old names.new }
     ensures few { length names.new ≤ length names.old + 1 }
 {
@@ -64,13 +66,15 @@ impl Words {
     pub fn new(names: &mut Names) -> Result<Words, NoMemory>
         requires { length names.old + 12 < 2 ^ 32 }
         ensures words { IfOk result (IsWords names.new) }
+        ensures names { OnOk result (names.new ≡ with_names names.old word_texts) }
         ensures keeps { Keeps names.old names.new }
         ensures few { length names.new ≤ length names.old + 12 }
     {
         let (include, define, undef) = three(names, "include", "define", "undef")?;
         let (ifdef, ifndef, endif) = three(names, "ifdef", "ifndef", "endif")?;
         let (pragma, once, systemc) = three(names, "pragma", "once", "systemc")?;
-        let (h, synthesis, _) = three(names, "h", "SCC_SYNTHESIS", "h")?;
+        let h = name(names, "h")?;
+        let synthesis = name(names, "SCC_SYNTHESIS")?;
         Ok(Words {
             include,
             define,

@@ -1,12 +1,12 @@
 //! Joins the tokens of files.
 ghost use Rattle.std.specs.Prelude.{◌≡◌, ◌+◌, ◌<◌, ◌≤◌, ◌^◌, [], ◌∷◌, length, map, string_bytes, IfOk, max, IfErr, OnOk, None, Some};
 ghost use Rattle.scc_base.specs.Names.{Keeps};
-ghost use Rattle.scc_base.specs.Outside.{Rose, Told};
+ghost use Rattle.scc_base.specs.Outside.{Shelf, Rose, Told};
 ghost use Rattle.scc_base.specs.declared.refusal.Stop.TheVariants as stop;
 ghost use Rattle.scc_tokens.specs.declared.joining.JoinFault.TheVariants as join_fault;
 ghost use Rattle.scc_tokens.specs.Directive.{IsWords};
-ghost use Rattle.scc_tokens.specs.Files.{World, Fits, AnswersIn, Moves, ToldAll, FilesSay, err_of, HasRoom, AllShort};
-ghost use Rattle.scc_tokens.specs.Join.{starts, settled, fault_err, root_joined, roots_joined, finished, roots_finished, JoinSays, JoinAnswer, fault_halt};
+ghost use Rattle.scc_tokens.specs.Files.{AnswersIn, HoldsAll, Moves, ToldAll, Reads, Unread, FilesSay, err_of, HasRoom, AllShort};
+ghost use Rattle.scc_tokens.specs.Join.{starts, settled, fault_err, root_joined, roots_joined, finished, roots_finished, JoinSays, Somewhere, join_of, fault_halt};
 ghost use Rattle.scc_tokens.specs.Steps.{Finds};
 
 use crate::directive::Words;
@@ -100,14 +100,15 @@ fn join_root<F: Files>(
 ) -> Result<u32, Halt>
     requires room { HasRoom names.old sources.old known.old }
     requires few { length sources.old < 129 }
-    ensures value { (world : World) → Fits world sources.new names.new → AnswersIn (λ n. n) world.shelf (record { state = state.new; asked = record { known = known.new; sources = sources.new } }) result (root_joined world words.now name.now (record { state = state.old; asked = record { known = known.old; sources = sources.old } })) }
+    ensures value { (shelf : Shelf) → HoldsAll shelf sources.new → AnswersIn (λ n. n) shelf (record { state = state.new; asked = record { known = known.new; sources = sources.new; names = names.new } }) result (root_joined shelf words.now name.now (record { state = state.old; asked = record { known = known.old; sources = sources.old; names = names.old } })) }
     ensures keeps { Keeps names.old names.new }
-    ensures earlier { (world : World) → Fits world sources.new names.new → Fits world sources.old names.old }
+    ensures reads { Reads sources.old sources.new }
     ensures room { OnOk result (HasRoom names.new sources.new known.new) }
     ensures number { IfOk result (λ n. n < length known.new) }
     ensures more { length sources.new ≤ max 64 (length sources.old + 1) }
     ensures told { ToldAll (F.held files.old) sources.old → ToldAll (F.held files.new) sources.new }
     ensures says { FilesSay (F.held files.old) (F.held files.new) (F.misses files.old) (F.misses files.new) (F.faults files.old) (F.faults files.new) (err_of result) }
+    ensures unread { Unread sources.new (err_of result) }
 {
     let number = ask(alloc, files, names, sources, known, words, name)?;
     walk_file(
@@ -149,12 +150,14 @@ fn join_roots<F: Files>(
     requires room { HasRoom names.old sources.old known.old }
     requires few { length sources.old + length roots.now ≤ 64 }
     requires some { 0 < length roots.now }
-    ensures value { (world : World) → Fits world sources.new names.new → AnswersIn (λ n. n) world.shelf (record { state = state.new; asked = record { known = known.new; sources = sources.new } }) result (roots_joined world words.now (map string_bytes roots.now) 0 (record { state = state.old; asked = record { known = known.old; sources = sources.old } })) }
+    ensures value { (shelf : Shelf) → HoldsAll shelf sources.new → AnswersIn (λ n. n) shelf (record { state = state.new; asked = record { known = known.new; sources = sources.new; names = names.new } }) result (roots_joined shelf words.now (map string_bytes roots.now) 0 (record { state = state.old; asked = record { known = known.old; sources = sources.old; names = names.old } })) }
     ensures keeps { Keeps names.old names.new }
+    ensures reads { Reads sources.old sources.new }
     ensures room { OnOk result (HasRoom names.new sources.new known.new) }
     ensures number { IfOk result (λ n. n < length known.new) }
     ensures told { ToldAll (F.held files.old) sources.old → ToldAll (F.held files.new) sources.new }
     ensures says { FilesSay (F.held files.old) (F.held files.new) (F.misses files.old) (F.misses files.new) (F.faults files.old) (F.faults files.new) (err_of result) }
+    ensures unread { Unread sources.new (err_of result) }
 {
     let mut last = 0;
     for root in roots {
@@ -180,7 +183,7 @@ fn end_of(
 ) -> Result<Joined, JoinFault>
     requires last { IfOk answer (λ n. n < length sources.now) }
     requires short { OnOk answer (AllShort sources.now) }
-    ensures value { (shelf : _) (known : _) (r : _) → AnswersIn (λ n. n) shelf (record { state = state; asked = record { known = known; sources = sources.now } }) answer r → JoinSays shelf sources.now result (roots_finished r) }
+    ensures value { (shelf : _) (known : _) (names : _) (r : _) → AnswersIn (λ n. n) shelf (record { state = state; asked = record { known = known; sources = sources.now; names = names } }) answer r → JoinSays shelf names sources.now result (roots_finished r) }
     ensures says { (e : _) → fault_halt result ≡ Some e → err_of answer ≡ Some e }
 {
     match answer {
@@ -218,7 +221,9 @@ pub fn join<F: Files>(
     requires few { length roots.now ≤ 64 }
     requires empty { sources.old ≡ [] }
     requires room { length names.old < 2 ^ 31 }
-    ensures joined { JoinAnswer (map string_bytes roots.now) names.new sources.new result }
+    ensures joined { (shelf : Shelf) → HoldsAll shelf sources.new → JoinSays shelf names.new sources.new result (join_of shelf names.old (map string_bytes roots.now)) }
+    ensures somewhere { Somewhere sources.new result }
+    ensures short { AllShort sources.new }
     ensures told { ToldAll (F.held files.old) sources.new }
     ensures keeps { Keeps names.old names.new }
     ensures kept { F.held files.new ≡ F.held files.old }
@@ -229,11 +234,12 @@ pub fn join<F: Files>(
     ensures failed { (n : _) → result ≡ Err (join_fault.Failed n) → Rose (F.faults files.old) (F.faults files.new) }
 {
     let words = Words::new(names)?;
+    // asked for what it shows alone: no text has two numbers
+    let _ = names.has(words.h);
     let mut state = start(alloc, &words)?;
     let mut known = List::new(alloc);
     let answer = join_roots(
         alloc, roots, files, names, sources, &mut known, &words, &mut state,
     );
-    prove!(names.has(words.h));
     end_of(state, sources, answer)
 }

@@ -6,6 +6,7 @@ ghost use Rattle.scc_base.specs.declared.refusal.Stop.TheVariants.{Refused};
 ghost use Rattle.scc_tokens.specs.Answers.{IsScanned, SpellsOne, IsStopFor};
 ghost use Rattle.scc_tokens.specs.Lexes.{IsTokensOf, IsFaultOf};
 ghost use Rattle.scc_tokens.specs.Named.{IsNamed};
+ghost use Rattle.scc_tokens.specs.Numbering.{with_piece, names_after, NamesAre};
 ghost use Rattle.scc_tokens.specs.Scan.{piece_tokens, end_tokens, scan};
 ghost use Rattle.scc_tokens.specs.Spelled.{spelled_all};
 
@@ -35,6 +36,7 @@ fn put_piece(
     requires named { ForSome form (λ f. IsNamed f text.now) }
     requires room { length names.old < 2 ^ 32 }
     requires bytes { length text.now < 2 ^ 32 }
+    ensures names { OnOk result (names.new ≡ with_piece names.old form text.now) }
     ensures put { OnOk result ((done : _) → spelled_all names.old tokens.old ≡ Some done → spelled_all names.new tokens.new ≡ Some (done ++ piece_tokens form text.now place)) }
     ensures keeps { Keeps names.old names.new }
     ensures few { length names.new ≤ length names.old + 1 }
@@ -74,6 +76,7 @@ pub fn lex(alloc: Global, file: u32, text: &[u8], names: &mut Names) -> Result<T
     requires room { length names.old + length text.now < 2 ^ 32 }
     ensures tokens { IfOk result (λ ts. SpellsOne names.new ts (IsTokensOf file text.now)) }
     ensures fault { IfErr result (IsStopFor (IsFaultOf file text.now)) }
+    ensures names { NamesAre result names.new (names_after names.old text.now) }
     ensures keeps { Keeps names.old names.new }
     ensures few { length names.new ≤ length names.old + length text.now }
 {
@@ -85,6 +88,7 @@ pub fn scanned(alloc: Global, file: u32, text: &[u8], names: &mut Names) -> Resu
     requires bytes { length text.now < 2 ^ 32 }
     requires room { length names.old + length text.now < 2 ^ 32 }
     ensures value { IsScanned names.new result (scan file text.now) }
+    ensures names { NamesAre result names.new (names_after names.old text.now) }
     ensures keeps { Keeps names.old names.new }
     ensures few { length names.new ≤ length names.old + length text.now }
 {

@@ -21,6 +21,7 @@ mod out;
 mod piece;
 mod read;
 mod sides;
+mod slots;
 #[cfg(test)]
 mod tests;
 mod token;
@@ -29,6 +30,6 @@ mod words;
 
 pub use file::Source;
 pub use joining::{JoinFault, Joined, join};
-pub use laws::text_has_one_reading;
+pub use laws::{macros_are_expanded, parts_are_joined, text_has_one_reading};
 pub use lexer::lex;
 pub use token::{Token, TokenKind, Tokens};

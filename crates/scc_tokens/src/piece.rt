@@ -58,6 +58,7 @@ pub const IDENT_BYTES: usize = 255;
 
 // The form of a run of letters, digits and underscores.
 fn word_form(text: &[u8]) -> Form
+    requires { 0 < length text.now }
     ensures { result ≡ word_form text.now }
 {
     match word_index(text) {

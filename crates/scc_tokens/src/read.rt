@@ -1,8 +1,8 @@
 //! Reads files, each once.
 ghost use Rattle.std.specs.Prelude.{◌≡◌, ◌∷◌, ◌++◌, ◌+◌, ◌≤◌, ◌<◌, ◌^◌, [], length, IfOk, IfErr, IfSome, OnOk, None, Some};
 ghost use Rattle.scc_base.specs.Names.{Keeps};
-ghost use Rattle.scc_base.specs.Outside.{Told};
-ghost use Rattle.scc_tokens.specs.Files.{World, Fits, asked, number_of, file_of, AnswersIn, ToldAll, first_part, FileIs, IsReadFault, FilesSay, err_of, HasRoom, Gains};
+ghost use Rattle.scc_base.specs.Outside.{Shelf, Told};
+ghost use Rattle.scc_tokens.specs.Files.{asked, number_of, file_of, AnswersIn, HoldsAll, ToldAll, first_part, FileIs, NamesStay, names_read, Reads, Unread, IsReadFault, FilesSay, err_of, HasRoom, Gains};
 
 use crate::directive::Words;
 use crate::file::{File, Source, first_unclosed};
@@ -65,7 +65,8 @@ fn cut(
     bytes: &[u8],
 ) -> Result<File, Halt>
     requires room { length names.old + length bytes.now < 2 ^ 32 }
-    ensures value { (n : _) → FileIs names.new n result (file_of n words.now number bytes.now) }
+    ensures value { FileIs result (file_of names.new words.now number bytes.now) }
+    ensures names { NamesStay result names.new (names_read names.old bytes.now) }
     ensures keeps { Keeps names.old names.new }
     ensures few { length names.new ≤ length names.old + length bytes.now }
 {
@@ -88,6 +89,8 @@ fn cut(
         }
         Err(Stop::NoMemory) => return Err(Halt::NoMemory),
     };
+    // asked for what it shows alone: no text has two numbers
+    let _ = names.has(words.h);
     let unclosed = first_unclosed(words, tokens.as_slice());
     Ok(File { tokens, unclosed })
 }
@@ -104,9 +107,9 @@ pub fn ask<F: Files>(
 ) -> Result<u32, Halt>
     requires room { HasRoom names.old sources.old known.old }
     requires few { length sources.old < 130 }
-    ensures value { (world : World) → Fits world sources.new names.new → AnswersIn (λ n. n) world.shelf (record { known = known.new; sources = sources.new }) result (asked world words.now name.now (record { known = known.old; sources = sources.old })) }
+    ensures value { (shelf : Shelf) → HoldsAll shelf sources.new → AnswersIn (λ n. n) shelf (record { known = known.new; sources = sources.new; names = names.new }) result (asked shelf words.now name.now (record { known = known.old; sources = sources.old; names = names.old })) }
     ensures keeps { Keeps names.old names.new }
-    ensures earlier { (world : World) → Fits world sources.new names.new → Fits world sources.old names.old }
+    ensures reads { Reads sources.old sources.new }
     ensures room { OnOk result (HasRoom names.new sources.new known.new) }
     ensures grows { Gains known.old known.new }
     ensures number { IfOk result (λ n. n < length known.new) }
@@ -114,6 +117,7 @@ pub fn ask<F: Files>(
     ensures stays { (n : _) → number_of sources.old name.now ≡ Some n → sources.new ≡ sources.old }
     ensures told { ToldAll (F.held files.old) sources.old → ToldAll (F.held files.new) sources.new }
     ensures says { FilesSay (F.held files.old) (F.held files.new) (F.misses files.old) (F.misses files.new) (F.faults files.old) (F.faults files.new) (err_of result) }
+    ensures unread { Unread sources.new (err_of result) }
 {
     if let Some(n) = number_of(sources.as_slice(), name.as_bytes()) {
         return Ok(n as u32);

@@ -193,6 +193,7 @@ fn many_files(rt: HostRuntime) -> Result<(), Fail> {
     Ok(())
 }
 
+// A head, a piece with how often it stands behind it, and how many tokens it joins to, or its refusal; counted by hand from the limits.
 const LIMITS: [(&str, &str, u32, &str); 4] = [
     ("", "a", 255, "1"),
     ("", "a", 256, "E103@0.0"),
@@ -209,6 +210,8 @@ const LONG_LIMITS: [(&str, &str, u32, &str); 6] = [
     ("#define A\n", "A ", 262_145, "E110@0.524298"),
 ];
 
+// The text of a file, and its joined tokens with file and byte of each and where the file ends, or its refusal with its place. Each was worked
+// out by hand from the rules of tokens, directives and macros.
 const ROWS: [(&str, &str); 170] = [
     ("", "end@0.0"),
     ("a", "a@0.0 end@0.1"),
@@ -415,6 +418,7 @@ const ROWS: [(&str, &str); 170] = [
     ("a\n  #define b c\nb", "a@0.0 c@0.16 end@0.17"),
 ];
 
+// The text of the root, the names and texts of two files beside it, and what it joins to; worked out by hand likewise.
 const FILES: [(&str, &str, &str, &str, &str, &str); 9] = [
     (
         "#include \"b.h\"\nx",

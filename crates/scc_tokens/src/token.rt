@@ -1,8 +1,9 @@
 //! Tokens.
-ghost use Rattle.std.specs.Prelude.{◌≡◌, ◌+◌, ◌<◌, ◌≤◌, ◌^◌, length, IfOk, Some, slice_get};
+ghost use Rattle.std.specs.Prelude.{◌≡◌, ◌+◌, ◌<◌, ◌≤◌, ◌^◌, length, IfOk, OnOk, Some, slice_get};
 ghost use Rattle.std.specs.Str.{IsAscii};
-ghost use Rattle.scc_base.specs.Names.{Keeps, AllDiffer};
+ghost use Rattle.scc_base.specs.Names.{Keeps, AllDiffer, with_name};
 ghost use Rattle.scc_tokens.specs.Named.{IsNamed};
+ghost use Rattle.scc_tokens.specs.Numbering.{with_form};
 ghost use Rattle.scc_tokens.specs.Spelled.{spelled, spelled_as};
 
 use crate::piece::Form;
@@ -53,6 +54,7 @@ fn name_of(text: &[u8], names: &mut Names) -> Result<Name, NoMemory>
     requires ascii { IsAscii text.now }
     requires room { length names.old < 2 ^ 32 }
     ensures text { IfOk result (λ n. slice_get names.new n.0 ≡ Some text.now) }
+    ensures names { OnOk result (names.new ≡ with_name names.old text.now) }
     ensures keeps { Keeps names.old names.new }
     ensures few { length names.new ≤ length names.old + 1 }
 {
@@ -68,6 +70,7 @@ pub fn token_of(form: Form, text: &[u8], place: Place, names: &mut Names) -> Res
     requires room { length names.old < 2 ^ 32 }
     requires bytes { length text.now < 2 ^ 32 }
     ensures spelled { IfOk result (λ t. spelled names.new t ≡ Some (spelled_as form text.now place)) }
+    ensures names { OnOk result (names.new ≡ with_form names.old form text.now) }
     ensures keeps { Keeps names.old names.new }
     ensures few { length names.new ≤ length names.old + 1 }
 {

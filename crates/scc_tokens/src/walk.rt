@@ -2,8 +2,9 @@
 ghost use Rattle.std.specs.Prelude.{◌≡◌, ◌==◌, ◌+◌, ◌<◌, ◌≤◌, ◌^◌, length, OnOk, IfOk, IfSome, IsTrue, None, max, drop, option_map};
 ghost use Rattle.std.specs.List.{list_any};
 ghost use Rattle.scc_base.specs.Names.{Keeps};
+ghost use Rattle.scc_base.specs.Outside.{Shelf};
 ghost use Rattle.scc_tokens.specs.Steps.{Does, Finds, Makes};
-ghost use Rattle.scc_tokens.specs.Files.{World, Fits, number_of, AnswersIn, ToldAll, FilesSay, err_of, HasRoom, Gains, Moves};
+ghost use Rattle.scc_tokens.specs.Files.{number_of, AnswersIn, HoldsAll, ToldAll, Reads, Unread, FilesSay, err_of, HasRoom, Gains, Moves};
 ghost use Rattle.scc_tokens.specs.Walk.{split_line, idle_line, active_line, wanted_name, is_once, admitted, front_taken, line_taken, text_if, file_included, tokens_of, step_taken, file_walked};
 
 use crate::active::take_token;
@@ -268,15 +269,16 @@ fn include<F: Files>(
 ) -> Result<Option<u32>, Halt>
     requires room { HasRoom names.old sources.old known.old }
     requires few { length sources.old < 130 }
-    ensures value { (world : World) → Fits world sources.new names.new → AnswersIn (λ n. n) world.shelf (record { state = state.new; asked = record { known = known.new; sources = sources.new } }) result (file_included world words.now below hash name.now (record { state = state.old; asked = record { known = known.old; sources = sources.old } })) }
+    ensures value { (shelf : Shelf) → HoldsAll shelf sources.new → AnswersIn (λ n. n) shelf (record { state = state.new; asked = record { known = known.new; sources = sources.new; names = names.new } }) result (file_included shelf words.now below hash name.now (record { state = state.old; asked = record { known = known.old; sources = sources.old; names = names.old } })) }
     ensures keeps { Keeps names.old names.new }
-    ensures earlier { (world : World) → Fits world sources.new names.new → Fits world sources.old names.old }
+    ensures reads { Reads sources.old sources.new }
     ensures room { OnOk result (HasRoom names.new sources.new known.new) }
     ensures grows { Gains known.old known.new }
     ensures number { IfOk result (λ o. IfSome o (λ n. (n < length known.new) × (0 < below))) }
     ensures more { length sources.new ≤ max 64 (length sources.old) }
     ensures told { ToldAll (F.held files.old) sources.old → ToldAll (F.held files.new) sources.new }
     ensures says { FilesSay (F.held files.old) (F.held files.new) (F.misses files.old) (F.misses files.new) (F.faults files.old) (F.faults files.new) (err_of result) }
+    ensures unread { Unread sources.new (err_of result) }
 {
     if !admit(state, sources.as_slice(), below, hash, name)? {
         return Ok(None);
@@ -309,17 +311,18 @@ fn step<F: Files>(
     requires few { length sources.old < 130 }
     requires number { number < length known.old }
     requires token { i < length (tokens_of known.old number) }
-    ensures value { (world : World) → Fits world sources.new names.new → AnswersIn (λ x. x) world.shelf (record { state = state.new; asked = record { known = known.new; sources = sources.new }; sides = sides.new }) result (step_taken world words.now number below (drop i (tokens_of known.old number)) (record { state = state.old; asked = record { known = known.old; sources = sources.old }; sides = sides.old })) }
+    ensures value { (shelf : Shelf) → HoldsAll shelf sources.new → AnswersIn (λ x. x) shelf (record { state = state.new; asked = record { known = known.new; sources = sources.new; names = names.new }; sides = sides.new }) result (step_taken shelf words.now number below (drop i (tokens_of known.old number)) (record { state = state.old; asked = record { known = known.old; sources = sources.old; names = names.old }; sides = sides.old })) }
     ensures some { IfOk result (λ x. 0 < x.0) }
     ensures within { IfOk result (λ x. i + x.0 ≤ length (tokens_of known.old number)) }
     ensures keeps { Keeps names.old names.new }
-    ensures earlier { (world : World) → Fits world sources.new names.new → Fits world sources.old names.old }
+    ensures reads { Reads sources.old sources.new }
     ensures room { OnOk result (HasRoom names.new sources.new known.new) }
     ensures grows { Gains known.old known.new }
     ensures inside { IfOk result (λ x. IfSome x.1 (λ n. (n < length known.new) × (0 < below))) }
     ensures more { length sources.new ≤ max 64 (length sources.old) }
     ensures told { ToldAll (F.held files.old) sources.old → ToldAll (F.held files.new) sources.new }
     ensures says { FilesSay (F.held files.old) (F.held files.new) (F.misses files.old) (F.misses files.new) (F.faults files.old) (F.faults files.new) (err_of result) }
+    ensures unread { Unread sources.new (err_of result) }
 {
     let (Some(file), Some(source)) = (known.get(number as usize), sources.get(number as usize))
     else {
@@ -370,7 +373,7 @@ pub fn walk_file<F: Files>(
     requires room { HasRoom names.old sources.old known.old }
     requires few { length sources.old < 130 }
     requires number { number < length known.old }
-    ensures value { (world : World) → Fits world sources.new names.new → AnswersIn (λ x. x) world.shelf (record { state = state.new; asked = record { known = known.new; sources = sources.new } }) result (file_walked world words.now (below + 1) number (record { state = state.old; asked = record { known = known.old; sources = sources.old } })) }
+    ensures value { (shelf : Shelf) → HoldsAll shelf sources.new → AnswersIn (λ x. x) shelf (record { state = state.new; asked = record { known = known.new; sources = sources.new; names = names.new } }) result (file_walked shelf words.now (below + 1) number (record { state = state.old; asked = record { known = known.old; sources = sources.old; names = names.old } })) }
     ensures room { OnOk result (HasRoom names.new sources.new known.new) }
     ensures moves { Moves (F.held files.old) (F.held files.new) (F.misses files.old) (F.misses files.new) (F.faults files.old) (F.faults files.new) names.old names.new sources.old sources.new known.old known.new (err_of result) }
 {

@@ -1,21 +1,15 @@
 //! The words that the subset keeps for itself, the words of C++ and SystemC that it leaves out, and the marks.
-ghost use Rattle.std.specs.Prelude.{◌≡◌, ◌<◌, ◌≤◌, length, bytes_eq, position, IfSome, option_map};
-ghost use Rattle.std.specs.List.{list_any};
+ghost use Rattle.std.specs.Prelude.{◌≡◌, ◌<◌, ◌≤◌, length, IfSome};
 ghost use Rattle.scc_tokens.specs.Words.{word_index, is_outside, mark_index, mark_of, mark_at};
 
-// Where a text stands in a list.
-fn index_in(words: &[&str], text: &[u8]) -> Option<usize>
-    ensures value { result ≡ position (λ w. bytes_eq w.now text.now) words.now }
-    ensures within { IfSome result (λ i. i < length words.now) }
-{
-    words.iter().position(|w| w.as_bytes() == text)
-}
+use crate::slots::{MARK_SLOTS, OUTSIDE_SLOTS, WORD_SLOTS, index_in};
 
 /// The number of a word that the subset keeps for itself, counted from 0 in their list.
 pub fn word_index(text: &[u8]) -> Option<u8>
+    requires { 0 < length text.now }
     ensures value { result ≡ word_index text.now }
 {
-    match index_in(&WORDS, text) {
+    match index_in(&WORDS, &WORD_SLOTS, text) {
         Some(i) => Some(i as u8),
         None => None,
     }
@@ -23,16 +17,18 @@ pub fn word_index(text: &[u8]) -> Option<u8>
 
 /// Whether a word is one of C++ or SystemC that the subset leaves out.
 pub fn is_outside(text: &[u8]) -> bool
+    requires { 0 < length text.now }
     ensures value { result ≡ is_outside text.now }
 {
-    index_in(&OUTSIDE_WORDS, text).is_some()
+    index_in(&OUTSIDE_WORDS, &OUTSIDE_SLOTS, text).is_some()
 }
 
 /// The number of a mark, counted from 0 in their list.
 fn mark_index(text: &[u8]) -> Option<u8>
+    requires { 0 < length text.now }
     ensures value { result ≡ mark_index text.now }
 {
-    match index_in(&MARKS, text) {
+    match index_in(&MARKS, &MARK_SLOTS, text) {
         Some(i) => Some(i as u8),
         None => None,
     }

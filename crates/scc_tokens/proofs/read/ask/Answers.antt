@@ -1,12 +1,14 @@
 use Rattle.std.proofs.Common.{◌≡◌, ap, sym, ◌∙◌, subst, None, Ok, Err, length, ◌≤◌}
 use Rattle.std.proofs.lemmas.Result.{err_from_is_err_and}
+use Rattle.scc_tokens.specs.declared.file.File.{File}
 use Rattle.scc_tokens.specs.declared.file.Source.{Source}
-use Rattle.scc_tokens.specs.Files.{number_of, file_of, FileIs}
-use Rattle.scc_tokens.proofs.Asking.{earlier, asked_bad, asked_good, room_more, cut_says, same_last}
+use Rattle.scc_tokens.specs.Files.{number_of, names_read, file_of, FileIs, NamesStay}
+use Rattle.scc_tokens.proofs.Asking.{asked_bad, asked_good, room_more, cut_says, cut_unread, same_last}
+use Rattle.scc_tokens.proofs.Shelving.{reads_one}
 use Rattle.scc_tokens.proofs.read.ask.Goals as goal
 
 pub returns-in_err-file-clause-value : goal.returns-in_err-file-clause-value
-returns-in_err-file-clause-value g c = λ world fits.
+returns-in_err-file-clause-value g c = λ shelf holds.
     let fetched = c.in_ok-fetch.ensures.ok in
     let s : Source = record { name = c.args.name.now; bytes = fetched.0 } in
     let count : c.len-number.result ≡ length c.args.sources.now = c.len-number.ensures.length in
@@ -15,23 +17,35 @@ returns-in_err-file-clause-value g c = λ world fits.
     sym c.in_default.is ∙ c.number_of.ensures.value ∙ ap (λ l. number_of l c.as_bytes.result.now) c.as_slice.ensures.elements ∙ ap (number_of c.args.sources.now) c.as_bytes.ensures.value in
     let bytes_are : c.bytes.result.now ≡ fetched.0 = c.bytes.ensures.bytes ∙ ap (λ (x : Source). x.bytes) source in
     let p = err_from_is_err_and c.from_residual-in_err-file.result c.from_residual-in_err-file.ensures.1 in
-    rw (p.1, p.2) (asked_bad world c.args.words.now c.args.name.now fetched.0 c.args.known.now c.args.sources.now c.fetch.new.sources c.cut.new.names c.in_err-file.field-0.0 none fetched.1 fits
-    (subst (λ b. FileIs c.cut.new.names world.names (Err c.in_err-file.field-0.0) (file_of world.names c.args.words.now (length c.args.sources.now) b)) bytes_are
-    (subst (λ k. FileIs c.cut.new.names world.names (Err c.in_err-file.field-0.0) (file_of world.names c.args.words.now k c.bytes.result.now)) count (c.in_err-file.ensures.value world.names))))
+    rw (p.1, p.2) (asked_bad shelf c.args.words.now c.args.name.now fetched.0 c.args.known.now c.args.sources.now c.fetch.new.sources c.args.names.now c.cut.new.names c.in_err-file.field-0.0 none fetched.1
+    (subst (λ b. NamesStay {A = File} (Err c.in_err-file.field-0.0) c.cut.new.names (names_read c.args.names.now b)) bytes_are c.in_err-file.ensures.names) holds
+    (subst (λ b. FileIs (Err c.in_err-file.field-0.0) (file_of c.cut.new.names c.args.words.now (length c.args.sources.now) b)) bytes_are
+    (subst (λ k. FileIs (Err c.in_err-file.field-0.0) (file_of c.cut.new.names c.args.words.now k c.bytes.result.now)) count c.in_err-file.ensures.value)))
 
-pub returns-in_err-file-clause-earlier : goal.returns-in_err-file-clause-earlier
-returns-in_err-file-clause-earlier g c = λ world fits. earlier world c.args.sources.now c.fetch.new.sources _ c.args.names.now c.cut.new.names c.in_ok-fetch.ensures.ok.1 c.in_err-file.ensures.keeps fits
+pub returns-in_err-file-clause-reads : goal.returns-in_err-file-clause-reads
+returns-in_err-file-clause-reads g c =
+    let none : None ≡ number_of c.args.sources.now c.args.name.now =
+    sym c.in_default.is ∙ c.number_of.ensures.value ∙ ap (λ l. number_of l c.as_bytes.result.now) c.as_slice.ensures.elements ∙ ap (number_of c.args.sources.now) c.as_bytes.ensures.value in
+    reads_one c.args.sources.now c.fetch.new.sources _ c.in_ok-fetch.ensures.ok.1 (sym none) c.in_ok-fetch.ensures.ok.2
 
 pub returns-in_err-file-clause-says : goal.returns-in_err-file-clause-says
 returns-in_err-file-clause-says g c =
     let p = err_from_is_err_and c.from_residual-in_err-file.result c.from_residual-in_err-file.ensures.1 in
-    rw (p.1, p.2) (cut_says _ _ _ _ _ _ c.in_err-file.field-0.0 c.cut.new.names c.cut.new.names _ c.in_ok-fetch.ensures.says (c.in_err-file.ensures.value c.cut.new.names))
+    rw (p.1, p.2) (cut_says _ _ _ _ _ _ c.in_err-file.field-0.0 _ c.in_ok-fetch.ensures.says c.in_err-file.ensures.value)
 
-pub returns-in_err-push-clause-earlier : goal.returns-in_err-push-clause-earlier
-returns-in_err-push-clause-earlier g c = λ world fits. earlier world c.args.sources.now c.fetch.new.sources _ c.args.names.now c.cut.new.names c.in_ok-fetch.ensures.ok.1 c.in_ok-file.ensures.keeps fits
+pub returns-in_err-file-clause-unread : goal.returns-in_err-file-clause-unread
+returns-in_err-file-clause-unread g c =
+    let p = err_from_is_err_and c.from_residual-in_err-file.result c.from_residual-in_err-file.ensures.1 in
+    rw (p.1, p.2) (cut_unread c.fetch.new.sources c.in_err-file.field-0.0 _ c.in_err-file.ensures.value)
+
+pub returns-in_err-push-clause-reads : goal.returns-in_err-push-clause-reads
+returns-in_err-push-clause-reads g c =
+    let none : None ≡ number_of c.args.sources.now c.args.name.now =
+    sym c.in_default.is ∙ c.number_of.ensures.value ∙ ap (λ l. number_of l c.as_bytes.result.now) c.as_slice.ensures.elements ∙ ap (number_of c.args.sources.now) c.as_bytes.ensures.value in
+    reads_one c.args.sources.now c.fetch.new.sources _ c.in_ok-fetch.ensures.ok.1 (sym none) c.in_ok-fetch.ensures.ok.2
 
 pub returns-clause-value : goal.returns-clause-value
-returns-clause-value g c = λ world fits.
+returns-clause-value g c = λ shelf holds.
     let fetched = c.in_ok-fetch.ensures.ok in
     let s : Source = record { name = c.args.name.now; bytes = fetched.0 } in
     let count : c.len-number.result ≡ length c.args.sources.now = c.len-number.ensures.length in
@@ -39,14 +53,18 @@ returns-clause-value g c = λ world fits.
     let none : None ≡ number_of c.args.sources.now c.args.name.now =
     sym c.in_default.is ∙ c.number_of.ensures.value ∙ ap (λ l. number_of l c.as_bytes.result.now) c.as_slice.ensures.elements ∙ ap (number_of c.args.sources.now) c.as_bytes.ensures.value in
     let bytes_are : c.bytes.result.now ≡ fetched.0 = c.bytes.ensures.bytes ∙ ap (λ (x : Source). x.bytes) source in
-    asked_good world c.args.words.now c.args.name.now fetched.0 c.args.known.now c.push.new.self c.args.sources.now c.fetch.new.sources c.cut.new.names c.in_ok-file.file none fetched.1 fits
-    (subst (λ b. FileIs c.cut.new.names world.names (Ok c.in_ok-file.file) (file_of world.names c.args.words.now (length c.args.sources.now) b)) bytes_are
-    (subst (λ k. FileIs c.cut.new.names world.names (Ok c.in_ok-file.file) (file_of world.names c.args.words.now k c.bytes.result.now)) count (c.in_ok-file.ensures.value world.names)))
+    asked_good shelf c.args.words.now c.args.name.now fetched.0 c.args.known.now c.push.new.self c.args.sources.now c.fetch.new.sources c.args.names.now c.cut.new.names c.in_ok-file.file none fetched.1
+    (subst (λ b. c.cut.new.names ≡ names_read c.args.names.now b) bytes_are c.in_ok-file.ensures.names) holds
+    (subst (λ b. file_of c.cut.new.names c.args.words.now (length c.args.sources.now) b ≡ Ok c.in_ok-file.file) bytes_are
+    (subst (λ k. file_of c.cut.new.names c.args.words.now k c.bytes.result.now ≡ Ok c.in_ok-file.file) count c.in_ok-file.ensures.value))
     c.in_ok-push.ensures.ok
-    ∙ ap (λ k. (record { known = c.push.new.self; sources = c.fetch.new.sources }, Ok k)) (sym count)
+    ∙ ap (λ k. (record { known = c.push.new.self; sources = c.fetch.new.sources; names = c.cut.new.names }, Ok k)) (sym count)
 
-pub returns-clause-earlier : goal.returns-clause-earlier
-returns-clause-earlier g c = λ world fits. earlier world c.args.sources.now c.fetch.new.sources _ c.args.names.now c.cut.new.names c.in_ok-fetch.ensures.ok.1 c.in_ok-file.ensures.keeps fits
+pub returns-clause-reads : goal.returns-clause-reads
+returns-clause-reads g c =
+    let none : None ≡ number_of c.args.sources.now c.args.name.now =
+    sym c.in_default.is ∙ c.number_of.ensures.value ∙ ap (λ l. number_of l c.as_bytes.result.now) c.as_slice.ensures.elements ∙ ap (number_of c.args.sources.now) c.as_bytes.ensures.value in
+    reads_one c.args.sources.now c.fetch.new.sources _ c.in_ok-fetch.ensures.ok.1 (sym none) c.in_ok-fetch.ensures.ok.2
 
 pub returns-clause-room : goal.returns-clause-room
 returns-clause-room g c =
