@@ -1,0 +1,11 @@
+use Rattle.std.proofs.Common.{◌≡◌, length}
+use Rattle.scc_grammar.specs.Bodies as b
+use Rattle.scc_grammar.specs.ParseFile as p
+use Rattle.scc_reading.specs.Reading.{repeat_on}
+use Rattle.scc_grammar.proofs.file.parts.Given as goal
+
+abbrev pub invariant-loop-alloc : goal.invariant-loop-alloc
+invariant-loop-alloc l = repeat_on p.is_part (p.part l.levels) (b.body_of l.names l.found.items l.found.fields) l.rest ≡ repeat_on p.is_part (p.part l.levels) (b.body_of l.fn.names l.fn.found.items l.fn.found.fields) l.fn.ts
+
+abbrev pub decreases-loop-alloc : goal.decreases-loop-alloc
+decreases-loop-alloc l = length l.rest

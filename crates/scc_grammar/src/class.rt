@@ -1,0 +1,232 @@
+//! Classes and modules (C++, [class]; IEEE 1666-2011, section 5.2).
+ghost use Rattle.std.specs.Prelude.{◌≡◌, [], Some, None, OnOk, true, false};
+ghost use Rattle.scc_grammar.specs.Answer.{Gives};
+ghost use Rattle.scc_grammar.specs.Bodies as b;
+ghost use Rattle.scc_grammar.specs.Items as grammar;
+ghost use Rattle.scc_grammar.specs.Names.{no_names};
+ghost use Rattle.scc_grammar.specs.ParseFile as p;
+ghost use Rattle.scc_grammar.specs.ParseItems as i;
+ghost use Rattle.scc_grammar.specs.Text.{mark, next_is};
+ghost use Rattle.scc_reading.specs.Reading.{is_next};
+
+use crate::first::name_at;
+use crate::halt::{Halt, place_of};
+use crate::marks::*;
+use crate::member::{Members, all_members};
+use crate::next::*;
+use crate::reader::{Read, Reader};
+use crate::table::Table;
+use crate::terminal::{Seen, Terminal};
+use crate::types::ty_args;
+use crate::words::*;
+use scc_base::{List, Name, NoMemory, Place};
+use scc_tree::{ClassTree, Item, ItemNode, Param, TyArg};
+use std::alloc::Global;
+
+// Whether a class is a module, by what stands behind a `:`.
+#[tactic(auto, unfolding(crate::specs::ParseItems::bases))]
+fn bases(ts: &[Seen]) -> Read<'_, bool>
+    ensures { Gives (λ x. (x.0, x.1.now)) result (i.bases ts.now) }
+{
+    if begins_colon(ts) {
+        let (_, rest) = colon(ts)?;
+        if begins_public_word(rest) {
+            let (_, rest) = public_word(rest)?;
+            let (_, rest) = module_base(rest)?;
+            return Ok((true, rest));
+        }
+        let (_, rest) = module_base(rest)?;
+        return Ok((true, rest));
+    }
+    Ok((false, ts))
+}
+
+// Whether what follows is the head of a class behind `template<>`.
+fn may_specialise(params: &Option<List<Param>>) -> bool
+    ensures { result ≡ p.may_specialise params.now }
+{
+    match params {
+        Some(list) => list.len() == 0,
+        None => false,
+    }
+}
+
+// The arguments of a specialisation.
+#[tactic(auto, unfolding(crate::specs::ParseFile::special))]
+fn special<'a>(
+    c: Reader,
+    params: &Option<List<Param>>,
+    x: Name,
+    ts: &'a [Seen],
+) -> Read<'a, Option<List<TyArg>>>
+    ensures { Gives (λ y. (y.0, y.1.now)) result (p.special c.entry.levels c.entry.names.now params.now x ts.now) }
+{
+    if may_specialise(params) && c.names.is_template(x) && begins_less(ts) {
+        let (_, rest) = less(ts)?;
+        let ((args, _), rest) = ty_args(c, false, rest)?;
+        return Ok((Some(args), rest));
+    }
+    Ok((None, ts))
+}
+
+// Declares a class, or a class template where it has parameters.
+fn declare(names: &mut Table, params: &Option<List<Param>>, x: Name) -> Result<(), NoMemory>
+    ensures { OnOk result (names.new ≡ b.declared names.old params.now x) }
+{
+    match params {
+        Some(list) => {
+            if list.len() > 0 {
+                names.add_template(x)
+            } else {
+                names.add_type(x)
+            }
+        }
+        None => names.add_type(x),
+    }
+}
+
+// The members of a class, in braces.
+#[tactic(auto, unfolding(crate::specs::ParseFile::class_body))]
+fn class_body<'a>(
+    alloc: Global,
+    names: &mut Table,
+    levels: u32,
+    ts: &'a [Seen],
+) -> Read<'a, Members>
+    ensures { Gives (λ x. (b.body_of names.new x.0.items x.0.fields, x.1.now)) result (p.class_body levels names.old ts.now) }
+{
+    let (_, rest) = brace_open(ts)?;
+    let mut found = Members::new(alloc);
+    let (_, rest) = all_members(alloc, names, levels, &mut found, rest)?;
+    let (_, rest) = brace_close(rest)?;
+    let (_, rest) = semicolon(rest)?;
+    Ok((found, rest))
+}
+
+fn class_item(
+    x: (Name, Place),
+    params: Option<List<Param>>,
+    special: Option<List<TyArg>>,
+    is_module: bool,
+    found: Members,
+    alloc: Global,
+) -> Item
+    ensures { result ≡ b.class_item x.1 x.0 params special is_module (b.body_of no_names found.items found.fields) }
+{
+    let params = match params {
+        Some(list) => list,
+        None => List::new(alloc),
+    };
+    let class = ClassTree {
+        params,
+        special,
+        module: is_module,
+        items: found.items,
+        fields: found.fields,
+    };
+    Item {
+        place: x.1,
+        name: Some(x.0),
+        node: ItemNode::Class(class),
+    }
+}
+
+// A module, behind its word.
+#[tactic(auto, unfolding(crate::specs::ParseFile::module_class))]
+fn module_class<'a>(
+    alloc: Global,
+    names: &mut Table,
+    levels: u32,
+    params: Option<List<Param>>,
+    ts: &'a [Seen],
+) -> Read<'a, Item>
+    ensures { Gives (λ x. ((names.new, x.0), x.1.now)) result (p.module_class levels names.old params ts.now) }
+{
+    let (_, rest) = paren_open(ts)?;
+    let (x, rest) = name_at(rest)?;
+    let (_, rest) = paren_close(rest)?;
+    declare(names, &params, x.0)?;
+    let (found, rest) = class_body(alloc, names, levels, rest)?;
+    Ok((class_item(x, params, None, true, found, alloc), rest))
+}
+
+// A class, behind its word.
+#[tactic(auto, unfolding(crate::specs::ParseFile::plain_class))]
+fn plain_class<'a>(
+    alloc: Global,
+    names: &mut Table,
+    levels: u32,
+    params: Option<List<Param>>,
+    ts: &'a [Seen],
+) -> Read<'a, Item>
+    ensures { Gives (λ x. ((names.new, x.0), x.1.now)) result (p.plain_class levels names.old params ts.now) }
+{
+    let (x, rest) = name_at(ts)?;
+    declare(names, &params, x.0)?;
+    let c = Reader {
+        alloc,
+        names,
+        levels,
+    };
+    let (args, rest) = special(c, &params, x.0, rest)?;
+    let (is_module, rest) = bases(rest)?;
+    let (found, rest) = class_body(alloc, names, levels, rest)?;
+    Ok((class_item(x, params, args, is_module, found, alloc), rest))
+}
+
+fn class_word(ts: &[Seen]) -> Read<'_, Place>
+    ensures { Gives (λ x. (x.0, x.1.now)) result (mark grammar.class_word ts.now) }
+{
+    match ts {
+        [
+            Seen {
+                terminal: Terminal::Class,
+                place,
+            },
+            rest @ ..,
+        ] => Ok((*place, rest)),
+        [
+            Seen {
+                terminal: Terminal::Struct,
+                place,
+            },
+            rest @ ..,
+        ] => Ok((*place, rest)),
+        _ => Err(Halt::Unexpected(place_of(ts))),
+    }
+}
+
+/// Whether a class or a module comes next.
+pub fn begins_class(ts: &[Seen]) -> bool
+    ensures { result ≡ is_next (next_is i.begins_class) ts.now }
+{
+    matches!(
+        ts,
+        [
+            Seen {
+                terminal: Terminal::Module | Terminal::Class | Terminal::Struct,
+                ..
+            },
+            ..
+        ]
+    )
+}
+
+/// A class or a module, behind the parameters of a template where it has some.
+#[tactic(auto, unfolding(crate::specs::ParseFile::class_at))]
+pub fn class_at<'a>(
+    alloc: Global,
+    names: &mut Table,
+    levels: u32,
+    params: Option<List<Param>>,
+    ts: &'a [Seen],
+) -> Read<'a, Item>
+    ensures { Gives (λ x. ((names.new, x.0), x.1.now)) result (p.class_at levels names.old params ts.now) }
+{
+    if begins_module_word(ts) {
+        let (_, rest) = module_word(ts)?;
+        return module_class(alloc, names, levels, params, rest);
+    }
+    let (_, rest) = class_word(ts)?;
+    plain_class(alloc, names, levels, params, rest)
+}

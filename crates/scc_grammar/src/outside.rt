@@ -1,0 +1,339 @@
+//! Functions, constants and bodies outside their class, in files.
+ghost use Rattle.std.specs.Prelude.{◌≡◌, [], IfOk};
+ghost use Rattle.scc_grammar.specs.Answer.{Gives, onto};
+ghost use Rattle.scc_grammar.specs.Bodies as b;
+ghost use Rattle.scc_grammar.specs.ParseItems as p;
+ghost use Rattle.scc_grammar.specs.Text.{next_says, pick};
+ghost use Rattle.scc_reading.specs.Reading.{is_next, pure, repeat, token};
+
+use crate::enumeration::begins_name;
+use crate::first::name_at;
+use crate::function::*;
+use crate::halt::{Halt, place_of};
+use crate::marks::*;
+use crate::next::*;
+use crate::nodes::constant_of;
+use crate::part::{Sort, TypeRead};
+use crate::reader::{Read, Reader};
+use crate::stmt::block_of;
+use crate::terminal::{Seen, Terminal};
+use crate::types::{base_at, constant_type, is_constant, named_type, type_at};
+use crate::words::*;
+use scc_base::{List, Name, NoMemory, Place};
+use scc_tree::{FunctionTree, Item, ItemNode, Param, Ty, TyArg, TyNode};
+use std::alloc::Global;
+
+// `static` (true) or `inline` (false).
+fn front(ts: &[Seen]) -> Read<'_, bool>
+    ensures { Gives (λ x. (x.0, x.1.now)) result (p.one_front ts.now) }
+{
+    match ts {
+        [
+            Seen {
+                terminal: Terminal::Static,
+                ..
+            },
+            rest @ ..,
+        ] => Ok((true, rest)),
+        [
+            Seen {
+                terminal: Terminal::Inline,
+                ..
+            },
+            rest @ ..,
+        ] => Ok((false, rest)),
+        _ => Err(Halt::Unexpected(place_of(ts))),
+    }
+}
+
+fn begins_front(ts: &[Seen]) -> bool
+    ensures { result ≡ is_next (next_says p.front) ts.now }
+{
+    matches!(
+        ts,
+        [
+            Seen {
+                terminal: Terminal::Static | Terminal::Inline,
+                ..
+            },
+            ..
+        ]
+    )
+}
+
+fn more_fronts<'a>(found: List<bool>, ts: &'a [Seen]) -> Read<'a, List<bool>>
+    ensures { Gives (λ x. (x.0, x.1.now)) result (onto found (repeat (next_says p.front) p.one_front) ts.now) }
+{
+    let mut found = found;
+    let mut rest = ts;
+    while begins_front(rest) {
+        let (next, after) = front(rest)?;
+        found.push(next)?;
+        rest = after;
+    }
+    Ok((found, rest))
+}
+
+/// `static` and `inline`, each any number of times.
+#[tactic(auto, unfolding(crate::specs::ParseItems::fronts))]
+pub fn fronts<'a>(alloc: Global, ts: &'a [Seen]) -> Read<'a, List<bool>>
+    ensures { Gives (λ x. (x.0, x.1.now)) result (p.fronts ts.now) }
+{
+    more_fronts(List::new(alloc), ts)
+}
+
+/// Whether a constant may stand behind these.
+pub fn before_constant(found: &[bool]) -> bool
+    ensures { result ≡ p.before_constant found.now }
+{
+    matches!(found, [] | [true])
+}
+
+/// Whether a body outside its class may stand behind these.
+pub fn before_outside(found: &[bool]) -> bool
+    ensures { result ≡ p.before_outside found.now }
+{
+    matches!(found, [] | [false])
+}
+
+/// Whether a name comes next, with nothing before it.
+pub fn is_first_name(found: &[bool], ts: &[Seen]) -> bool
+    ensures { result ≡ is_next (p.is_first_name found.now) ts.now }
+{
+    match found {
+        [] => begins_name(ts),
+        [_, ..] => false,
+    }
+}
+
+/// A class's name and its arguments, as a type.
+pub fn named_of(
+    alloc: Global,
+    x: (Name, Place),
+    args: Option<List<TyArg>>,
+) -> Result<TypeRead, NoMemory>
+    ensures { IfOk result (λ t. t ≡ p.named_of x args) }
+{
+    named_type(alloc, x.1, TyNode::Named { name: x.0, args }, false)
+}
+
+fn or_none(alloc: Global, args: Option<List<TyArg>>) -> List<TyArg>
+    ensures { result ≡ p.or_none args }
+{
+    match args {
+        Some(args) => args,
+        None => List::new(alloc),
+    }
+}
+
+/// A body outside its class, whose name stands at the place.
+fn outside_item(
+    place: Place,
+    params: List<Param>,
+    class: Name,
+    args: List<TyArg>,
+    function: FunctionTree,
+) -> Item
+    ensures { result ≡ b.outside_item place params class args function }
+{
+    let name = function.name;
+    Item {
+        place,
+        name: Some(name),
+        node: ItemNode::Outside {
+            params,
+            class,
+            args,
+            function,
+        },
+    }
+}
+
+/// The rest of a function outside its class, behind the class's name.
+#[tactic(auto, unfolding(crate::specs::ParseItems::outside_function))]
+fn outside_function<'a>(
+    c: Reader,
+    of_template: List<Param>,
+    gives: Option<Ty>,
+    x: (Name, Place),
+    ts: &'a [Seen],
+) -> Read<'a, Item>
+    ensures { Gives (λ x. (x.0, x.1.now)) result (p.outside_function c.entry.levels c.entry.names.now of_template gives x ts.now) }
+{
+    let (args, rest) = named_args(c, x.0, ts)?;
+    let (_, rest) = scope(rest)?;
+    let (y, rest) = name_at(rest)?;
+    let (_, rest) = paren_open(rest)?;
+    let (params, rest) = prms(c, rest)?;
+    let (_, rest) = paren_close(rest)?;
+    let (_, rest) = qualifier(rest)?;
+    let (of, rest) = block_of(c, rest)?;
+    let function = function_of(c.alloc, y, gives, params, Some(of));
+    let args = or_none(c.alloc, args);
+    Ok((outside_item(x.1, of_template, x.0, args, function), rest))
+}
+
+/// The rest of a constructor outside its class, behind the class's name and its arguments.
+#[tactic(auto, unfolding(crate::specs::ParseItems::outside_constructor))]
+fn outside_constructor<'a>(
+    c: Reader,
+    of_template: List<Param>,
+    x: (Name, Place),
+    args: Option<List<TyArg>>,
+    ts: &'a [Seen],
+) -> Read<'a, Item>
+    ensures { Gives (λ x. (x.0, x.1.now)) result (p.outside_constructor c.entry.levels c.entry.names.now of_template x args ts.now) }
+{
+    let (_, rest) = scope(ts)?;
+    let (y, rest) = name_at(rest)?;
+    let (_, rest) = paren_open(rest)?;
+    let (params, rest) = prms(c, rest)?;
+    let (_, rest) = paren_close(rest)?;
+    let (found, rest) = inits(c, rest)?;
+    let (of, rest) = block_of(c, rest)?;
+    let function = constructor_of(y, params, found, Some(of));
+    let args = or_none(c.alloc, args);
+    Ok((outside_item(x.1, of_template, x.0, args, function), rest))
+}
+
+// Behind the name behind a type, or `void`.
+#[tactic(auto, unfolding(crate::specs::ParseItems::named_function))]
+fn named_function<'a>(
+    c: Reader,
+    found: &[bool],
+    gives: Option<Ty>,
+    x: (Name, Place),
+    ts: &'a [Seen],
+) -> Read<'a, Item>
+    ensures { Gives (λ x. (x.0, x.1.now)) result (p.named_function c.entry.levels c.entry.names.now found.now gives x ts.now) }
+{
+    if before_outside(found) {
+        if begins_paren_open(ts) {
+            return function_rest(c, gives, x, ts);
+        }
+        return outside_function(c, List::new(c.alloc), gives, x, ts);
+    }
+    function_rest(c, gives, x, ts)
+}
+
+// Behind a type.
+#[tactic(auto, unfolding(crate::specs::ParseItems::typed))]
+fn typed<'a>(c: Reader, found: &[bool], of: TypeRead, ts: &'a [Seen]) -> Read<'a, Item>
+    ensures { Gives (λ x. (x.0, x.1.now)) result (p.typed c.entry.levels c.entry.names.now found.now of ts.now) }
+{
+    let (x, rest) = name_at(ts)?;
+    if is_constant(of.sort) && before_constant(found) {
+        if begins_assign(rest) {
+            return constant_rest(c, of.ty, x, rest);
+        }
+        return named_function(c, found, Some(of.ty), x, rest);
+    }
+    named_function(c, found, Some(of.ty), x, rest)
+}
+
+/// A constant behind its second `const`; the first one stands at the place.
+#[tactic(auto, unfolding(crate::specs::ParseItems::constant_twice))]
+pub fn constant_twice<'a>(c: Reader, q: Place, ts: &'a [Seen]) -> Read<'a, Item>
+    ensures { Gives (λ x. (x.0, x.1.now)) result (p.constant_twice c.entry.levels c.entry.names.now q ts.now) }
+{
+    let (of, rest) = base_at(c, false, ts)?;
+    let (x, rest) = name_at(rest)?;
+    constant_rest(c, constant_of(q, of.ty), x, rest)
+}
+
+// Behind a `const`, which stands at the place.
+#[tactic(auto, unfolding(crate::specs::ParseItems::constant_by))]
+fn constant_by<'a>(c: Reader, found: &[bool], q: Place, ts: &'a [Seen]) -> Read<'a, Item>
+    ensures { Gives (λ x. (x.0, x.1.now)) result (p.constant_by c.entry.levels c.entry.names.now found.now q ts.now) }
+{
+    if before_constant(found) && begins_constant(ts) {
+        let (_, rest) = constant(ts)?;
+        return constant_twice(c, q, rest);
+    }
+    let (of, rest) = base_at(c, false, ts)?;
+    typed(c, found, constant_type(q, of), rest)
+}
+
+// What begins with a name.
+#[tactic(auto, unfolding(crate::specs::ParseItems::by_name))]
+fn by_name<'a>(c: Reader, ts: &'a [Seen]) -> Read<'a, Item>
+    ensures { Gives (λ x. (x.0, x.1.now)) result (p.by_name c.entry.levels c.entry.names.now ts.now) }
+{
+    let (x, rest) = name_at(ts)?;
+    let (args, rest) = named_args(c, x.0, rest)?;
+    if begins_scope(rest) {
+        return outside_constructor(c, List::new(c.alloc), x, args, rest);
+    }
+    if c.names.is_type(x.0) {
+        return typed(c, &[], named_of(c.alloc, x, args)?, rest);
+    }
+    Err(Halt::Unexpected(place_of(rest)))
+}
+
+/// A function, a constant or a body outside its class, behind `static` and `inline`.
+#[tactic(auto, unfolding(crate::specs::ParseItems::fronted))]
+pub fn fronted<'a>(c: Reader, found: &[bool], ts: &'a [Seen]) -> Read<'a, Item>
+    ensures { Gives (λ x. (x.0, x.1.now)) result (p.fronted c.entry.levels c.entry.names.now found.now ts.now) }
+{
+    if begins_void_word(ts) {
+        let (_, rest) = void_word(ts)?;
+        let (x, rest) = name_at(rest)?;
+        return named_function(c, found, None, x, rest);
+    }
+    if begins_constant(ts) {
+        let (q, rest) = constant(ts)?;
+        return constant_by(c, found, q, rest);
+    }
+    if is_first_name(found, ts) {
+        return by_name(c, ts);
+    }
+    let (of, rest) = base_at(c, false, ts)?;
+    typed(c, found, of, rest)
+}
+
+// Behind the parameters of a template, and `inline`.
+#[tactic(auto, unfolding(crate::specs::ParseItems::outside_result))]
+fn outside_result<'a>(c: Reader, params: List<Param>, ts: &'a [Seen]) -> Read<'a, Item>
+    ensures { Gives (λ x. (x.0, x.1.now)) result (p.outside_result c.entry.levels c.entry.names.now params ts.now) }
+{
+    if begins_void_word(ts) {
+        let (_, rest) = void_word(ts)?;
+        let (x, rest) = name_at(rest)?;
+        return outside_function(c, params, None, x, rest);
+    }
+    let (of, rest) = type_at(c, false, ts)?;
+    let (x, rest) = name_at(rest)?;
+    outside_function(c, params, Some(of.ty), x, rest)
+}
+
+#[tactic(auto, unfolding(crate::specs::ParseItems::outside_name))]
+fn outside_name<'a>(c: Reader, params: List<Param>, ts: &'a [Seen]) -> Read<'a, Item>
+    ensures { Gives (λ x. (x.0, x.1.now)) result (p.outside_name c.entry.levels c.entry.names.now params ts.now) }
+{
+    let (x, rest) = name_at(ts)?;
+    let (args, rest) = named_args(c, x.0, rest)?;
+    if begins_scope(rest) {
+        return outside_constructor(c, params, x, args, rest);
+    }
+    if c.names.is_type(x.0) {
+        let of = named_of(c.alloc, x, args)?;
+        let (y, rest) = name_at(rest)?;
+        return outside_function(c, params, Some(of.ty), y, rest);
+    }
+    Err(Halt::Unexpected(place_of(rest)))
+}
+
+/// A body outside its class, behind the parameters of a template.
+#[tactic(auto, unfolding(crate::specs::ParseItems::outside))]
+pub fn outside<'a>(c: Reader, params: List<Param>, ts: &'a [Seen]) -> Read<'a, Item>
+    ensures { Gives (λ x. (x.0, x.1.now)) result (p.outside c.entry.levels c.entry.names.now params ts.now) }
+{
+    if begins_inline_word(ts) {
+        let (_, rest) = inline_word(ts)?;
+        return outside_result(c, params, rest);
+    }
+    if begins_name(ts) {
+        return outside_name(c, params, ts);
+    }
+    outside_result(c, params, ts)
+}
