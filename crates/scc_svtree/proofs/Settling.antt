@@ -101,7 +101,7 @@ module _ (width : ℕ → ℕ) (cs : List Code) (h : AreCombinational cs) where
     settled = z;
     is_settled = record { leaves = leaves; alike = λ v o. sym (outside_stays (length cs) given v o) };
     only = λ x s v. elim (owner cs v) [
-      | inl o ↦ sym (stays (length cs) x s.leaves v) ∙ sym (agree (length cs) given x s.alike v o.at o.within o.assigns_it (h.order.below o.at))
+      | inl o ↦ sym (stays (length cs) x s.leaves v) ∙ sym (agree (length cs) given x s.alike v o.at o.within o.assigns_it (h.order.below o.at o.within))
       | inr o ↦ sym (s.alike v o) ∙ sym (outside_stays (length cs) given v o)
     ];
   }
@@ -113,5 +113,5 @@ module _ (width : ℕ → ℕ) (cs : List Code) (h : AreCombinational cs) where
       leaves k l v = go (assigns (block_at cs k) v) refl
         where
           go : (b : Bool) → assigns (block_at cs k) v ≡ b → run width (block_at cs k) z v ≡ z v
-          go true a = sym (gives z v k l a) ∙ stable (length cs) given v k l a (h.order.below k)
+          go true a = sym (gives z v k l a) ∙ stable (length cs) given v k l a (h.order.below k l)
           go false a = run_keeps width (block_at cs k) z v a

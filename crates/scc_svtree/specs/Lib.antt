@@ -10,5 +10,6 @@ pub mod Mentions
 pub mod Fresh
 pub mod Settled
 pub mod Steps
+pub mod Concats
 pub mod Sound
 pub mod Worked

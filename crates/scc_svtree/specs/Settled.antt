@@ -33,7 +33,7 @@ pub record IsSettledFor (width : ℕ → ℕ) (cs : List Code) (given x : ℕ �
 -- block k. Exactly where there is none, blocks read in a cycle what others assign.
 pub record Order (cs : List Code) : Type 0 where
   pub rank : ℕ → ℕ
-  pub below : (k : ℕ) → rank k < length cs
+  pub below : (k : ℕ) → k < length cs → rank k < length cs
   pub ordered : (j k v : ℕ) → j < length cs → k < length cs → assigns (block_at cs j) v ≡ true → code_reads (block_at cs k) v ≡ true → assigns (block_at cs k) v ≡ false → rank j < rank k
 
 -- No two blocks assign one variable, each begins with whole values, and no cycle of them reads what it assigns.

@@ -17,6 +17,7 @@ use Rattle.scc_svtree.specs.Code.{Code, End, Assign, If, Case, Arms, None, Arm, 
 use Rattle.scc_svtree.specs.Mentions.{reads, code_reads, assigns, mentions}
 use Rattle.scc_svtree.specs.Fresh.{IsFresh}
 use Rattle.scc_svtree.specs.Settled.{combs_of, Order}
+use Rattle.scc_svtree.specs.Concats.{block_concats}
 use Rattle.scc_svtree.specs.Steps.{input_at, is_clock}
 
 -- it holds of each element
@@ -175,6 +176,8 @@ pub record IsSound (many : Bool) (m : SvModule) : Type 0 where
   -- sizes
   pub widths : Each (λ v. IsWidth v.width) m.vars
   pub sizes : Each (IsSizedBlock (width_at m.vars)) m.blocks
+  -- in the trees, since a text has no concatenation of one part, while the terms above take it for that part without sign
+  pub concats : Each (λ b. block_concats b ≡ true) m.blocks
   -- names
   pub names : AreNamed m.vars
   pub declared : (v : ℕ) → Each (λ b. block_names b v ≡ true → v < length m.vars) m.blocks
