@@ -1,3 +1,4 @@
+pub mod Keywords
 pub mod Nibble
 pub mod Moved
 pub mod Nodes

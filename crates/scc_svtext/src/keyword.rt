@@ -1,7 +1,7 @@
 //! The reserved words of SystemVerilog (IEEE 1800-2017, annex B).
-ghost use Rattle.std.specs.Prelude.{◌≡◌, bytes_eq};
-ghost use Rattle.std.specs.List.{list_any};
-ghost use Rattle.scc_svtext.specs.Keyword.{is_keyword};
+ghost use Rattle.std.specs.Prelude.{◌≡◌, bytes_eq, nat_eq};
+ghost use Rattle.std.specs.List.{list_any, starts_with};
+ghost use Rattle.scc_svtext.specs.Keyword.{begins_keyword, is_keyword};
 
 fn is_word_of(words: &[&str], name: &[u8]) -> bool
     ensures { result ≡ list_any (λ w. bytes_eq w.now name.now) words.now }
@@ -15,6 +15,20 @@ pub fn is_reserved_word(name: &[u8]) -> bool
     ensures { result ≡ is_keyword name.now }
 {
     is_word_of(&KEYWORDS, name)
+}
+
+fn begins_word_of(words: &[&str], front: &[u8]) -> bool
+    ensures { result ≡ list_any (λ w. starts_with nat_eq w.now front.now) words.now }
+{
+    words.iter().any(|w| w.as_bytes().starts_with(front))
+}
+
+/// Whether a reserved word begins with these bytes.
+#[tactic(auto, unfolding(crate::specs::Keyword::begins_keyword))]
+pub fn begins_reserved_word(front: &[u8]) -> bool
+    ensures { result ≡ begins_keyword front.now }
+{
+    begins_word_of(&KEYWORDS, front)
 }
 
 const KEYWORDS: [&str; 248] = [

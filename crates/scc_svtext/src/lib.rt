@@ -17,6 +17,6 @@ mod task;
 #[cfg(test)]
 mod tests;
 
-pub use keyword::is_reserved_word;
+pub use keyword::{begins_reserved_word, is_reserved_word};
 pub use laws::a_module_has_one_text;
 pub use module::print;
