@@ -1,0 +1,368 @@
+//! Reads expressions.
+ghost use Rattle.std.specs.Prelude.{◌≡◌, ◌∷◌, [], IfOk};
+ghost use Rattle.scc_svraw.specs.Answer.{Gives};
+ghost use Rattle.scc_svraw.specs.Reader as reader;
+
+use crate::bytes;
+use crate::bytes::{begins_digit, begins_divisor, begins_expr, text};
+use crate::halt::Halt;
+use crate::lexical::{decimal, digits_behind, left, literal};
+use crate::operator::{begins_unary, is_division, operator, unary};
+use crate::raw::RawExpr;
+use scc_base::{Boxed, List, NoMemory, Text};
+use scc_svtree::SvBinary;
+use std::alloc::Global;
+
+#[tactic(auto, unfolding(crate::specs::Reader::number_at))]
+fn number_at(alloc: Global, ts: &[u8]) -> Result<(RawExpr, &[u8]), Halt>
+    ensures { Gives (λ x. (x.0, x.1.now)) result (reader.number_at ts.now) }
+{
+    let (l, rest) = literal(alloc, ts)?;
+    Ok((RawExpr::Literal(l), rest))
+}
+
+// The literal in `$signed`, which opens a level.
+fn open_number(alloc: Global, levels: u32, ts: &[u8]) -> Result<(RawExpr, &[u8]), Halt>
+    ensures { Gives (λ x. (x.0, x.1.now)) result ((reader.inner levels).number ts.now) }
+{
+    if levels > 0 {
+        return number_at(alloc, ts);
+    }
+    if begins_digit(ts) {
+        return Err(Halt::TooDeep(ts.len()));
+    }
+    Err(Halt::Unexpected(ts.len()))
+}
+
+#[tactic(auto, unfolding(crate::specs::Reader::signed_number))]
+fn signed_number(alloc: Global, levels: u32, ts: &[u8]) -> Result<(RawExpr, &[u8]), Halt>
+    ensures { Gives (λ x. (x.0, x.1.now)) result (reader.signed_number (reader.inner levels) ts.now) }
+{
+    let (_, rest) = text(b"$signed(", ts)?;
+    let (l, rest) = open_number(alloc, levels, rest)?;
+    let (_, rest) = text(b")", rest)?;
+    let of = Boxed::new(alloc, l)?;
+    Ok((RawExpr::Sign { signed: true, of }, rest))
+}
+
+#[tactic(auto, unfolding(crate::specs::Reader::divisor_at))]
+fn divisor_at(alloc: Global, levels: u32, ts: &[u8]) -> Result<(RawExpr, &[u8]), Halt>
+    ensures { Gives (λ x. (x.0, x.1.now)) result (reader.divisor_at (reader.inner levels) ts.now) }
+{
+    if begins_digit(ts) {
+        return number_at(alloc, ts);
+    }
+    signed_number(alloc, levels, ts)
+}
+
+// The right operand of a division, which opens a level.
+fn open_divisor(alloc: Global, levels: u32, ts: &[u8]) -> Result<(RawExpr, &[u8]), Halt>
+    ensures { Gives (λ x. (x.0, x.1.now)) result ((reader.inner levels).divisor ts.now) }
+{
+    if levels > 0 {
+        return divisor_at(alloc, levels - 1, ts);
+    }
+    if begins_divisor(ts) {
+        return Err(Halt::TooDeep(ts.len()));
+    }
+    Err(Halt::Unexpected(ts.len()))
+}
+
+// The right operand of a division and the bracket behind it.
+#[tactic(auto, unfolding(crate::specs::Reader::closed_divisor))]
+fn closed_divisor(alloc: Global, levels: u32, ts: &[u8]) -> Result<(Boxed<RawExpr>, &[u8]), Halt>
+    ensures { Gives (λ x. (x.0, x.1.now)) result (reader.closed_divisor (reader.inner levels) ts.now) }
+{
+    let (right, rest) = open_divisor(alloc, levels, ts)?;
+    let right = Boxed::new(alloc, right)?;
+    let (_, rest) = text(b")", rest)?;
+    Ok((right, rest))
+}
+
+/// An expression, which opens a level, of which so many are left.
+#[cycle(reading)]
+pub fn open_expr(alloc: Global, levels: u32, ts: &[u8]) -> Result<(RawExpr, &[u8]), Halt>
+    ensures { Gives (λ x. (x.0, x.1.now)) result ((reader.inner levels).expr ts.now) }
+{
+    if levels > 0 {
+        return expr(alloc, levels - 1, ts);
+    }
+    if begins_expr(ts) {
+        return Err(Halt::TooDeep(ts.len()));
+    }
+    Err(Halt::Unexpected(ts.len()))
+}
+
+#[cycle(reading)]
+fn open_boxed(alloc: Global, levels: u32, ts: &[u8]) -> Result<(Boxed<RawExpr>, &[u8]), Halt>
+    ensures { Gives (λ x. (x.0, x.1.now)) result ((reader.inner levels).expr ts.now) }
+{
+    let (of, rest) = open_expr(alloc, levels, ts)?;
+    Ok((Boxed::new(alloc, of)?, rest))
+}
+
+// An expression and the bracket that closes it.
+#[tactic(auto, unfolding(crate::specs::Reader::closed_expr))]
+#[cycle(reading)]
+fn closed_expr(alloc: Global, levels: u32, ts: &[u8]) -> Result<(Boxed<RawExpr>, &[u8]), Halt>
+    ensures { Gives (λ x. (x.0, x.1.now)) result (reader.closed_expr (reader.inner levels) ts.now) }
+{
+    let (of, rest) = open_boxed(alloc, levels, ts)?;
+    let (_, rest) = text(b")", rest)?;
+    Ok((of, rest))
+}
+
+// A literal or a cast, from behind its width.
+#[tactic(auto, unfolding(crate::specs::Reader::behind_width))]
+#[cycle(reading)]
+fn behind_width(
+    alloc: Global,
+    levels: u32,
+    width: Text,
+    ts: &[u8],
+) -> Result<(RawExpr, &[u8]), Halt>
+    ensures { Gives (λ x. (x.0, x.1.now)) result (reader.behind_width (reader.inner levels) width ts.now) }
+{
+    let (_, rest) = text(b"'", ts)?;
+    if bytes::is_next(104, rest) {
+        let (_, rest) = text(b"h", rest)?;
+        let (l, rest) = digits_behind(alloc, width, rest)?;
+        return Ok((RawExpr::Literal(l), rest));
+    }
+    let (_, rest) = text(b"(", rest)?;
+    let (of, rest) = closed_expr(alloc, levels, rest)?;
+    Ok((RawExpr::Cast { width, of }, rest))
+}
+
+#[tactic(auto, unfolding(crate::specs::Reader::sized))]
+#[cycle(reading)]
+fn sized(alloc: Global, levels: u32, ts: &[u8]) -> Result<(RawExpr, &[u8]), Halt>
+    ensures { Gives (λ x. (x.0, x.1.now)) result (reader.sized (reader.inner levels) ts.now) }
+{
+    let (width, rest) = decimal(alloc, ts)?;
+    behind_width(alloc, levels, width, rest)
+}
+
+#[tactic(auto, unfolding(crate::specs::Reader::sign))]
+#[cycle(reading)]
+fn sign(alloc: Global, levels: u32, ts: &[u8]) -> Result<(RawExpr, &[u8]), Halt>
+    ensures { Gives (λ x. (x.0, x.1.now)) result (reader.sign (reader.inner levels) ts.now) }
+{
+    let (_, rest) = text(b"$", ts)?;
+    if bytes::is_next(115, rest) {
+        let (_, rest) = text(b"signed(", rest)?;
+        let (of, rest) = closed_expr(alloc, levels, rest)?;
+        return Ok((RawExpr::Sign { signed: true, of }, rest));
+    }
+    let (_, rest) = text(b"unsigned(", rest)?;
+    let (of, rest) = closed_expr(alloc, levels, rest)?;
+    Ok((RawExpr::Sign { signed: false, of }, rest))
+}
+
+// A further part of a concatenation.
+#[cycle(reading)]
+fn further(alloc: Global, levels: u32, ts: &[u8]) -> Result<(RawExpr, &[u8]), Halt>
+    ensures { Gives (λ x. (x.0, x.1.now)) result (reader.further (reader.inner levels) ts.now) }
+{
+    let (_, rest) = text(b", ", ts)?;
+    open_expr(alloc, levels, rest)
+}
+
+// Further parts of a concatenation, behind those before them.
+#[cycle(reading)]
+fn parts(
+    alloc: Global,
+    levels: u32,
+    front: List<RawExpr>,
+    ts: &[u8],
+) -> Result<(List<RawExpr>, &[u8]), Halt>
+    ensures { Gives (λ x. (x.0, x.1.now)) result (reader.onto front (reader.parts (reader.inner levels)) ts.now) }
+{
+    let mut found = front;
+    let mut rest = ts;
+    while bytes::is_next(44, rest) {
+        let (next, after) = further(alloc, levels, rest)?;
+        found.push(next)?;
+        rest = after;
+    }
+    Ok((found, rest))
+}
+
+// A list of one part.
+fn alone(alloc: Global, first: RawExpr) -> Result<List<RawExpr>, NoMemory>
+    ensures { IfOk result (λ l. l ≡ first ∷ []) }
+{
+    let mut list = List::new(alloc);
+    list.push(first)?;
+    Ok(list)
+}
+
+// The second part and the others.
+#[tactic(auto, unfolding(crate::specs::Reader::parts_behind))]
+#[cycle(reading)]
+fn parts_behind(
+    alloc: Global,
+    levels: u32,
+    front: List<RawExpr>,
+    ts: &[u8],
+) -> Result<(List<RawExpr>, &[u8]), Halt>
+    ensures { Gives (λ x. (x.0, x.1.now)) result (reader.parts_behind (reader.inner levels) front ts.now) }
+{
+    let mut list = front;
+    let (second, rest) = further(alloc, levels, ts)?;
+    list.push(second)?;
+    parts(alloc, levels, list, rest)
+}
+
+#[tactic(auto, unfolding(crate::specs::Reader::concat))]
+#[cycle(reading)]
+fn concat(alloc: Global, levels: u32, ts: &[u8]) -> Result<(RawExpr, &[u8]), Halt>
+    ensures { Gives (λ x. (x.0, x.1.now)) result (reader.concat (reader.inner levels) ts.now) }
+{
+    let (_, rest) = text(b"{", ts)?;
+    let (first, rest) = open_expr(alloc, levels, rest)?;
+    let (all, rest) = parts_behind(alloc, levels, alone(alloc, first)?, rest)?;
+    let (_, rest) = text(b"}", rest)?;
+    Ok((RawExpr::Concat(all), rest))
+}
+
+// The last part of a `?:`.
+#[tactic(auto, unfolding(crate::specs::Reader::cond_last))]
+#[cycle(reading)]
+fn cond_last(
+    alloc: Global,
+    levels: u32,
+    test: Boxed<RawExpr>,
+    yes: Boxed<RawExpr>,
+    ts: &[u8],
+) -> Result<(RawExpr, &[u8]), Halt>
+    ensures { Gives (λ x. (x.0, x.1.now)) result (reader.cond_last (reader.inner levels) test yes ts.now) }
+{
+    let (_, rest) = text(b" : ", ts)?;
+    let (no, rest) = closed_expr(alloc, levels, rest)?;
+    Ok((RawExpr::Cond { test, yes, no }, rest))
+}
+
+#[tactic(auto, unfolding(crate::specs::Reader::cond_behind))]
+#[cycle(reading)]
+fn cond_behind(
+    alloc: Global,
+    levels: u32,
+    test: Boxed<RawExpr>,
+    ts: &[u8],
+) -> Result<(RawExpr, &[u8]), Halt>
+    ensures { Gives (λ x. (x.0, x.1.now)) result (reader.cond_behind (reader.inner levels) test ts.now) }
+{
+    let (_, rest) = text(b"? ", ts)?;
+    let (yes, rest) = open_boxed(alloc, levels, rest)?;
+    cond_last(alloc, levels, test, yes, rest)
+}
+
+// The right operand and the bracket behind it.
+#[tactic(auto, unfolding(crate::specs::Reader::right_of))]
+#[cycle(reading)]
+fn right_of(
+    alloc: Global,
+    levels: u32,
+    op: SvBinary,
+    ts: &[u8],
+) -> Result<(Boxed<RawExpr>, &[u8]), Halt>
+    ensures { Gives (λ x. (x.0, x.1.now)) result (reader.right_of (reader.inner levels) op ts.now) }
+{
+    if is_division(op) {
+        return closed_divisor(alloc, levels, ts);
+    }
+    closed_expr(alloc, levels, ts)
+}
+
+#[tactic(auto, unfolding(crate::specs::Reader::binary_behind))]
+#[cycle(reading)]
+fn binary_behind(
+    alloc: Global,
+    levels: u32,
+    left: Boxed<RawExpr>,
+    ts: &[u8],
+) -> Result<(RawExpr, &[u8]), Halt>
+    ensures { Gives (λ x. (x.0, x.1.now)) result (reader.binary_behind (reader.inner levels) left ts.now) }
+{
+    let (op, rest) = operator(ts)?;
+    let (_, rest) = text(b" ", rest)?;
+    let (right, rest) = right_of(alloc, levels, op, rest)?;
+    Ok((RawExpr::Binary { op, left, right }, rest))
+}
+
+#[tactic(auto, unfolding(crate::specs::Reader::behind_first))]
+#[cycle(reading)]
+fn behind_first(
+    alloc: Global,
+    levels: u32,
+    left: Boxed<RawExpr>,
+    ts: &[u8],
+) -> Result<(RawExpr, &[u8]), Halt>
+    ensures { Gives (λ x. (x.0, x.1.now)) result (reader.behind_first (reader.inner levels) left ts.now) }
+{
+    if bytes::is_next(63, ts) {
+        return cond_behind(alloc, levels, left, ts);
+    }
+    binary_behind(alloc, levels, left, ts)
+}
+
+#[tactic(auto, unfolding(crate::specs::Reader::operated))]
+#[cycle(reading)]
+fn operated(alloc: Global, levels: u32, ts: &[u8]) -> Result<(RawExpr, &[u8]), Halt>
+    ensures { Gives (λ x. (x.0, x.1.now)) result (reader.operated (reader.inner levels) ts.now) }
+{
+    let (left, rest) = open_boxed(alloc, levels, ts)?;
+    let (_, rest) = text(b" ", rest)?;
+    behind_first(alloc, levels, left, rest)
+}
+
+#[tactic(auto, unfolding(crate::specs::Reader::unary_at))]
+#[cycle(reading)]
+fn unary_at(alloc: Global, levels: u32, ts: &[u8]) -> Result<(RawExpr, &[u8]), Halt>
+    ensures { Gives (λ x. (x.0, x.1.now)) result (reader.unary_at (reader.inner levels) ts.now) }
+{
+    let (op, rest) = unary(ts)?;
+    let (of, rest) = closed_expr(alloc, levels, rest)?;
+    Ok((RawExpr::Unary { op, of }, rest))
+}
+
+#[tactic(auto, unfolding(crate::specs::Reader::bracketed))]
+#[cycle(reading)]
+fn bracketed(alloc: Global, levels: u32, ts: &[u8]) -> Result<(RawExpr, &[u8]), Halt>
+    ensures { Gives (λ x. (x.0, x.1.now)) result (reader.bracketed (reader.inner levels) ts.now) }
+{
+    let (_, rest) = text(b"(", ts)?;
+    if begins_unary(rest) {
+        return unary_at(alloc, levels, rest);
+    }
+    operated(alloc, levels, rest)
+}
+
+#[tactic(auto, unfolding(crate::specs::Reader::left_expr))]
+fn left_expr(alloc: Global, ts: &[u8]) -> Result<(RawExpr, &[u8]), Halt>
+    ensures { Gives (λ x. (x.0, x.1.now)) result (reader.left_expr ts.now) }
+{
+    let (l, rest) = left(alloc, ts)?;
+    Ok((RawExpr::Left(l), rest))
+}
+
+#[tactic(auto, unfolding(crate::specs::Reader::expr))]
+#[cycle(reading)]
+fn expr(alloc: Global, levels: u32, ts: &[u8]) -> Result<(RawExpr, &[u8]), Halt>
+    ensures { Gives (λ x. (x.0, x.1.now)) result (reader.expr (reader.inner levels) ts.now) }
+{
+    if begins_digit(ts) {
+        return sized(alloc, levels, ts);
+    }
+    if bytes::is_next(40, ts) {
+        return bracketed(alloc, levels, ts);
+    }
+    if bytes::is_next(123, ts) {
+        return concat(alloc, levels, ts);
+    }
+    if bytes::is_next(36, ts) {
+        return sign(alloc, levels, ts);
+    }
+    left_expr(alloc, ts)
+}

@@ -1,0 +1,319 @@
+//! Reads statements.
+ghost use Rattle.std.specs.Prelude.{◌≡◌, ◌∷◌, [], ◌+◌, ◌*◌, ◌<◌, ◌^◌, IfOk};
+ghost use Rattle.scc_svraw.specs.Answer.{Gives};
+ghost use Rattle.scc_svraw.specs.Grammar as grammar;
+ghost use Rattle.scc_svraw.specs.Leaves as leaves;
+ghost use Rattle.scc_svraw.specs.Reader as reader;
+ghost use Rattle.scc_svtext.specs.Pieces as pieces;
+
+use crate::bytes;
+use crate::bytes::{begins_name, text};
+use crate::expr::open_expr;
+use crate::halt::Halt;
+use crate::lexical::{left, left_behind, literal, named, plain_word};
+use crate::raw::{RawArm, RawExpr, RawLeft, RawStmt};
+use scc_base::{List, NoMemory, Text};
+use std::alloc::Global;
+
+/// So many blanks.
+pub fn blanks(n: u32, ts: &[u8]) -> Result<((), &[u8]), Halt>
+    ensures { Gives (λ x. (x.0, x.1.now)) result (leaves.text (pieces.blanks n) ts.now) }
+{
+    let mut left = n;
+    let mut rest = ts;
+    while left > 0 {
+        let (_, after) = text(b" ", rest)?;
+        rest = after;
+        left -= 1;
+    }
+    Ok(((), rest))
+}
+
+// The end of an assignment.
+#[tactic(auto, unfolding(crate::specs::Reader::value_behind))]
+fn value_behind(
+    alloc: Global,
+    levels: u32,
+    left: RawLeft,
+    ts: &[u8],
+) -> Result<(RawStmt, &[u8]), Halt>
+    ensures { Gives (λ x. (x.0, x.1.now)) result (reader.value_behind (reader.inner levels) left ts.now) }
+{
+    let (_, rest) = text(b" = ", ts)?;
+    let (value, rest) = open_expr(alloc, levels, rest)?;
+    let (_, rest) = text(b";\n", rest)?;
+    Ok((RawStmt::Assign { left, value }, rest))
+}
+
+// An assignment from behind its first word.
+#[tactic(auto, unfolding(crate::specs::Reader::assign_behind))]
+fn assign_behind(
+    alloc: Global,
+    levels: u32,
+    word: Text,
+    ts: &[u8],
+) -> Result<(RawStmt, &[u8]), Halt>
+    ensures { Gives (λ x. (x.0, x.1.now)) result (reader.assign_behind (reader.inner levels) word ts.now) }
+{
+    let (w, rest) = named(word, ts)?;
+    let (l, rest) = left_behind(alloc, w, rest)?;
+    value_behind(alloc, levels, l, rest)
+}
+
+// The test of an `if` or what a `case` selects, from behind the word.
+#[tactic(auto, unfolding(crate::specs::Reader::test_at))]
+fn test_at(alloc: Global, levels: u32, ts: &[u8]) -> Result<(RawExpr, &[u8]), Halt>
+    ensures { Gives (λ x. (x.0, x.1.now)) result (reader.test_at (reader.inner levels) ts.now) }
+{
+    let (_, rest) = text(b" (", ts)?;
+    open_expr(alloc, levels, rest)
+}
+
+/// A statement behind so many blanks, which opens a level.
+#[cycle(reading_stmt)]
+fn open_stmt(alloc: Global, levels: u32, indent: u32, ts: &[u8]) -> Result<(RawStmt, &[u8]), Halt>
+    requires room { indent + 4 * levels < 2 ^ 20 }
+    ensures { Gives (λ x. (x.0, x.1.now)) result ((reader.inner levels).stmt indent ts.now) }
+{
+    if levels > 0 {
+        return stmt(alloc, levels - 1, indent, ts);
+    }
+    if begins_name(ts) {
+        return Err(Halt::TooDeep(ts.len()));
+    }
+    Err(Halt::Unexpected(ts.len()))
+}
+
+// A statement and the blanks before the next line.
+#[tactic(auto, unfolding(crate::specs::Reader::line))]
+#[cycle(reading_stmt)]
+fn line(alloc: Global, levels: u32, outer: u32, ts: &[u8]) -> Result<(RawStmt, &[u8]), Halt>
+    requires room { outer + 2 + 4 * levels < 2 ^ 20 }
+    ensures { Gives (λ x. (x.0, x.1.now)) result (reader.line (reader.inner levels) outer ts.now) }
+{
+    let (_, rest) = text(b"  ", ts)?;
+    let (s, rest) = open_stmt(alloc, levels, outer + 2, rest)?;
+    let (_, rest) = blanks(outer, rest)?;
+    Ok((s, rest))
+}
+
+// Statements, behind those before them.
+#[cycle(reading_stmt)]
+fn more_stmts(
+    alloc: Global,
+    levels: u32,
+    outer: u32,
+    front: List<RawStmt>,
+    ts: &[u8],
+) -> Result<(List<RawStmt>, &[u8]), Halt>
+    requires room { outer + 2 + 4 * levels < 2 ^ 20 }
+    ensures { Gives (λ x. (x.0, x.1.now)) result (reader.onto front (reader.stmts (reader.inner levels) outer) ts.now) }
+{
+    let mut found = front;
+    let mut rest = ts;
+    while bytes::is_next(32, rest) {
+        let (next, after) = line(alloc, levels, outer, rest)?;
+        found.push(next)?;
+        rest = after;
+    }
+    Ok((found, rest))
+}
+
+/// Statements.
+#[tactic(auto, using(crate::proofs::Turns::nothing_onto))]
+#[cycle(reading_stmt)]
+pub fn stmts(
+    alloc: Global,
+    levels: u32,
+    outer: u32,
+    ts: &[u8],
+) -> Result<(List<RawStmt>, &[u8]), Halt>
+    requires room { outer + 2 + 4 * levels < 2 ^ 20 }
+    ensures { Gives (λ x. (x.0, x.1.now)) result (reader.stmts (reader.inner levels) outer ts.now) }
+{
+    more_stmts(alloc, levels, outer, List::new(alloc), ts)
+}
+
+// A list of one statement.
+fn alone(alloc: Global, first: RawStmt) -> Result<List<RawStmt>, NoMemory>
+    ensures { IfOk result (λ l. l ≡ first ∷ []) }
+{
+    let mut list = List::new(alloc);
+    list.push(first)?;
+    Ok(list)
+}
+
+// The statements behind a first one, and their end.
+#[tactic(auto, unfolding(crate::specs::Reader::stmts_behind))]
+#[cycle(reading_stmt)]
+fn stmts_behind(
+    alloc: Global,
+    levels: u32,
+    outer: u32,
+    first: RawStmt,
+    ts: &[u8],
+) -> Result<(List<RawStmt>, &[u8]), Halt>
+    requires room { outer + 2 + 4 * levels < 2 ^ 20 }
+    ensures { Gives (λ x. (x.0, x.1.now)) result (reader.stmts_behind (reader.inner levels) outer first ts.now) }
+{
+    let (all, rest) = more_stmts(alloc, levels, outer, alone(alloc, first)?, ts)?;
+    let (_, rest) = text(b"end\n", rest)?;
+    Ok((all, rest))
+}
+
+// The other branch of an `if`, from behind the `end` of the first.
+#[tactic(auto, unfolding(crate::specs::Reader::other))]
+#[cycle(reading_stmt)]
+fn other(alloc: Global, levels: u32, outer: u32, ts: &[u8]) -> Result<(List<RawStmt>, &[u8]), Halt>
+    requires room { outer + 2 + 4 * levels < 2 ^ 20 }
+    ensures { Gives (λ x. (x.0, x.1.now)) result (reader.other (reader.inner levels) outer ts.now) }
+{
+    let (_, rest) = text(b" else begin\n", ts)?;
+    let (_, rest) = blanks(outer, rest)?;
+    let (first, rest) = line(alloc, levels, outer, rest)?;
+    stmts_behind(alloc, levels, outer, first, rest)
+}
+
+// What follows the `end` of a first branch.
+#[tactic(auto, unfolding(crate::specs::Reader::behind_end))]
+#[cycle(reading_stmt)]
+fn behind_end(
+    alloc: Global,
+    levels: u32,
+    outer: u32,
+    ts: &[u8],
+) -> Result<(List<RawStmt>, &[u8]), Halt>
+    requires room { outer + 2 + 4 * levels < 2 ^ 20 }
+    ensures { Gives (λ x. (x.0, x.1.now)) result (reader.behind_end (reader.inner levels) outer ts.now) }
+{
+    if bytes::is_next(10, ts) {
+        let (_, rest) = text(b"\n", ts)?;
+        return Ok((List::new(alloc), rest));
+    }
+    other(alloc, levels, outer, ts)
+}
+
+// The branches of an `if`.
+#[tactic(auto, unfolding(crate::specs::Reader::branches))]
+#[cycle(reading_stmt)]
+fn branches(
+    alloc: Global,
+    levels: u32,
+    outer: u32,
+    test: RawExpr,
+    ts: &[u8],
+) -> Result<(RawStmt, &[u8]), Halt>
+    requires room { outer + 2 + 4 * levels < 2 ^ 20 }
+    ensures { Gives (λ x. (x.0, x.1.now)) result (reader.branches (reader.inner levels) outer test ts.now) }
+{
+    let (_, rest) = text(b") begin\n", ts)?;
+    let (_, rest) = blanks(outer, rest)?;
+    let (yes, rest) = stmts(alloc, levels, outer, rest)?;
+    let (_, rest) = text(b"end", rest)?;
+    let (no, rest) = behind_end(alloc, levels, outer, rest)?;
+    Ok((RawStmt::If { test, yes, no }, rest))
+}
+
+// The body of an arm, from behind its label.
+#[tactic(auto, unfolding(crate::specs::Reader::arm_body))]
+#[cycle(reading_stmt)]
+fn arm_body(
+    alloc: Global,
+    levels: u32,
+    outer: u32,
+    ts: &[u8],
+) -> Result<(List<RawStmt>, &[u8]), Halt>
+    requires room { outer + 4 + 4 * levels < 2 ^ 20 }
+    ensures { Gives (λ x. (x.0, x.1.now)) result (reader.arm_body (reader.inner levels) outer ts.now) }
+{
+    let (_, rest) = text(b": begin\n", ts)?;
+    let (_, rest) = blanks(outer + 2, rest)?;
+    let (body, rest) = stmts(alloc, levels, outer + 2, rest)?;
+    let (_, rest) = text(b"end\n", rest)?;
+    let (_, rest) = blanks(outer, rest)?;
+    Ok((body, rest))
+}
+
+#[cycle(reading_stmt)]
+fn arm_line(alloc: Global, levels: u32, outer: u32, ts: &[u8]) -> Result<(RawArm, &[u8]), Halt>
+    requires room { outer + 4 + 4 * levels < 2 ^ 20 }
+    ensures { Gives (λ x. (x.0, x.1.now)) result (reader.arm_line (reader.inner levels) outer ts.now) }
+{
+    let (_, rest) = text(b"  ", ts)?;
+    let (label, rest) = literal(alloc, rest)?;
+    let (body, rest) = arm_body(alloc, levels, outer, rest)?;
+    Ok((RawArm { label, body }, rest))
+}
+
+#[tactic(auto, unfolding(crate::specs::Reader::arms))]
+#[cycle(reading_stmt)]
+fn arms(alloc: Global, levels: u32, outer: u32, ts: &[u8]) -> Result<(List<RawArm>, &[u8]), Halt>
+    requires room { outer + 4 + 4 * levels < 2 ^ 20 }
+    ensures { Gives (λ x. (x.0, x.1.now)) result (reader.arms (reader.inner levels) outer ts.now) }
+{
+    let mut found = List::new(alloc);
+    let mut rest = ts;
+    while bytes::is_next(32, rest) {
+        let (next, after) = arm_line(alloc, levels, outer, rest)?;
+        found.push(next)?;
+        rest = after;
+    }
+    Ok((found, rest))
+}
+
+#[tactic(auto, unfolding(crate::specs::Reader::case_behind))]
+#[cycle(reading_stmt)]
+fn case_behind(
+    alloc: Global,
+    levels: u32,
+    outer: u32,
+    of: RawExpr,
+    ts: &[u8],
+) -> Result<(RawStmt, &[u8]), Halt>
+    requires room { outer + 4 + 4 * levels < 2 ^ 20 }
+    ensures { Gives (λ x. (x.0, x.1.now)) result (reader.case_behind (reader.inner levels) outer of ts.now) }
+{
+    let (_, rest) = text(b")\n", ts)?;
+    let (_, rest) = blanks(outer, rest)?;
+    let (arms, rest) = arms(alloc, levels, outer, rest)?;
+    let (_, rest) = text(b"endcase\n", rest)?;
+    Ok((RawStmt::Case { of, arms }, rest))
+}
+
+// A statement from behind its first word.
+#[tactic(auto, unfolding(crate::specs::Reader::behind_word))]
+#[cycle(reading_stmt)]
+fn behind_word(
+    alloc: Global,
+    levels: u32,
+    indent: u32,
+    word: Text,
+    ts: &[u8],
+) -> Result<(RawStmt, &[u8]), Halt>
+    requires room { indent + 4 + 4 * levels < 2 ^ 20 }
+    ensures { Gives (λ x. (x.0, x.1.now)) result (reader.behind_word (reader.inner levels) indent word ts.now) }
+{
+    if word.bytes() == b"if".as_slice() {
+        let (test, rest) = test_at(alloc, levels, ts)?;
+        return branches(alloc, levels, indent, test, rest);
+    }
+    if word.bytes() == b"case".as_slice() {
+        let (of, rest) = test_at(alloc, levels, ts)?;
+        return case_behind(alloc, levels, indent, of, rest);
+    }
+    assign_behind(alloc, levels, word, ts)
+}
+
+#[tactic(auto, unfolding(crate::specs::Reader::stmt))]
+#[cycle(reading_stmt)]
+fn stmt(alloc: Global, levels: u32, indent: u32, ts: &[u8]) -> Result<(RawStmt, &[u8]), Halt>
+    requires room { indent + 4 + 4 * levels < 2 ^ 20 }
+    ensures { Gives (λ x. (x.0, x.1.now)) result (reader.stmt (reader.inner levels) indent ts.now) }
+{
+    if bytes::is_next(92, ts) {
+        let (l, rest) = left(alloc, ts)?;
+        return value_behind(alloc, levels, l, rest);
+    }
+    let (w, rest) = plain_word(alloc, ts)?;
+    behind_word(alloc, levels, indent, w, rest)
+}

@@ -1,0 +1,17 @@
+pub mod Decimals
+pub mod Digits
+pub mod Sums
+pub mod Leaves
+pub mod Fits
+pub mod Trees
+pub mod RawTrees
+pub mod Expressions
+pub mod Statements
+pub mod Blocks
+pub mod Variables
+pub mod Modules
+pub mod HexDigits
+pub mod Mapped
+pub mod Scopes
+pub mod Distinct
+pub mod Returned

@@ -1,0 +1,58 @@
+-- The first wrong size, and the first name that is undeclared or declared twice, of a module as it is written.
+use Rattle.std.specs.Prelude.{ℕ, ◌+◌, List, [], ◌∷◌, length, Option, Some, None}
+use Rattle.scc_svtext.specs.Pieces.{spelled}
+use Rattle.scc_svraw.specs.declared.raw.RawVar.{RawVar}
+use Rattle.scc_svraw.specs.declared.raw.RawItem.{RawItem}
+use Rattle.scc_svraw.specs.declared.raw.RawItem.TheVariants.{Var, Block}
+use Rattle.scc_svraw.specs.declared.raw.RawModule.{RawModule}
+use Rattle.scc_svread.specs.declared.walk.Walk.{Walk}
+use Rattle.scc_svread.specs.declared.wrong.Wrong.{Wrong}
+use Rattle.scc_svread.specs.declared.wrong.Wrong.TheVariants.{Size, Name}
+use Rattle.scc_svread.specs.Scope.{Scope, declare, declare_all}
+use Rattle.scc_svread.specs.Walking.{Walking, ◌then◌, pass, start}
+use Rattle.scc_svread.specs.Blocks.{block_walk, var_walk, dir_bytes}
+
+-- ports behind a first one, each behind a comma and a line's end
+abbrev pub further_ports : Scope → List RawVar → Walking
+further_ports before [] w = w
+further_ports before (v ∷ vs) w = further_ports (declare before v) vs (var_walk before v (pass (2 + dir_bytes v.dir) w))
+
+abbrev pub ports_walk : Scope → List RawVar → Walking
+ports_walk before [] = pass 0
+ports_walk before (v ∷ vs) = pass (dir_bytes v.dir) then var_walk before v then further_ports (declare before v) vs then pass 1
+
+-- a declaration or a block: the names before, and all of the module's
+abbrev pub item_walk : Scope → Scope → RawItem → Walking
+item_walk before s (Var v) = pass 8 then var_walk before v then pass 2
+item_walk before s (Block b) = block_walk s b
+
+abbrev pub item_names : Scope → RawItem → Scope
+item_names before (Var v) = declare before v
+item_names before (Block b) = before
+
+abbrev pub items_walk : Scope → Scope → List RawItem → Walking
+items_walk before s [] w = w
+items_walk before s (i ∷ more) w = items_walk (item_names before i) s more (item_walk before s i w)
+
+abbrev pub names_with : Scope → List RawItem → Scope
+names_with before [] = before
+names_with before (i ∷ more) = names_with (item_names before i) more
+
+-- the names of a module
+abbrev pub scope_of : RawModule → Scope
+scope_of m = names_with (declare_all [] m.ports) m.items
+
+abbrev pub module_walk : RawModule → Walking
+module_walk m = pass 7 then pass (length (spelled m.name)) then pass 3 then ports_walk [] m.ports then pass 3 then items_walk (declare_all [] m.ports) (scope_of m) m.items
+
+-- wrong sizes before wrong names
+abbrev pub first_in : Option ℕ → Option ℕ → Option Wrong
+first_in (Some at) name = Some (Size at)
+first_in None (Some at) = Some (Name at)
+first_in None None = None
+
+abbrev pub first_of : Walk → Option Wrong
+first_of w = first_in w.size w.name
+
+abbrev pub wrong_of : RawModule → Option Wrong
+wrong_of m = first_of (module_walk m start)

@@ -1,0 +1,10 @@
+pub mod Written
+pub mod Resolved
+pub mod Scope
+pub mod Walking
+pub mod Parts
+pub mod Seen
+pub mod Lines
+pub mod Blocks
+pub mod First
+pub mod Returned

@@ -1,0 +1,145 @@
+//! What is wrong first in a module.
+ghost use Rattle.std.specs.Prelude.{◌≡◌, ◌+◌, [], length, IfOk, OnOk};
+ghost use Rattle.scc_svtext.specs.Pieces.{spelled};
+ghost use Rattle.scc_svread.specs.Blocks as blocks;
+ghost use Rattle.scc_svread.specs.First as firsts;
+ghost use Rattle.scc_svread.specs.Scope.{declare, declare_all};
+
+use crate::block::{block, dir_bytes, var};
+use crate::leaf::{pass_both, spelling};
+use crate::scope::Scope;
+use crate::walk::{START, Walk};
+use crate::wrong::Wrong;
+use scc_base::{NoMemory, Text};
+use scc_svraw::{RawItem, RawModule, RawVar};
+use std::alloc::Global;
+
+// A variable, which is declared then.
+fn declared(names: &mut Scope, v: &RawVar, w: Walk) -> Result<Walk, NoMemory>
+    ensures walk { IfOk result (λ u. u ≡ blocks.var_walk names.old v.now w) }
+    ensures names { OnOk result (names.new ≡ declare names.old v.now) }
+{
+    let end = var(names, v, w);
+    names.declare(v)?;
+    Ok(end)
+}
+
+// Ports behind a first one.
+fn further(names: &mut Scope, list: &[RawVar], w: Walk) -> Result<Walk, NoMemory>
+    ensures walk { IfOk result (λ u. u ≡ firsts.further_ports names.old list.now w) }
+    ensures names { OnOk result (names.new ≡ declare_all names.old list.now) }
+{
+    let mut walk = w;
+    for v in list {
+        walk = declared(names, v, pass_both(walk, 2, dir_bytes(v.dir)))?;
+    }
+    Ok(walk)
+}
+
+fn ports(names: &mut Scope, list: &[RawVar], w: Walk) -> Result<Walk, NoMemory>
+    ensures walk { IfOk result (λ u. u ≡ firsts.ports_walk names.old list.now w) }
+    ensures names { OnOk result (names.new ≡ declare_all names.old list.now) }
+{
+    match list {
+        [] => Ok(w.pass(0)),
+        [v, more @ ..] => {
+            let first = declared(names, v, w.pass(dir_bytes(v.dir)))?;
+            Ok(further(names, more, first)?.pass(1))
+        }
+    }
+}
+
+fn item(
+    alloc: Global,
+    names: &mut Scope,
+    scope: &Scope,
+    i: &RawItem,
+    w: Walk,
+) -> Result<Walk, NoMemory>
+    ensures walk { IfOk result (λ u. u ≡ firsts.item_walk names.old scope.now i.now w) }
+    ensures names { OnOk result (names.new ≡ firsts.item_names names.old i.now) }
+{
+    match i {
+        RawItem::Var(v) => Ok(declared(names, v, w.pass(8))?.pass(2)),
+        RawItem::Block(b) => block(alloc, scope, b, w),
+    }
+}
+
+// Declarations and blocks.
+fn items(
+    alloc: Global,
+    names: &mut Scope,
+    scope: &Scope,
+    list: &[RawItem],
+    w: Walk,
+) -> Result<Walk, NoMemory>
+    ensures { IfOk result (λ u. u ≡ firsts.items_walk names.old scope.now list.now w) }
+{
+    let mut walk = w;
+    for i in list {
+        walk = item(alloc, names, scope, i, walk)?;
+    }
+    Ok(walk)
+}
+
+fn declare_ports(names: &mut Scope, list: &[RawVar]) -> Result<(), NoMemory>
+    ensures { OnOk result (names.new ≡ declare_all names.old list.now) }
+{
+    for v in list {
+        names.declare(v)?;
+    }
+    Ok(())
+}
+
+fn declare_item(names: &mut Scope, i: &RawItem) -> Result<(), NoMemory>
+    ensures { OnOk result (names.new ≡ firsts.item_names names.old i.now) }
+{
+    match i {
+        RawItem::Var(v) => names.declare(v),
+        RawItem::Block(_) => Ok(()),
+    }
+}
+
+fn declare_items(names: &mut Scope, list: &[RawItem]) -> Result<(), NoMemory>
+    ensures { OnOk result (names.new ≡ firsts.names_with names.old list.now) }
+{
+    for i in list {
+        declare_item(names, i)?;
+    }
+    Ok(())
+}
+
+// The names of a module.
+fn scope_of(alloc: Global, m: &RawModule) -> Result<Scope, NoMemory>
+    ensures { IfOk result (λ s. s ≡ firsts.scope_of m.now) }
+{
+    let mut names = Scope::new(alloc);
+    declare_ports(&mut names, m.ports.as_slice())?;
+    declare_items(&mut names, m.items.as_slice())?;
+    Ok(names)
+}
+
+// The wrong size before the wrong name.
+fn first_of(w: Walk) -> Option<Wrong>
+    ensures { result ≡ firsts.first_of w }
+{
+    match (w.size, w.name) {
+        (Some(at), _) => Some(Wrong::Size(at)),
+        (None, Some(at)) => Some(Wrong::Name(at)),
+        (None, None) => None,
+    }
+}
+
+/// What is wrong first in a module as it is written: a wrong size, by its place in the text, or where no size is wrong, a name that is
+/// not declared or was declared before (IEEE 1800-2017, sections 5.7.1, 6.24.1, 11.4.12, 11.5.1, 11.6.1 and 23.9). The only error is
+/// want of memory.
+pub fn first_wrong(alloc: Global, m: &RawModule) -> Result<Option<Wrong>, NoMemory>
+    ensures wrong { IfOk result (λ r. r ≡ firsts.wrong_of m.now) }
+{
+    let scope = scope_of(alloc, m)?;
+    let mut names = Scope::new(alloc);
+    let start = spelling(&m.name, START.pass(7)).pass(3);
+    let behind = ports(&mut names, m.ports.as_slice(), start)?.pass(3);
+    let end = items(alloc, &mut names, &scope, m.items.as_slice(), behind)?;
+    Ok(first_of(end))
+}

@@ -1,0 +1,24 @@
+//! Laws of reading emitted texts, each the clause of a function that does nothing.
+ghost use Rattle.std.specs.Prelude.{◌≡◌, ℕ, Bool, List};
+ghost use Rattle.scc_svtree.specs.declared.module.SvModule.{SvModule};
+ghost use Rattle.scc_svtree.specs.Sound.{IsSound};
+ghost use Rattle.scc_svtext.specs.ModuleText.{module_text};
+ghost use Rattle.scc_svtext.specs.Emitted.{SvReads};
+ghost use Rattle.scc_svraw.specs.Grammar.{Reads};
+ghost use Rattle.scc_svread.specs.Written.{raw_of};
+ghost use Rattle.scc_svread.specs.Resolved.{module_of};
+
+/// The grammar reads the text of a module without faults as that module is written.
+pub fn a_module_is_read_as_it_is_written()
+    ensures { (many : Bool) (m : SvModule) → IsSound many m → Reads (module_text m) (raw_of m) }
+{}
+
+/// What is written says which module it is: its names stand for one variable each, and its digits for one number.
+pub fn what_is_written_says_which_module()
+    ensures { (many : Bool) (m : SvModule) → IsSound many m → module_of (raw_of m) ≡ m }
+{}
+
+/// No bytes are the text of two modules without faults.
+pub fn a_text_is_one_module()
+    ensures { (many : Bool) (bytes : List ℕ) (m n : SvModule) → SvReads many bytes m → SvReads many bytes n → m ≡ n }
+{}

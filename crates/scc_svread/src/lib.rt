@@ -1,0 +1,28 @@
+//! Emitted text as the module that it says, and what is wrong in it (IEEE 1800-2017).
+#![tactic(auto)]
+
+mod block;
+mod expr;
+mod first;
+mod labels;
+mod laws;
+mod leaf;
+mod module;
+mod names;
+mod number;
+mod scope;
+mod stmt;
+#[cfg(test)]
+mod tests;
+mod tree;
+mod walk;
+mod written;
+mod wrong;
+
+pub use first::first_wrong;
+pub use laws::{
+    a_module_is_read_as_it_is_written, a_text_is_one_module, what_is_written_says_which_module,
+};
+pub use module::module_of;
+pub use written::read_written;
+pub use wrong::Wrong;

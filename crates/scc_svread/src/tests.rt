@@ -1,0 +1,451 @@
+//! What is wrong first in texts, most of which have one thing wrong.
+use crate::{Wrong, first_wrong, module_of, read_written};
+use scc_base::{NoMemory, Text};
+use scc_svraw::read_raw;
+use scc_svtext::print;
+use std::alloc::Global;
+
+const RESET: &str = "module R (
+  input logic clk,
+  input logic rst,
+  output logic [7:0] q
+);
+  logic [7:0] q$$n;
+  logic \\output ;
+  always_comb begin
+    q$$n = q;
+    \\output  = 1'h0;
+    case (q[1:0])
+      2'h0: begin
+        q$$n = ((q < 8'h07) ? (q + 8'h01) : {q[7], 7'h00});
+      end
+      2'h1: begin
+      end
+    endcase
+    if ((!rst)) begin
+      q$$n[3] = 1'((q >>> 2'h2));
+    end else begin
+      q$$n = $unsigned(($signed(q) / $signed(8'h03)));
+    end
+  end
+  always_ff @(posedge clk or negedge rst) begin
+    if ((!rst)) begin
+      q <= 8'h05;
+    end else begin
+      q <= q$$n;
+    end
+  end
+endmodule
+";
+
+const AND: &str = "module And (
+  input logic [7:0] a,
+  input logic [7:0] b,
+  output logic [7:0] y
+);
+  always_comb begin
+    y = 8'h00;
+    y = 8'((64'(a) & 64'(b)));
+  end
+endmodule
+";
+
+const COUNT: &str = "module Count (
+  input logic clk,
+  input logic rst,
+  output logic [7:0] q
+);
+  logic [7:0] q$$n;
+  logic [7:0] n;
+  logic [7:0] n$$n;
+  logic run$$state;
+  logic run$$state$$n;
+  always_comb begin
+    q$$n = q;
+    n$$n = n;
+    run$$state$$n = run$$state;
+    if (rst) begin
+      n$$n = 8'h00;
+      q$$n = 8'h00;
+      run$$state$$n = 1'h0;
+    end else begin
+      case (run$$state)
+        1'h0: begin
+          n$$n = 8'((64'(n$$n) + 64'h0000000000000001));
+          q$$n = n$$n;
+          run$$state$$n = 1'h1;
+        end
+        1'h1: begin
+          n$$n = 8'((64'(n$$n) + 64'h0000000000000001));
+          q$$n = n$$n;
+          run$$state$$n = 1'h1;
+        end
+      endcase
+    end
+  end
+  always_ff @(posedge clk) begin
+    q <= q$$n;
+    n <= n$$n;
+    run$$state <= run$$state$$n;
+  end
+endmodule
+";
+
+const WORD: &str = "module R (
+  output logic \\output ,
+  input logic a_,
+  input logic _a
+);
+  always_comb begin
+    \\output  = 1'h0;
+    \\output  = (32'(a_) != 32'(_a));
+  end
+endmodule
+";
+
+const ARRAY: &str = "module M (
+  input logic [1:0] i$$n,
+  input logic [7:0] m$0$$n,
+  input logic [7:0] m$1$$n,
+  input logic [7:0] m$2$$n,
+  output logic [7:0] y
+);
+  always_comb begin
+    y = ((i$$n < 2'h3) ? ((i$$n < 2'h1) ? m$0$$n : ((i$$n < 2'h2) ? m$1$$n : m$2$$n)) : 8'h00);
+  end
+endmodule
+";
+
+const EDGE: &str = "module R (
+  input logic clk,
+  input logic rst,
+  output logic [7:0] q
+);
+  logic [7:0] q$$n;
+  logic run$$state;
+  logic run$$state$$n;
+  always_ff @(posedge clk or posedge rst) begin
+    if (rst) begin
+      q <= 8'h05;
+      run$$state <= 1'h0;
+    end else begin
+      q <= q$$n;
+      run$$state <= run$$state$$n;
+    end
+  end
+endmodule
+";
+
+// What stands before a statement, and behind it.
+const HEAD: &str = "module M (
+  input logic s,
+  input logic [7:0] a,
+  output logic [7:0] q
+);
+  logic [127:0] w;
+  always_comb begin
+";
+
+const TAIL: &str = "  end
+endmodule
+";
+
+// What stands before a block, and behind it.
+const PORTS: &str = "module M (
+  input logic clk,
+  input logic rst,
+  input logic [7:0] a,
+  output logic [7:0] q
+);
+";
+
+const END: &str = "endmodule
+";
+
+fn text(alloc: Global, parts: &[&str]) -> Result<Text, NoMemory> {
+    let mut t = Text::new(alloc);
+    for part in parts {
+        t.push_bytes(part.as_bytes())?;
+    }
+    Ok(t)
+}
+
+// What is found in a text that is read.
+fn found(alloc: Global, parts: &[&str]) -> Result<Option<Wrong>, NoMemory> {
+    let source = text(alloc, parts)?;
+    match read_raw(alloc, source.bytes()) {
+        Ok(m) => first_wrong(alloc, &m),
+        Err(_) => Err(NoMemory),
+    }
+}
+
+// Whether a wrong size, or else a wrong name, stands behind the first of these.
+fn stands(alloc: Global, size: bool, front: &[&str], rest: &[&str]) -> Result<bool, NoMemory> {
+    let at = text(alloc, front)?.bytes().len();
+    let wrong = if size {
+        Wrong::Size(at)
+    } else {
+        Wrong::Name(at)
+    };
+    let mut whole = text(alloc, front)?;
+    whole.push_bytes(text(alloc, rest)?.bytes())?;
+    match read_raw(alloc, whole.bytes()) {
+        Ok(m) => Ok(first_wrong(alloc, &m)? == Some(wrong)),
+        Err(_) => Ok(false),
+    }
+}
+
+#[test]
+fn nothing_is_wrong(rt: HostRuntime) -> Result<(), NoMemory> {
+    let rows: &[(&str, &str)] = &[
+        ("    q = 8'hff;\n", ""),
+        ("    q = a[7:0];\n", ""),
+        ("    q = {a[3:0], {s, a[2:1], s}};\n", ""),
+        ("    w = 128'hffffffffffffffffffffffffffffffff;\n", ""),
+        ("    q = (a / $signed(8'h01));\n", ""),
+        ("    q = 8'((a << 100'h0000000000000000000000000));\n", ""),
+        ("    w[127] = (&{w[126:0], s});\n", ""),
+    ];
+    assert!(rt; found(rt.alloc(), &[RESET])?.is_none());
+    for (statement, more) in rows {
+        assert!(rt; found(rt.alloc(), &[HEAD, statement, more, TAIL])?.is_none());
+    }
+    Ok(())
+}
+
+#[test]
+fn sizes_in_statements(rt: HostRuntime) -> Result<(), NoMemory> {
+    let rows: &[(&str, &str)] = &[
+        ("    q = ", "0'h;\n"),
+        ("    q = ", "129'h000000000000000000000000000000000;\n"),
+        ("    q = ", "3'h8;\n"),
+        ("    q = (a + ", "1'h2);\n"),
+        ("    q = (a / ", "8'h00);\n"),
+        ("    q = (a % ", "$signed(8'h00));\n"),
+        ("    q = (a[0] ? (s / ", "1'h0) : a);\n"),
+        ("    q = ", "a[8];\n"),
+        ("    q = ", "a[8:0];\n"),
+        ("    q = ", "a[3:3];\n"),
+        ("    q = ", "a[2:3];\n"),
+        ("    q = ", "s[0];\n"),
+        ("    q = (~", "a[9]);\n"),
+        ("    q = ", "0'(a);\n"),
+        ("    q = ", "129'(a);\n"),
+        ("    q = 8'(", "0'(a));\n"),
+        ("    q = ", "{a, w};\n"),
+        ("    q = {a, ", "0'(s)};\n"),
+        ("    q = ", "(a + 200'(s));\n"),
+        ("    q = (a == ", "200'(s));\n"),
+        ("    q = ", "(~{w, s});\n"),
+        ("    q = (!", "{w, s});\n"),
+        ("    q = ", "(s ? a : {s, w});\n"),
+        ("    q = (", "{w, s} ? a : s);\n"),
+        ("    q = ", "({w, s} >> a);\n"),
+        ("    q = (a >> ", "{w, s});\n"),
+        ("    q = $signed(", "a[8]);\n"),
+        ("    q = (x + ", "a[8]);\n"),
+        ("    ", "a[8] = s;\n"),
+        ("    ", "q[7:7] = a;\n"),
+        ("    if (", "a[8]) begin\n    end\n"),
+        ("    if (s) begin\n      q = ", "a[8];\n    end\n"),
+        (
+            "    if (s) begin\n    end else begin\n      q = ",
+            "a[8];\n    end\n",
+        ),
+        (
+            "    case (a)\n      ",
+            "7'h00: begin\n      end\n    endcase\n",
+        ),
+        (
+            "    case (a)\n      8'h01: begin\n      end\n      8'h00: begin\n      end\n      ",
+            "8'h01: begin\n      end\n    endcase\n",
+        ),
+        (
+            "    case ((x + a))\n      7'h00: begin\n      end\n      ",
+            "7'h00: begin\n      end\n    endcase\n",
+        ),
+        (
+            "    case (a)\n      8'h00: begin\n        q = ",
+            "a[8];\n      end\n    endcase\n",
+        ),
+    ];
+    for (front, rest) in rows {
+        assert!(rt; stands(rt.alloc(), true, &[HEAD, front], &[rest, TAIL])?);
+    }
+    Ok(())
+}
+
+#[test]
+fn names_in_statements(rt: HostRuntime) -> Result<(), NoMemory> {
+    let rows: &[(&str, &str)] = &[
+        ("    q = ", "x;\n"),
+        ("    q = ", "x[200];\n"),
+        ("    q = (a + ", "x);\n"),
+        ("    q = {", "x, w};\n"),
+        ("    q = {a, ", "M};\n"),
+        ("    q = $signed(", "x);\n"),
+        ("    q = (s ? a : ", "x);\n"),
+        ("    q = ", "\\begin ;\n"),
+        ("    ", "x = a;\n"),
+        ("    ", "x[1] = y;\n"),
+        ("    if (", "x) begin\n      y = z;\n    end\n"),
+        (
+            "    case (",
+            "x)\n      7'h00: begin\n      end\n      8'h00: begin\n      end\n    endcase\n",
+        ),
+        (
+            "    case (a)\n      8'h00: begin\n        ",
+            "x = a;\n      end\n    endcase\n",
+        ),
+    ];
+    for (front, rest) in rows {
+        assert!(rt; stands(rt.alloc(), false, &[HEAD, front], &[rest, TAIL])?);
+    }
+    Ok(())
+}
+
+#[test]
+fn blocks_at_edges(rt: HostRuntime) -> Result<(), NoMemory> {
+    let rows: &[(bool, &str, &str)] = &[
+        (
+            true,
+            "  always_ff @(posedge clk) begin\n    q <= ",
+            "a[8];\n  end\n",
+        ),
+        (
+            false,
+            "  always_ff @(posedge ",
+            "x) begin\n    y <= z;\n  end\n",
+        ),
+        (
+            false,
+            "  always_ff @(negedge clk) begin\n    ",
+            "x <= a;\n  end\n",
+        ),
+        (
+            false,
+            "  always_ff @(negedge clk) begin\n    q <= a;\n    q <= ",
+            "x;\n  end\n",
+        ),
+        (
+            false,
+            "  always_ff @(posedge clk or negedge ",
+            "x) begin\n    if ((!y)) begin\n    end else begin\n    end\n  end\n",
+        ),
+        (
+            false,
+            "  always_ff @(posedge clk or negedge rst) begin\n    if ((!",
+            "x)) begin\n    end else begin\n    end\n  end\n",
+        ),
+        (
+            false,
+            "  always_ff @(posedge clk or posedge rst) begin\n    if (",
+            "x) begin\n    end else begin\n    end\n  end\n",
+        ),
+        (
+            false,
+            "  always_ff @(posedge clk or posedge rst) begin\n    if (rst) begin\n      ",
+            "x <= 8'h00;\n    end else begin\n    end\n  end\n",
+        ),
+        (
+            true,
+            "  always_ff @(posedge clk or posedge rst) begin\n    if (rst) begin\n      q <= ",
+            "7'h00;\n    end else begin\n      q <= a;\n    end\n  end\n",
+        ),
+        (
+            true,
+            "  always_ff @(posedge clk or posedge rst) begin\n    if (rst) begin\n      clk <= ",
+            "1'h2;\n    end else begin\n      q <= a;\n    end\n  end\n",
+        ),
+        (
+            true,
+            "  always_ff @(posedge clk or negedge rst) begin\n    if ((!rst)) begin\n      q <= 8'h00;\n    end else begin\n      q <= {",
+            "a[9], a};\n    end\n  end\n",
+        ),
+    ];
+    for (size, front, rest) in rows {
+        assert!(rt; stands(rt.alloc(), *size, &[PORTS, front], &[rest, END])?);
+    }
+    Ok(())
+}
+
+#[test]
+fn declarations(rt: HostRuntime) -> Result<(), NoMemory> {
+    let rows: &[(bool, &str, &str)] = &[
+        (
+            true,
+            "module M (\n  input logic ",
+            "[128:0] a\n);\nendmodule\n",
+        ),
+        (
+            true,
+            "module M (\n  input logic a,\n  output logic ",
+            "[340282366920938463463374607431768211456:0] b\n);\nendmodule\n",
+        ),
+        (
+            true,
+            "module \\module  (\n);\n  logic ",
+            "[128:0] a;\nendmodule\n",
+        ),
+        (
+            false,
+            "module M (\n  input logic a,\n  output logic ",
+            "a\n);\nendmodule\n",
+        ),
+        (
+            false,
+            "module M (\n  input logic a,\n  output logic [7:0] ",
+            "a\n);\n  logic a;\nendmodule\n",
+        ),
+        (
+            false,
+            "module M (\n  input logic a\n);\n  logic b;\n  logic [7:0] ",
+            "a;\nendmodule\n",
+        ),
+        // with a name that is declared twice no select is wrong
+        (
+            false,
+            "module M (\n  input logic a,\n  input logic ",
+            "a\n);\n  always_comb begin\n    a[9] = a[8];\n  end\nendmodule\n",
+        ),
+    ];
+    for (size, front, rest) in rows {
+        assert!(rt; stands(rt.alloc(), *size, &[front], &[rest])?);
+    }
+    Ok(())
+}
+
+#[test]
+fn texts_come_back(rt: HostRuntime) -> Result<(), NoMemory> {
+    let rows: &[&str] = &[AND, COUNT, WORD, ARRAY, EDGE, RESET];
+    for row in rows {
+        match read_written(rt.alloc(), row.as_bytes()) {
+            Ok(m) => {
+                let printed = print(rt.alloc(), &m)?;
+                assert!(rt; printed.bytes() == row.as_bytes());
+            }
+            Err(_) => assert!(rt; false),
+        }
+    }
+    Ok(())
+}
+
+#[test]
+fn names_become_numbers(rt: HostRuntime) -> Result<(), NoMemory> {
+    match read_raw(rt.alloc(), COUNT.as_bytes()) {
+        Ok(raw) => {
+            let m = module_of(rt.alloc(), &raw)?;
+            assert_eq!(rt; m.vars.len(), 8);
+            assert_eq!(rt; m.blocks.len(), 2);
+            match m.vars.get(3) {
+                Some(v) => {
+                    assert_eq!(rt; v.width, 8);
+                    assert!(rt; v.name.bytes() == b"q$$n".as_slice());
+                }
+                None => assert!(rt; false),
+            }
+        }
+        Err(_) => assert!(rt; false),
+    }
+    Ok(())
+}

@@ -1,0 +1,8 @@
+/// What is wrong in a module as it is written, with the number of bytes before it.
+#[derive(Clone, Copy, Debug, PartialEq, Eq)]
+pub enum Wrong {
+    /// A width, a cast, a length, a literal, a divisor, a select or a label.
+    Size(usize),
+    /// A name that is not declared, or that was declared before.
+    Name(usize),
+}
