@@ -1,57 +1,158 @@
--- The answer over a file is that of its bytes.
-use Rattle.std.proofs.Common.{◌≡◌, ◌≢◌, ℕ, true, false, cond, List, length, Option, Some, None, Result, Ok, Err, ap, refl, sym, ◌∙◌, ◌==◌, String}
-use Rattle.std.proofs.lemmas.Bool.{ne_eqb}
+-- What a command comes to, by what joining gives.
+use Rattle.std.proofs.Common.{◌≡◌, ℕ, Bool, true, false, List, drop, map, Option, Some, None, Result, Ok, Err, ap, refl, sym, ◌∙◌, subst, String}
+use Rattle.std.specs.Prelude.{string_bytes, option_map, take}
 use Rattle.std.specs.declared.alloc.Global.{Global}
-use Rattle.scc_base.specs.Outside.{Shelf, Told, HoldsFirst}
-use Rattle.scc_base.specs.declared.code.Code.TheVariants.{NotYet}
+use Rattle.scc_base.specs.Names.{fixed_names}
+use Rattle.scc_base.specs.Outside.{Shelf, Told, Rose}
+use Rattle.scc_base.specs.declared.code.Code.{Code}
+use Rattle.scc_base.specs.declared.refusal.Place.{Place}
+use Rattle.scc_base.specs.declared.refusal.Refusal.{Refusal}
+use Rattle.scc_base.specs.declared.refusal.Stop.TheVariants as stop
+use Rattle.scc_tokens.specs.declared.file.Source.{Source}
+use Rattle.scc_tokens.specs.declared.joining.Joined.{Joined}
+use Rattle.scc_tokens.specs.declared.joining.JoinFault.{JoinFault}
+use Rattle.scc_tokens.specs.declared.joining.JoinFault.TheVariants as fault
+use Rattle.scc_tokens.specs.Files.{HoldsAll, ToldAll, first_part}
+use Rattle.scc_tokens.specs.Join.{join_of, JoinSays, Somewhere}
+use Rattle.scc_tokens.specs.Steps as join
+use Rattle.scc_drive.specs.declared.design.Design.{Design}
+use Rattle.scc_drive.specs.declared.spots.Spot.{Spot}
 use Rattle.scc_drive.specs.declared.stopped.Stopped.{Stopped}
-use Rattle.scc_drive.specs.declared.stopped.Stopped.TheVariants.{BadWords, Refused, Missing, Failed, NoMemory}
-use Rattle.scc_drive.specs.Answer.{Compiles, Answers, bad, refusal, absent, outcome_of, outcome_of_file, outcome_of_bytes}
-use Rattle.scc_drive.specs.Thin.{refusal_of}
+use Rattle.scc_drive.specs.declared.stopped.Stopped.TheVariants as stopped
+use Rattle.scc_drive.specs.Answer.{Outcome, bad, refusal, absent, compiles, first_place, outcome_of_design, JoinedComes, reads, faulty, FoundComes, FilesCome, ComesBy, roots_of, Comes, Compiles, Stops, Answers}
+use Rattle.scc_drive.specs.Spots.{spot_of}
+use Rattle.scc_drive.specs.Thin.{thin_of}
 use Rattle.scc_drive.specs.Words.{word_at, are_words}
-use Rattle.scc_drive.proofs.Refusals.{whole, short_of, refusal-take}
+use Rattle.scc_drive.specs.Identifiers.{AreIdentifiers}
+use Rattle.scc_drive.proofs.Known.{joined_names}
+use Rattle.scc_drive.proofs.OneVerdict.{not_both, one_fault}
 
--- what a command over one file comes to
-pub one_file : (shelf : Shelf) (words : List (String Global)) → are_words words ≡ true → length words ≡ 3
-    → outcome_of shelf words ≡ outcome_of_file (word_at words 1) (shelf (word_at words 2))
-unfolding outcome_of
-one_file shelf words good three =
-    ap (λ b. cond b (cond (length words == 3) (outcome_of_file (word_at words 1) (shelf (word_at words 2))) (refusal NotYet)) bad) good
-    ∙ ap (λ n. cond (n == 3) (outcome_of_file (word_at words 1) (shelf (word_at words 2))) (refusal NotYet)) three
+pub of_bad : (shelf : Shelf) (words : List (String Global)) → are_words words ≡ false → Comes shelf words bad
+unfolding Comes
+of_bad shelf words e = subst (λ b. ComesBy b shelf words bad) (sym e) refl
 
-pub of_bytes : (shelf : Shelf) (words : List (String Global)) (all : List ℕ) → are_words words ≡ true → length words ≡ 3 → shelf (word_at words 2) ≡ Some all
-    → outcome_of shelf words ≡ outcome_of_bytes (refusal_of (word_at words 1) all) all
-of_bytes shelf words all good three e = one_file shelf words good three ∙ ap (outcome_of_file (word_at words 1)) e
+abbrev is_bad : Outcome → Bool
+is_bad bad = true
+is_bad (refusal code spot) = false
+is_bad (absent name) = false
+is_bad (compiles design) = false
 
-pub of_none : (shelf : Shelf) (words : List (String Global)) → are_words words ≡ true → length words ≡ 3 → shelf (word_at words 2) ≡ None → outcome_of shelf words ≡ absent
-of_none shelf words good three e = one_file shelf words good three ∙ ap (outcome_of_file (word_at words 1)) e
+module _ (top : List ℕ) (names : List (List ℕ)) (sources : List Source) where
+  design_not_bad : (place : Place) (o : Option Design) → is_bad (outcome_of_design sources place o) ≡ false
+  design_not_bad place None = refl
+  design_not_bad place (Some d) = refl
 
-pub answers_file : (words : List (String Global)) (held : Option Shelf) (m m' f f' : ℕ) (bytes : List ℕ) (result : Result (List ℕ) Stopped)
-    → are_words words ≡ true → length words ≡ 3 → Told held (λ shelf. HoldsFirst shelf (word_at words 2) 1048577 bytes)
-    → Compiles (word_at words 1) bytes result → Answers words held m m' f f' result
-answers_file words held m m' f f' bytes (Ok text) good three told made = (
-  good,
-  λ shelf e. let h = told shelf e in let same = whole 1048577 h.0 bytes h.2 (short_of (word_at words 1) bytes made.0) in
-      (bytes, of_bytes shelf words bytes good three (h.1 ∙ ap Some (sym same)) ∙ ap (λ r. outcome_of_bytes r bytes) made.0, made.1),
-)
-answers_file words held m m' f f' bytes (Err (Refused code)) good three told made = (
-  good,
-  (bytes, of_bytes (λ name. Some bytes) words bytes good three refl ∙ ap (λ r. outcome_of_bytes r bytes) made),
-  λ shelf e. let h = told shelf e in
-      of_bytes shelf words h.0 good three h.1 ∙ ap (λ r. outcome_of_bytes r h.0) (sym (refusal-take (word_at words 1) h.0 bytes h.2) ∙ made),
-)
-answers_file words held m m' f f' bytes (Err NoMemory) good three told made = good
-answers_file words held m m' f f' bytes (Err BadWords) good three told made = absurd made
-answers_file words held m m' f f' bytes (Err Missing) good three told made = absurd made
-answers_file words held m m' f f' bytes (Err Failed) good three told made = absurd made
+  joined_not_bad : (j : Joined) (o : Outcome) → JoinedComes top names sources j o → is_bad o ≡ false
+  joined_not_bad j _ (reads file f) = design_not_bad (first_place j.tokens j.end) (thin_of names top j.tokens)
+  joined_not_bad j _ (faulty code place f) = refl
 
-pub of_many : (shelf : Shelf) (words : List (String Global)) → are_words words ≡ true → length words ≢ 3 → outcome_of shelf words ≡ refusal NotYet
-unfolding outcome_of
-of_many shelf words good many =
-    ap (λ b. cond b (cond (length words == 3) (outcome_of_file (word_at words 1) (shelf (word_at words 2))) (refusal NotYet)) bad) good
-    ∙ ap (λ b. cond b (outcome_of_file (word_at words 1) (shelf (word_at words 2))) (refusal NotYet)) (ne_eqb (length words) 3 many)
+  found_not_bad : (r : Result Joined join.Stopped) (o : Outcome) → FoundComes top names sources r o → is_bad o ≡ false
+  found_not_bad (Ok j) o c = joined_not_bad j o c
+  found_not_bad (Err (join.Refuses code place)) o c = ap is_bad c
+  found_not_bad (Err (join.Absent name)) o c = ap is_bad c
 
-pub of_bad : (shelf : Shelf) (words : List (String Global)) → are_words words ≡ false → outcome_of shelf words ≡ bad
-unfolding outcome_of
-of_bad shelf words e =
-    ap (λ b. cond b (cond (length words == 3) (outcome_of_file (word_at words 1) (shelf (word_at words 2))) (refusal NotYet)) bad) e
+  -- what joined tokens come to is one
+  joined_one : (j : Joined) (o o' : Outcome) → JoinedComes top names sources j o → JoinedComes top names sources j o' → o ≡ o'
+  joined_one j _ _ (reads file f) (reads file' f') = refl
+  joined_one j _ _ (reads file f) (faulty code place g) = absurd (not_both j file code place f g)
+  joined_one j _ _ (faulty code place g) (reads file f) = absurd (not_both j file code place f g)
+  joined_one j _ _ (faulty code place f) (faulty code' place' g) =
+      let same = one_fault j code code' place place' f g in
+      ap (λ c. refusal c (spot_of sources place)) same.0 ∙ ap (λ p. refusal code' (spot_of sources p)) same.1
+
+  found_one : (r : Result Joined join.Stopped) (o o' : Outcome) → FoundComes top names sources r o → FoundComes top names sources r o' → o ≡ o'
+  found_one (Ok j) o o' c c' = joined_one j o o' c c'
+  found_one (Err (join.Refuses code place)) o o' c c' = c ∙ sym c'
+  found_one (Err (join.Absent name)) o o' c c' = c ∙ sym c'
+
+-- what a command comes to is one
+pub one_outcome : (shelf : Shelf) (words : List (String Global)) (o o' : Outcome) → Comes shelf words o → Comes shelf words o' → o ≡ o'
+unfolding Comes
+one_outcome shelf words o o' c c' = by_words (are_words words) c c'
+  where
+    by_words : (b : Bool) → ComesBy b shelf words o → ComesBy b shelf words o' → o ≡ o'
+    by_words false p q = p ∙ sym q
+    by_words true p q =
+        let found = join_of (first_part shelf) fixed_names (roots_of words) in
+        found_one (word_at words 1) found.0 found.1 found.2 o o' p q
+
+-- good words come to something else
+pub good_words : (shelf : Shelf) (words : List (String Global)) → are_words words ≡ true → Comes shelf words bad → ⊥
+unfolding Comes
+good_words shelf words good c =
+    let found = join_of (first_part shelf) fixed_names (roots_of words) in
+    let e : is_bad bad ≡ false = found_not_bad (word_at words 1) found.0 found.1 found.2 bad (subst (λ b. ComesBy b shelf words bad) good c) in cc
+
+-- what the words name is joined so wherever the names hold what was read
+abbrev pub Said : List (String Global) → List (List ℕ) → List Source → Result Joined JoinFault → Type 0
+Said words names sources r = (shelf : Shelf) → HoldsAll shelf sources → JoinSays shelf names sources r (join_of shelf fixed_names (roots_of words))
+
+-- the clause of joining, where the names before are the fixed ones
+pub said : (words roots : List (String Global)) (names : List (List ℕ)) (sources : List Source) (r r' : Result Joined JoinFault) (before : List (List ℕ)) → r ≡ r' → before ≡ fixed_names → roots ≡ drop 2 words
+    → ((shelf : Shelf) → HoldsAll shelf sources → JoinSays shelf names sources r (join_of shelf before (map string_bytes roots))) → Said words names sources r'
+said words roots names sources r r' before p q s says shelf holds =
+    subst (λ l. JoinSays shelf names sources r' (join_of shelf fixed_names (map string_bytes l))) s
+    (subst (λ n. JoinSays shelf names sources r' (join_of shelf n (map string_bytes roots))) q
+    (subst (λ r. JoinSays shelf names sources r (join_of shelf before (map string_bytes roots))) p (says shelf holds)))
+
+module _ (words : List (String Global)) (good : are_words words ≡ true) (names : List (List ℕ)) (sources : List Source) where
+  of_files : (shelf : Shelf) (found : Result Joined join.Stopped) (o : Outcome) → join_of (first_part shelf) fixed_names (roots_of words) ≡ (names, sources, found)
+      → FoundComes (word_at words 1) names sources found o → Comes shelf words o
+  unfolding Comes
+  of_files shelf found o e c = subst (λ b. ComesBy b shelf words o) (sym good) (subst (λ f. FilesCome (word_at words 1) f o) (sym e) c)
+
+  pub of_joined : (shelf : Shelf) (j : Joined) (o : Outcome) → Said words names sources (Ok j) → HoldsAll (first_part shelf) sources → JoinedComes (word_at words 1) names sources j o
+      → Comes shelf words o
+  of_joined shelf j o says holds c = of_files shelf (Ok j) o (says (first_part shelf) holds) c
+
+  first_none : (shelf : Shelf) (n : List ℕ) → shelf n ≡ None → first_part shelf n ≡ None
+  first_none shelf n e = ap (option_map (take 1048577)) e
+
+  may_miss : (shelf : Shelf) (n : List ℕ) → (first_part shelf n ≡ None → join_of (first_part shelf) fixed_names (roots_of words) ≡ (names, sources, Err (join.Absent n))) → shelf n ≡ None
+      → Comes shelf words (absent n)
+  may_miss shelf n says e = of_files shelf (Err (join.Absent n)) (absent n) (says (first_none shelf n e)) refl
+
+  -- the answers of a command, by those of joining
+  pub answers_joined : (held : Option Shelf) (m m' f f' : ℕ) (j : Joined) (r : Result (List ℕ) Stopped) → Said words names sources (Ok j) → ToldAll held sources
+      → Somewhere sources (Ok j) → Compiles (word_at words 1) names sources j r → Answers words held m m' f f' r
+  answers_joined held m m' f f' j (Ok text) says told some made =
+      (good, λ shelf e. record { design = made.0; denotes = of_joined shelf j (compiles made.0) says (told shelf e) made.1; is = made.2 })
+  answers_joined held m m' f f' j (Err (stopped.Refused code spot)) says told some made =
+      (good, (some.0, of_joined some.0 j (refusal code spot) says some.1 made), λ shelf e. of_joined shelf j (refusal code spot) says (told shelf e) made)
+  answers_joined held m m' f f' j (Err stopped.NoMemory) says told some made = good
+  answers_joined held m m' f f' j (Err stopped.BadWords) says told some made = absurd made
+  answers_joined held m m' f f' j (Err (stopped.Missing n)) says told some made = absurd made
+  answers_joined held m m' f f' j (Err (stopped.Failed n)) says told some made = absurd made
+
+  same_refusal : (shelf : Shelf) (x : Refusal) (code : Code) (spot : Spot) → Said words names sources (Err (fault.Stop (stop.Refused x))) → HoldsAll (first_part shelf) sources
+      → code ≡ x.code → spot ≡ spot_of sources x.place → Comes shelf words (refusal code spot)
+  same_refusal shelf x code spot says holds p q =
+      of_files shelf (Err (join.Refuses x.code x.place)) (refusal code spot) (says (first_part shelf) holds).0 (ap (refusal code) q ∙ ap (λ c. refusal c (spot_of sources x.place)) p)
+
+  pub answers_refused : (held : Option Shelf) (m m' f f' : ℕ) (x : Refusal) (s : Stopped) → Said words names sources (Err (fault.Stop (stop.Refused x))) → ToldAll held sources
+      → Somewhere sources (Err (fault.Stop (stop.Refused x))) → Stops sources x.place x.code s → Answers words held m m' f f' (Err s)
+  answers_refused held m m' f f' x (stopped.Refused code spot) says told some h =
+      (good, (some.0, same_refusal some.0 x code spot says some.1 h.0 h.1), λ shelf e. same_refusal shelf x code spot says (told shelf e) h.0 h.1)
+  answers_refused held m m' f f' x stopped.NoMemory says told some h = good
+  answers_refused held m m' f f' x stopped.BadWords says told some h = absurd h
+  answers_refused held m m' f f' x (stopped.Missing n) says told some h = absurd h
+  answers_refused held m m' f f' x (stopped.Failed n) says told some h = absurd h
+
+  pub answers_missing : (held : Option Shelf) (m m' f f' : ℕ) (n : List ℕ) → Said words names sources (Err (fault.Missing n)) → ToldAll held sources
+      → Somewhere sources (Err (fault.Missing n)) → Rose m m' → Told held (λ shelf. shelf n ≡ None) → Answers words held m m' f f' (Err (stopped.Missing n))
+  answers_missing held m m' f f' n says told some rose lacks = (
+    good,
+    rose,
+    (some.0, may_miss some.0 n (says (first_part some.0) some.1) some.2),
+    λ shelf e. may_miss shelf n (says (first_part shelf) (told shelf e)) (lacks shelf e),
+  )
+
+  pub answers_failed : (held : Option Shelf) (m m' f f' : ℕ) (n : List ℕ) → Said words names sources (Err (fault.Failed n))
+      → Somewhere sources (Err (fault.Failed n)) → Rose f f' → Answers words held m m' f f' (Err (stopped.Failed n))
+  answers_failed held m m' f f' n says some rose = (good, rose, (some.0, may_miss some.0 n (says (first_part some.0) some.1) some.2))
+
+-- where files were joined, every name is an identifier
+pub all_identifiers : (words roots : List (String Global)) (names before : List (List ℕ)) (sources : List Source) (j : Joined) → before ≡ fixed_names → roots ≡ drop 2 words
+    → ((shelf : Shelf) → HoldsAll shelf sources → JoinSays shelf names sources (Ok j) (join_of shelf before (map string_bytes roots))) → Somewhere sources (Ok j) → AreIdentifiers names
+all_identifiers words roots names before sources j p q says some =
+    joined_names (first_part some.0) (roots_of words) names sources (Ok j) (said words roots names sources (Ok j) (Ok j) before refl p q says (first_part some.0) some.1)

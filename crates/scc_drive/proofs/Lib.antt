@@ -1,9 +1,10 @@
 pub mod Mapped
-pub mod Scan
 pub mod Halts
 pub mod Items
 pub mod Each
+pub mod Moving
 pub mod Saying
+pub mod OneVerdict
 pub mod Refusals
 pub mod Answering
 pub mod Telling
@@ -17,3 +18,9 @@ pub mod Inputs
 pub mod Theorem
 pub mod Sound
 pub mod Shown
+pub mod Chains
+pub mod Spelt
+pub mod Known
+pub mod Heads
+pub mod Plain
+pub mod Faultless

@@ -1,57 +1,49 @@
--- The first refusal of a file, by its length and its design.
-use Rattle.std.proofs.Common.{◌≡◌, ℕ, ◌<◌, ◌≤◌, false, List, [], ◌++◌, length, take, drop, append-nil, Some, None, ap, refl, sym, ◌∙◌, arith, inl, inr}
-use Rattle.std.proofs.lemmas.Bool.{le-leb, lt-leb}
-use Rattle.std.proofs.lemmas.List.{length-take, take-append-drop}
-use Rattle.std.proofs.lemmas.Bool.Decides.{leb_tells}
-use Rattle.std.proofs.Math.ListN.{drop_of_length-le}
-use Rattle.scc_base.specs.declared.code.Code.TheVariants.{FileTooLong, NotYet}
-use Rattle.scc_drive.specs.declared.design.Design.{Design}
+-- What compiling joined tokens answers, by what they come to.
+use Rattle.std.proofs.Common.{◌≡◌, ℕ, List, Some, None, Ok, Err, ap, refl, sym, subst, ◌∙◌}
+use Rattle.scc_base.specs.declared.code.Code.TheVariants.{NotYet}
 use Rattle.scc_svtext.specs.ModuleText.{module_text}
-use Rattle.scc_drive.specs.Answer.{IsModuleText}
+use Rattle.scc_tokens.specs.declared.file.Source.{Source}
+use Rattle.scc_tokens.specs.declared.joining.Joined.{Joined}
+use Rattle.scc_tree.specs.declared.item.FileTree.{FileTree}
+use Rattle.scc_grammar.specs.Claim.{IsReadFile}
+use Rattle.scc_drive.specs.declared.design.Design.{Design}
+use Rattle.scc_drive.specs.declared.stopped.Stopped.{Stopped}
+use Rattle.scc_drive.specs.declared.stopped.Stopped.TheVariants as stopped
+use Rattle.scc_drive.specs.Answer.{Compiles, Stops, IsRefusedAs, JoinedComes, reads, faulty, refusal, first_place, outcome_of_design}
 use Rattle.scc_drive.specs.Emitted.{module_of}
-use Rattle.scc_drive.specs.Thin.{thin_of, refusal_of, refused}
-use Rattle.scc_drive.proofs.Shown.{thin_shown}
+use Rattle.scc_drive.specs.Identifiers.{AreIdentifiers}
+use Rattle.scc_drive.specs.Spots.{spot_of}
+use Rattle.scc_drive.specs.Thin.{thin_of}
+use Rattle.scc_drive.proofs.Shown.{thin_shown, thin_faultless}
 
-pub too_long : (top bytes : List ℕ) → 1048577 ≤ length bytes → refusal_of top bytes ≡ Some FileTooLong
-unfolding refusal_of
-too_long top bytes h = ap (λ b. refused b (thin_of top bytes)) (le-leb 1048577 (length bytes) h)
+module _ (top : List ℕ) (names : List (List ℕ)) (sources : List Source) (j : Joined) where
+  pub printed : (text : List ℕ) (d : Design) (read : (file : FileTree) × IsReadFile j file) → AreIdentifiers names → thin_of names top j.tokens ≡ Some d → text ≡ module_text (module_of d)
+      → Compiles top names sources j (Ok text)
+  printed text d read h e p = (
+    d,
+    subst (JoinedComes top names sources j) (ap (outcome_of_design sources (first_place j.tokens j.end)) e) (reads read.0 read.1),
+    record {
+      emitted = module_of d;
+      reads = record { sound = thin_faultless names top j.tokens d h e; text = p };
+      matches = record { name = refl; ports = refl };
+      shows = thin_shown names top j.tokens d e;
+    },
+  )
 
-pub not_yet : (top bytes : List ℕ) → length bytes < 1048577 → thin_of top bytes ≡ None → refusal_of top bytes ≡ Some NotYet
-unfolding refusal_of
-not_yet top bytes h e = ap (λ b. refused b (thin_of top bytes)) (lt-leb 1048577 (length bytes) h) ∙ ap (refused false) e
+  pub not_thin : (s : Stopped) (read : (file : FileTree) × IsReadFile j file) → thin_of names top j.tokens ≡ None → Stops sources (first_place j.tokens j.end) NotYet s
+      → Compiles top names sources j (Err s)
+  not_thin (stopped.Refused code spot) read e h =
+      subst (JoinedComes top names sources j)
+      (ap (outcome_of_design sources (first_place j.tokens j.end)) e ∙ ap (λ c. refusal c (spot_of sources (first_place j.tokens j.end))) (sym h.0) ∙ ap (refusal code) (sym h.1))
+      (reads read.0 read.1)
+  not_thin stopped.NoMemory read e h = tt
+  not_thin stopped.BadWords read e h = absurd h
+  not_thin (stopped.Missing name) read e h = absurd h
+  not_thin (stopped.Failed name) read e h = absurd h
 
-pub unrefused : (top bytes : List ℕ) (d : Design) → length bytes < 1048577 → thin_of top bytes ≡ Some d → refusal_of top bytes ≡ None
-unfolding refusal_of
-unrefused top bytes d h e = ap (λ b. refused b (thin_of top bytes)) (lt-leb 1048577 (length bytes) h) ∙ ap (refused false) e
-
-pub whole : (limit : ℕ) (all bytes : List ℕ) → bytes ≡ take limit all → length bytes < limit → bytes ≡ all
-whole limit all bytes e h =
-    let none : drop limit all ≡ [] = drop_of_length-le all (omega (arith, ap length e, length-take limit all)) in
-    e ∙ sym (append-nil (take limit all)) ∙ ap (λ l. take limit all ++ l) (sym none) ∙ take-append-drop limit all
-
-pub short_of : (top bytes : List ℕ) → refusal_of top bytes ≡ None → length bytes < 1048577
-unfolding refusal_of
-short_of top bytes e = elim (leb_tells 1048577 (length bytes)) [
-  | inl p ↦ (let f : Some FileTooLong ≡ None = sym (ap (λ b. refused b (thin_of top bytes)) p.0) ∙ e in cc)
-  | inr p ↦ p.1
-]
-
-pub refusal-take : (top all bytes : List ℕ) → bytes ≡ take 1048577 all → refusal_of top bytes ≡ refusal_of top all
-refusal-take top all bytes e = elim (leb_tells 1048577 (length bytes)) [
-  | inl p ↦ too_long top bytes p.1 ∙ sym (too_long top all (omega (arith, p.1, ap length e, length-take 1048577 all)))
-  | inr p ↦ ap (refusal_of top) (whole 1048577 all bytes e p.1)
-]
-
-pub printed : (top bytes text : List ℕ) (d : Design) → length bytes < 1048577 → thin_of top bytes ≡ Some d → text ≡ module_text (module_of d)
-    → (refusal_of top bytes ≡ None) × IsModuleText top bytes text
-printed top bytes text d h e p = (
-  unrefused top bytes d h e,
-  record {
-    design = d;
-    denotes = e;
-    emitted = module_of d;
-    reads = p;
-    matches = record { name = refl; ports = refl };
-    shows = thin_shown top bytes d e;
-  },
-)
+  pub refused_as : (s : Stopped) → IsRefusedAs sources j s → Compiles top names sources j (Err s)
+  refused_as (stopped.Refused code spot) h = subst (λ at. JoinedComes top names sources j (refusal code at)) (sym h.2) (faulty code h.0 h.1)
+  refused_as stopped.NoMemory h = tt
+  refused_as stopped.BadWords h = absurd h
+  refused_as (stopped.Missing name) h = absurd h
+  refused_as (stopped.Failed name) h = absurd h

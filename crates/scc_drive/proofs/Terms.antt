@@ -14,12 +14,17 @@ use Rattle.scc_svtree.specs.Code.{Code, Arms, code_of, stmt_code, stmt_node, arm
 use Rattle.scc_svtree.specs.Variables.{width_at}
 use Rattle.scc_drive.specs.declared.design.Port.{Port}
 use Rattle.scc_drive.specs.declared.design.Bitwise.{Bitwise}
-use Rattle.scc_drive.specs.Emitted.{variable, cast, both, binary_of, assign, var_of, width_of}
+use Rattle.scc_drive.specs.Emitted.{variable, cast, zero_of, both, binary_of, assign, var_of, width_of}
 
 pub term_variable : (i : ℕ) → term_of (variable i) ≡ term.Part (Whole (record { 0 = i }))
 term_variable i =
     fold-roll-SvExpr Term Term term_node (λ e. e.node) (record { node = roll-SvExprNode (node.Left (Whole (record { 0 = i }))) })
     ∙ fold-roll-SvExprNode Term Term term_node (λ e. e.node) (node.Left (Whole (record { 0 = i })))
+
+pub term_zero : (w : ℕ) → term_of (zero_of w) ≡ term.Literal w 0
+term_zero w =
+    fold-roll-SvExpr Term Term term_node (λ e. e.node) (record { node = roll-SvExprNode (node.Literal (record { width = w; value = record { bits = 0 } })) })
+    ∙ fold-roll-SvExprNode Term Term term_node (λ e. e.node) (node.Literal (record { width = w; value = record { bits = 0 } }))
 
 pub term_cast : (w : ℕ) (e : SvExpr) → term_of (cast w e) ≡ term.Cast w (term_of e)
 term_cast w e =

@@ -1,3 +1,4 @@
+pub mod Bytes
 pub mod Gives
 pub mod Tokens
 pub mod Reading
@@ -6,9 +7,11 @@ pub mod Resolved
 pub mod Thin
 pub mod Words
 pub mod Texts
+pub mod Spots
 pub mod Emitted
 pub mod Source
 pub mod Same
+pub mod Identifiers
 pub mod Laws
 pub mod Said
 pub mod Answer

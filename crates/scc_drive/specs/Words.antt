@@ -2,7 +2,7 @@
 use Rattle.std.specs.Prelude.{ℕ, List, [], length, drop, slice_get, slice_index, option_map, unwrap_or, Bool, not, ◌&&◌, ◌==◌, nat_le, codes, bytes_eq, string_bytes, String}
 use Rattle.std.specs.List.{list_all}
 use Rattle.std.specs.declared.alloc.Global.{Global}
-use Rattle.scc_drive.specs.Tokens.{is_digit, is_word_byte}
+use Rattle.scc_drive.specs.Bytes.{is_digit, is_word_byte}
 
 -- letters, digits and underscores, not beginning with a digit
 abbrev pub is_top : List ℕ → Bool

@@ -11,16 +11,16 @@ use crate::say::{no_memory, output_failed, tell};
 use scc_base::{Files, Sink, SinkFault, Status, put_all};
 use std::alloc::Global;
 
-/// Does all that the program does: reads the words, which are those behind the program's name, and the file that they
-/// name, writes the command's output to `out`, or says on `err` why there is none. Each is handed whole to one
-/// `put_all`. It answers the status with which the program ends:
+/// Does all that the program does: reads the words, which are those behind the program's name, joins the files that they
+/// name, reads them by the grammar, writes the command's output to `out`, or says on `err` why there is none. Each is handed whole
+/// to one `put_all`. It answers the status with which the program ends:
 ///
 /// | status | when | text on `err` |
 /// |---|---|---|
 /// | 0 | done | none |
-/// | 1 | the file is refused | `FILE:LINE:COL: Ennn TEXT` |
+/// | 1 | the source is refused | `FILE:LINE:COL: Ennn TEXT` |
 /// | 2 | the words are no command | `scc: bad words` |
-/// | 3 | the file is missing, or could not be read | `scc: missing NAME`, `scc: failed NAME` |
+/// | 3 | a file is missing, or could not be read | `scc: missing NAME`, `scc: failed NAME` |
 /// | 4 | memory ran out, which may take the place of any other status | `scc: no memory` |
 /// | 5 | an output failed | `scc: output failed` |
 pub fn run<F: Files, O: Sink, E: Sink>(
@@ -31,10 +31,10 @@ pub fn run<F: Files, O: Sink, E: Sink>(
     err: &mut E,
 ) -> Status
     ensures six { result ≤ 5 }
-    // 0: the text of the module of the design in the file was written, and nothing was said
+    // 0: the text of the module of the design that the files denote was written, and nothing was said
     ensures done { result ≡ 0 → Told (F.held files.old) (λ shelf. IsCompiled shelf words.now (O.taken out.old) (O.taken out.new)) }
     ensures silent { result ≡ 0 → Keeps (E.taken err.old) (E.taken err.new) }
-    // 1: the first refusal was said, at the first byte of the first file
+    // 1: the first refusal was said, with its place
     ensures refused { result ≡ 1 → IsRefused words.now (F.held files.old) (E.taken err.old) (E.taken err.new) }
     // 2: exactly where the words are bad, and it was said
     ensures words { result ≡ 2 → (are_words words.now ≡ false) × Appends (E.taken err.old) (E.taken err.new) words_text }
@@ -59,6 +59,6 @@ pub fn run<F: Files, O: Sink, E: Sink>(
             Err(SinkFault::Failed) => output_failed(err),
             Err(SinkFault::NoMemory) => no_memory(err),
         },
-        Err(stopped) => tell(alloc, words, err, stopped),
+        Err(stopped) => tell(alloc, err, stopped),
     }
 }

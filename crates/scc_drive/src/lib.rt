@@ -9,9 +9,8 @@ mod emit;
 mod halt;
 mod laws;
 mod say;
+mod spots;
 mod stopped;
-#[cfg(test)]
-mod tests;
 mod texts;
 mod thin;
 mod words;

@@ -6,7 +6,6 @@ ghost use Rattle.scc_drive.specs.Answer.{Tells};
 
 use crate::stopped::Stopped;
 use crate::texts;
-use crate::words::word;
 use scc_base::{NoMemory, Sink, SinkFault, Status, Text, put_all};
 use std::alloc::Global;
 
@@ -65,17 +64,19 @@ fn say_made<E: Sink>(err: &mut E, text: Result<Text, NoMemory>, status: u8) -> S
 }
 
 /// Says why a command has no output.
-pub fn tell<E: Sink>(alloc: Global, words: &[String], err: &mut E, stopped: Stopped) -> Status
-    ensures told { Tells words.now stopped (E.taken err.old) (E.taken err.new) (E.faults err.old) (E.faults err.new) result }
+pub fn tell<E: Sink>(alloc: Global, err: &mut E, stopped: Stopped) -> Status
+    ensures told { Tells stopped (E.taken err.old) (E.taken err.new) (E.faults err.old) (E.faults err.new) result }
     ensures parts { SaysParts 3 (E.taken err.old) (E.taken err.new) }
     ensures no_fewer_faults { E.faults err.old ≤ E.faults err.new }
 {
-    let name = word(words, 2);
     match stopped {
         Stopped::BadWords => say(err, texts::bad_words(), 2),
-        Stopped::Refused(code) => say_made(err, texts::refusal(alloc, name, 1, 1, code), 1),
-        Stopped::Missing => say_made(err, texts::missing(alloc, name), 3),
-        Stopped::Failed => say_made(err, texts::failed(alloc, name), 3),
+        Stopped::Refused { code, spot } => {
+            let text = texts::refusal(alloc, spot.file.bytes(), spot.line, spot.column, code);
+            say_made(err, text, 1)
+        }
+        Stopped::Missing(name) => say_made(err, texts::missing(alloc, name.bytes()), 3),
+        Stopped::Failed(name) => say_made(err, texts::failed(alloc, name.bytes()), 3),
         Stopped::NoMemory => no_memory(err),
     }
 }

@@ -1,16 +1,17 @@
-use scc_base::Code;
+use crate::spots::Spot;
+use scc_base::{Code, Text};
 
 /// Why a command has no output.
-#[derive(Clone, Copy, Debug)]
+#[derive(Debug, Drop)]
 pub enum Stopped {
     /// The words are no command.
     BadWords,
-    /// A refusal at the first byte of the first file.
-    Refused(Code),
-    /// The file is missing.
-    Missing,
-    /// The file could not be read.
-    Failed,
+    /// A refusal, and where it stands.
+    Refused { code: Code, spot: Spot },
+    /// The file of this name is missing.
+    Missing(Text),
+    /// The file of this name could not be read.
+    Failed(Text),
     /// Memory ran out.
     NoMemory,
 }

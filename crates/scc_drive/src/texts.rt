@@ -10,16 +10,16 @@ use std::alloc::Global;
 #[tactic(auto, unfolding(crate::specs::Texts::refusal_text))]
 pub fn refusal(
     alloc: Global,
-    name: &str,
-    line: u32,
-    column: u32,
+    name: &[u8],
+    line: usize,
+    column: usize,
     code: Code,
 ) -> Result<Text, NoMemory>
     ensures text { IfOk result (λ t. t ≡ refusal_text name.now line column code) }
 {
     let mut out = Text::new(alloc);
     let mut digits = Buffer::new();
-    out.push_bytes(name.as_bytes())?;
+    out.push_bytes(name)?;
     out.push_bytes(b":")?;
     out.push_bytes(digits.format(line).as_bytes())?;
     out.push_bytes(b":")?;
@@ -40,23 +40,23 @@ pub fn bad_words() -> &'static [u8]
 }
 
 #[tactic(auto, unfolding(crate::specs::Texts::missing_text))]
-pub fn missing(alloc: Global, name: &str) -> Result<Text, NoMemory>
+pub fn missing(alloc: Global, name: &[u8]) -> Result<Text, NoMemory>
     ensures text { IfOk result (λ t. t ≡ missing_text name.now) }
 {
     let mut out = Text::new(alloc);
     out.push_bytes(b"scc: missing ")?;
-    out.push_bytes(name.as_bytes())?;
+    out.push_bytes(name)?;
     out.push_bytes(b"\n")?;
     Ok(out)
 }
 
 #[tactic(auto, unfolding(crate::specs::Texts::failed_text))]
-pub fn failed(alloc: Global, name: &str) -> Result<Text, NoMemory>
+pub fn failed(alloc: Global, name: &[u8]) -> Result<Text, NoMemory>
     ensures text { IfOk result (λ t. t ≡ failed_text name.now) }
 {
     let mut out = Text::new(alloc);
     out.push_bytes(b"scc: failed ")?;
-    out.push_bytes(name.as_bytes())?;
+    out.push_bytes(name)?;
     out.push_bytes(b"\n")?;
     Ok(out)
 }

@@ -1,13 +1,15 @@
 //! Reads the tree of a thin text.
 ghost use Rattle.std.specs.Prelude.{◌≡◌, length, codes, Some, None, option_map, option_copied};
 ghost use Rattle.scc_drive.specs.Gives.{Gives};
-ghost use Rattle.scc_drive.specs.Reading.{after_mark, after_word, after_shift, is_name, name_at, number_of, width_at, items, put_front, name_step, sense_step, names_at, direction_at, kind_at, group_at, group_step, read_at, op_of, op_at, second_at, target_at, write_at, write_step, named_at, all_items, head_at, body_at, senses_at, constructor_at, end_at, tree_at};
+ghost use Rattle.scc_drive.specs.Reading.{after_mark, after_word, after_name, name_at, is_decimal, width_of, width_at, closed_at, items, put_front, name_step, sense_step, names_at, direction_at, kind_at, group_at, group_step, read_at, op_of, op_at, second_at, target_at, write_at, write_step, named_at, all_items, head_at, body_at, senses_at, constructor_at, end_at, tree_at};
 
 use crate::design::Bitwise;
 use crate::halt::Halt;
+use crate::thin::numbers;
 use crate::thin::token::Token;
 use crate::thin::tree::{Body, Constructor, Group, Head, Read, Tree, Write};
 use scc_base::{List, Text};
+use scc_bits::{Kind, Word};
 use std::alloc::Global;
 
 // The tokens behind this mark.
@@ -20,30 +22,22 @@ fn mark(tokens: &[Token], m: u8) -> Option<&[Token]>
     }
 }
 
-fn word<'a>(tokens: &'a [Token], text: &[u8]) -> Option<&'a [Token]>
-    ensures { option_copied result ≡ after_word text.now tokens.now }
+fn word(tokens: &[Token], w: u8) -> Option<&[Token]>
+    ensures { option_copied result ≡ after_word w tokens.now }
 {
     match tokens {
-        [Token::Word(t), rest @ ..] if t.bytes() == text => Some(rest),
+        [Token::Word(t), rest @ ..] if *t == w => Some(rest),
         _ => None,
     }
 }
 
-fn shift(tokens: &[Token]) -> Option<&[Token]>
-    ensures { option_copied result ≡ after_shift tokens.now }
+// The tokens behind a name of these bytes.
+fn member<'a>(tokens: &'a [Token], text: &[u8]) -> Option<&'a [Token]>
+    ensures { option_copied result ≡ after_name text.now tokens.now }
 {
     match tokens {
-        [Token::Shift, rest @ ..] => Some(rest),
+        [Token::Name(t), rest @ ..] if t.bytes() == text => Some(rest),
         _ => None,
-    }
-}
-
-fn is_name(text: &[u8]) -> bool
-    ensures { result ≡ is_name text.now }
-{
-    match text {
-        [] => false,
-        [first, others @ ..] => !first.is_ascii_digit() && others.len() <= 254,
     }
 }
 
@@ -53,23 +47,23 @@ fn expect_mark(tokens: &[Token], m: u8) -> Result<&[Token], Halt>
     mark(tokens, m).ok_or(Halt::Other)
 }
 
-fn expect_word<'a>(tokens: &'a [Token], text: &[u8]) -> Result<&'a [Token], Halt>
-    ensures { Gives (λ r. r.now) result (after_word text.now tokens.now) }
+fn expect_word(tokens: &[Token], w: u8) -> Result<&[Token], Halt>
+    ensures { Gives (λ r. r.now) result (after_word w tokens.now) }
 {
-    word(tokens, text).ok_or(Halt::Other)
+    word(tokens, w).ok_or(Halt::Other)
 }
 
-fn expect_shift(tokens: &[Token]) -> Result<&[Token], Halt>
-    ensures { Gives (λ r. r.now) result (after_shift tokens.now) }
+fn expect_member<'a>(tokens: &'a [Token], text: &[u8]) -> Result<&'a [Token], Halt>
+    ensures { Gives (λ r. r.now) result (after_name text.now tokens.now) }
 {
-    shift(tokens).ok_or(Halt::Other)
+    member(tokens, text).ok_or(Halt::Other)
 }
 
 fn name(alloc: Global, tokens: &[Token]) -> Result<(Text, &[Token]), Halt>
     ensures { Gives (λ x. (x.0, x.1.now)) result (name_at tokens.now) }
 {
     match tokens {
-        [Token::Word(t), rest @ ..] if is_name(t.bytes()) => {
+        [Token::Name(t), rest @ ..] => {
             let mut copy = Text::new(alloc);
             copy.push_bytes(t.bytes())?;
             Ok((copy, rest))
@@ -78,14 +72,24 @@ fn name(alloc: Global, tokens: &[Token]) -> Result<(Text, &[Token]), Halt>
     }
 }
 
-fn number(text: &[u8]) -> Option<u32>
-    ensures { result ≡ number_of text.now }
+// Whether a literal of so many bytes that stands for n, 1 to 64, is written in decimal, without a suffix.
+fn is_decimal(n: u128, len: u32) -> bool
+    ensures { result ≡ is_decimal n len }
 {
-    match text {
-        [a @ b'1'..=b'9'] => Some(u32::from(*a - b'0')),
-        [a @ b'1'..=b'9', b @ b'0'..=b'9'] => {
-            let n = 10 * u32::from(*a - b'0') + u32::from(*b - b'0');
-            if n <= 64 { Some(n) } else { None }
+    if n < 10 { len == 1 } else { len == 2 }
+}
+
+fn number(kind: Kind, word: Word, len: u32) -> Option<u32>
+    ensures { result ≡ width_of kind word len }
+{
+    match kind {
+        Kind::Native { bits, signed } => {
+            let n = word.bits;
+            if bits == 32 && signed && 1 <= n && n <= 64 && is_decimal(n, len) {
+                Some(n as u32)
+            } else {
+                None
+            }
         }
         _ => None,
     }
@@ -95,7 +99,7 @@ fn width(tokens: &[Token]) -> Result<(u32, &[Token]), Halt>
     ensures { Gives (λ x. (x.0, x.1.now)) result (width_at tokens.now) }
 {
     match tokens {
-        [Token::Word(t), rest @ ..] => match number(t.bytes()) {
+        [Token::Number { kind, word, len }, rest @ ..] => match number(*kind, *word, *len) {
             Some(n) => Ok((n, rest)),
             None => Err(Halt::Other),
         },
@@ -107,10 +111,10 @@ fn width(tokens: &[Token]) -> Result<(u32, &[Token]), Halt>
 fn next_name(alloc: Global, tokens: &[Token]) -> Result<(Option<Text>, &[Token]), Halt>
     ensures { Gives (λ x. (x.0, x.1.now)) result (name_step tokens.now) }
 {
-    if let Some(rest) = mark(tokens, b';') {
+    if let Some(rest) = mark(tokens, numbers::SEMICOLON) {
         return Ok((None, rest));
     }
-    let (found, rest) = name(alloc, expect_mark(tokens, b',')?)?;
+    let (found, rest) = name(alloc, expect_mark(tokens, numbers::COMMA)?)?;
     Ok((Some(found), rest))
 }
 
@@ -118,10 +122,10 @@ fn next_name(alloc: Global, tokens: &[Token]) -> Result<(Option<Text>, &[Token])
 fn next_sense(alloc: Global, tokens: &[Token]) -> Result<(Option<Text>, &[Token]), Halt>
     ensures { Gives (λ x. (x.0, x.1.now)) result (sense_step tokens.now) }
 {
-    if let Some(rest) = mark(tokens, b';') {
+    if let Some(rest) = mark(tokens, numbers::SEMICOLON) {
         return Ok((None, rest));
     }
-    let (found, rest) = name(alloc, expect_shift(tokens)?)?;
+    let (found, rest) = name(alloc, expect_mark(tokens, numbers::SHIFT_LEFT)?)?;
     Ok((Some(found), rest))
 }
 
@@ -129,22 +133,33 @@ fn next_sense(alloc: Global, tokens: &[Token]) -> Result<(Option<Text>, &[Token]
 fn direction(tokens: &[Token]) -> Result<(bool, &[Token]), Halt>
     ensures { Gives (λ x. (x.0, x.1.now)) result (direction_at tokens.now) }
 {
-    if let Some(rest) = word(tokens, b"sc_in") {
+    if let Some(rest) = word(tokens, numbers::SC_IN) {
         return Ok((false, rest));
     }
-    Ok((true, expect_word(tokens, b"sc_out")?))
+    Ok((true, expect_word(tokens, numbers::SC_OUT)?))
+}
+
+// The tokens behind the ends of two lists of arguments.
+#[tactic(auto, unfolding(crate::specs::Reading::closed_at))]
+fn closed(tokens: &[Token]) -> Result<&[Token], Halt>
+    ensures { Gives (λ r. r.now) result (closed_at tokens.now) }
+{
+    if let Some(rest) = mark(tokens, numbers::SHIFT_RIGHT) {
+        return Ok(rest);
+    }
+    let rest = expect_mark(tokens, numbers::GREATER)?;
+    expect_mark(rest, numbers::GREATER)
 }
 
 #[tactic(auto, unfolding(crate::specs::Reading::kind_at))]
 fn kind(tokens: &[Token]) -> Result<(u32, &[Token]), Halt>
     ensures { Gives (λ x. (x.0, x.1.now)) result (kind_at tokens.now) }
 {
-    let rest = expect_mark(tokens, b'<')?;
-    let rest = expect_word(rest, b"sc_uint")?;
-    let rest = expect_mark(rest, b'<')?;
+    let rest = expect_mark(tokens, numbers::LESS)?;
+    let rest = expect_word(rest, numbers::SC_UINT)?;
+    let rest = expect_mark(rest, numbers::LESS)?;
     let (bits, rest) = width(rest)?;
-    let rest = expect_mark(rest, b'>')?;
-    let rest = expect_mark(rest, b'>')?;
+    let rest = closed(rest)?;
     Ok((bits, rest))
 }
 
@@ -217,7 +232,7 @@ fn group(alloc: Global, tokens: &[Token]) -> Result<(Group, &[Token]), Halt>
 fn next_group(alloc: Global, tokens: &[Token]) -> Result<(Option<Group>, &[Token]), Halt>
     ensures { Gives (λ x. (x.0, x.1.now)) result (group_step tokens.now) }
 {
-    if let Some(rest) = word(tokens, b"void") {
+    if let Some(rest) = word(tokens, numbers::VOID) {
         return Ok((None, rest));
     }
     let (found, rest) = group(alloc, tokens)?;
@@ -248,10 +263,10 @@ fn read(alloc: Global, tokens: &[Token]) -> Result<(Text, &[Token]), Halt>
     ensures { Gives (λ x. (x.0, x.1.now)) result (read_at tokens.now) }
 {
     let (port, rest) = name(alloc, tokens)?;
-    let rest = expect_mark(rest, b'.')?;
-    let rest = expect_word(rest, b"read")?;
-    let rest = expect_mark(rest, b'(')?;
-    let rest = expect_mark(rest, b')')?;
+    let rest = expect_mark(rest, numbers::DOT)?;
+    let rest = expect_member(rest, b"read")?;
+    let rest = expect_mark(rest, numbers::PAREN_OPEN)?;
+    let rest = expect_mark(rest, numbers::PAREN_CLOSE)?;
     Ok((port, rest))
 }
 
@@ -259,9 +274,9 @@ fn op(m: u8) -> Option<Bitwise>
     ensures { result ≡ op_of m }
 {
     match m {
-        b'&' => Some(Bitwise::And),
-        b'|' => Some(Bitwise::Or),
-        b'^' => Some(Bitwise::Xor),
+        numbers::AND => Some(Bitwise::And),
+        numbers::OR => Some(Bitwise::Or),
+        numbers::XOR => Some(Bitwise::Xor),
         _ => None,
     }
 }
@@ -294,9 +309,9 @@ fn target(alloc: Global, tokens: &[Token]) -> Result<(Text, &[Token]), Halt>
     ensures { Gives (λ x. (x.0, x.1.now)) result (target_at tokens.now) }
 {
     let (port, rest) = name(alloc, tokens)?;
-    let rest = expect_mark(rest, b'.')?;
-    let rest = expect_word(rest, b"write")?;
-    let rest = expect_mark(rest, b'(')?;
+    let rest = expect_mark(rest, numbers::DOT)?;
+    let rest = expect_member(rest, b"write")?;
+    let rest = expect_mark(rest, numbers::PAREN_OPEN)?;
     Ok((port, rest))
 }
 
@@ -307,8 +322,8 @@ fn write(alloc: Global, tokens: &[Token]) -> Result<(Write, &[Token]), Halt>
     let (target, rest) = target(alloc, tokens)?;
     let (first, rest) = read(alloc, rest)?;
     let (second, rest) = second(alloc, rest)?;
-    let rest = expect_mark(rest, b')')?;
-    let rest = expect_mark(rest, b';')?;
+    let rest = expect_mark(rest, numbers::PAREN_CLOSE)?;
+    let rest = expect_mark(rest, numbers::SEMICOLON)?;
     Ok((
         Write {
             target,
@@ -323,7 +338,7 @@ fn write(alloc: Global, tokens: &[Token]) -> Result<(Write, &[Token]), Halt>
 fn next_write(alloc: Global, tokens: &[Token]) -> Result<(Option<Write>, &[Token]), Halt>
     ensures { Gives (λ x. (x.0, x.1.now)) result (write_step tokens.now) }
 {
-    if let Some(rest) = mark(tokens, b'}') {
+    if let Some(rest) = mark(tokens, numbers::BRACE_CLOSE) {
         return Ok((None, rest));
     }
     let (found, rest) = write(alloc, tokens)?;
@@ -350,17 +365,13 @@ fn more_writes(
 }
 
 #[tactic(auto, unfolding(crate::specs::Reading::named_at))]
-fn named_by<'a>(
-    alloc: Global,
-    tokens: &'a [Token],
-    text: &[u8],
-) -> Result<(Text, &'a [Token]), Halt>
-    ensures { Gives (λ x. (x.0, x.1.now)) result (named_at text.now tokens.now) }
+fn named_by(alloc: Global, tokens: &[Token], w: u8) -> Result<(Text, &[Token]), Halt>
+    ensures { Gives (λ x. (x.0, x.1.now)) result (named_at w tokens.now) }
 {
-    let rest = expect_word(tokens, text)?;
-    let rest = expect_mark(rest, b'(')?;
+    let rest = expect_word(tokens, w)?;
+    let rest = expect_mark(rest, numbers::PAREN_OPEN)?;
     let (found, rest) = name(alloc, rest)?;
-    let rest = expect_mark(rest, b')')?;
+    let rest = expect_mark(rest, numbers::PAREN_CLOSE)?;
     Ok((found, rest))
 }
 
@@ -368,8 +379,8 @@ fn named_by<'a>(
 fn head(alloc: Global, tokens: &[Token]) -> Result<(Head, &[Token]), Halt>
     ensures { Gives (λ x. (x.0, x.1.now)) result (head_at tokens.now) }
 {
-    let (top, rest) = named_by(alloc, tokens, b"SC_MODULE")?;
-    let rest = expect_mark(rest, b'{')?;
+    let (top, rest) = named_by(alloc, tokens, numbers::SC_MODULE)?;
+    let rest = expect_mark(rest, numbers::BRACE_OPEN)?;
     let (groups, rest) = more_groups(alloc, List::new(alloc), rest)?;
     Ok((Head { top, groups }, rest))
 }
@@ -379,9 +390,9 @@ fn body(alloc: Global, tokens: &[Token]) -> Result<(Body, &[Token]), Halt>
     ensures { Gives (λ x. (x.0, x.1.now)) result (body_at tokens.now) }
 {
     let (function, rest) = name(alloc, tokens)?;
-    let rest = expect_mark(rest, b'(')?;
-    let rest = expect_mark(rest, b')')?;
-    let rest = expect_mark(rest, b'{')?;
+    let rest = expect_mark(rest, numbers::PAREN_OPEN)?;
+    let rest = expect_mark(rest, numbers::PAREN_CLOSE)?;
+    let rest = expect_mark(rest, numbers::BRACE_OPEN)?;
     let (writes, rest) = more_writes(alloc, List::new(alloc), rest)?;
     Ok((Body { function, writes }, rest))
 }
@@ -390,8 +401,8 @@ fn body(alloc: Global, tokens: &[Token]) -> Result<(Body, &[Token]), Halt>
 fn senses(alloc: Global, tokens: &[Token]) -> Result<(List<Text>, &[Token]), Halt>
     ensures { Gives (λ x. (x.0, x.1.now)) result (senses_at tokens.now) }
 {
-    let rest = expect_word(tokens, b"sensitive")?;
-    let rest = expect_shift(rest)?;
+    let rest = expect_word(tokens, numbers::SENSITIVE)?;
+    let rest = expect_mark(rest, numbers::SHIFT_LEFT)?;
     let (first, rest) = name(alloc, rest)?;
     let mut list = List::new(alloc);
     list.push(first)?;
@@ -402,12 +413,12 @@ fn senses(alloc: Global, tokens: &[Token]) -> Result<(List<Text>, &[Token]), Hal
 fn constructor(alloc: Global, tokens: &[Token]) -> Result<(Constructor, &[Token]), Halt>
     ensures { Gives (λ x. (x.0, x.1.now)) result (constructor_at tokens.now) }
 {
-    let (class, rest) = named_by(alloc, tokens, b"SC_CTOR")?;
-    let rest = expect_mark(rest, b'{')?;
-    let (method, rest) = named_by(alloc, rest, b"SC_METHOD")?;
-    let rest = expect_mark(rest, b';')?;
+    let (class, rest) = named_by(alloc, tokens, numbers::SC_CTOR)?;
+    let rest = expect_mark(rest, numbers::BRACE_OPEN)?;
+    let (method, rest) = named_by(alloc, rest, numbers::SC_METHOD)?;
+    let rest = expect_mark(rest, numbers::SEMICOLON)?;
     let (senses, rest) = senses(alloc, rest)?;
-    let rest = expect_mark(rest, b'}')?;
+    let rest = expect_mark(rest, numbers::BRACE_CLOSE)?;
     Ok((
         Constructor {
             class,
@@ -436,8 +447,8 @@ pub fn tree(alloc: Global, tokens: &[Token]) -> Result<Tree, Halt>
     let (head, rest) = head(alloc, tokens)?;
     let (body, rest) = body(alloc, rest)?;
     let (constructor, rest) = constructor(alloc, rest)?;
-    let rest = expect_mark(rest, b'}')?;
-    let rest = expect_mark(rest, b';')?;
+    let rest = expect_mark(rest, numbers::BRACE_CLOSE)?;
+    let rest = expect_mark(rest, numbers::SEMICOLON)?;
     end(rest)?;
     Ok(Tree {
         head,

@@ -1,7 +1,7 @@
 //! Worked commands, over files and outputs in memory.
-use crate::run;
 use itoa::Buffer;
 use scc_base::{CalmFiles, CalmSink, MemFiles, MemSink, NoMemory, Text};
+use scc_drive::run;
 use std::alloc::{AllocError, Global};
 use std::test::Fail;
 
@@ -72,7 +72,7 @@ const SIZES_TEXT: &str = "module And (
 endmodule
 ";
 
-const NOT_YET: &str = "and.cpp:1:1: E901 not yet\n";
+const NOT_YET: &str = "and.cpp:2:1: E901 not yet\n";
 
 fn words(alloc: Global, texts: &[&str]) -> Result<Vec<String>, AllocError> {
     let mut words = Vec::new(alloc);
@@ -137,101 +137,170 @@ const IN_OUT: &str = "sc_in<sc_uint<8> > a, b; sc_out<sc_uint<8> > y;";
 
 const COPY: &str = "y.write(a.read());";
 
-/// Each row but the accepted ones differs from one of them in one thing.
+/// Each row but the accepted ones differs from one of them in one thing. An empty text stands for status 0.
 #[test]
 fn keeps_the_form(rt: HostRuntime) -> Result<(), Fail> {
-    for (number, ports, function, body, senses) in [
-        (0, IN, "f", "", "<< a"),
-        (0, IN_OUT, "f", COPY, "<< a"),
+    for (text, ports, function, body, senses) in [
+        ("", IN, "f", "", "<< a"),
+        ("", IN_OUT, "f", COPY, "<< a"),
         (
-            0,
+            "",
             IN_OUT,
             "f",
             "y.write ( a . read() | b.read());",
             "<<b<<a",
         ),
+        // a comment, and another bracket
+        ("", IN_OUT, "f", "y.write(/* a copy */ a.read());", "<< a"),
+        ("", "sc_in<sc_uint<64>> a;", "f", "", "<< a"),
         // names that are equal: two ports, a port and the function, a port and the module
-        (1, "sc_in<sc_uint<8> > a, a;", "f", "", "<< a"),
-        (1, "sc_in<sc_uint<8> > a, f;", "f", "", "<< a"),
-        (1, "sc_in<sc_uint<8> > a, And;", "f", "", "<< a"),
-        (1, IN, "And", "", "<< a"),
-        // names that are words of the source language, of C++ and SystemC, of SystemVerilog, or the macro
-        (1, "sc_in<sc_uint<8> > sc_bigint;", "f", "", "<< sc_bigint"),
-        (1, "sc_in<sc_uint<8> > xor_eq;", "f", "", "<< xor_eq"),
-        (1, "sc_in<sc_uint<8> > wor;", "f", "", "<< wor"),
+        (NOT_YET, "sc_in<sc_uint<8> > a, a;", "f", "", "<< a"),
+        (NOT_YET, "sc_in<sc_uint<8> > a, f;", "f", "", "<< a"),
+        (NOT_YET, "sc_in<sc_uint<8> > a, And;", "f", "", "<< a"),
+        (NOT_YET, IN, "And", "", "<< a"),
+        // names that are words of SystemVerilog
+        (NOT_YET, "sc_in<sc_uint<8> > wor;", "f", "", "<< wor"),
+        (NOT_YET, IN, "always_comb", "", "<< a"),
+        // words in place of names, and a macro without tokens
         (
-            1,
+            "and.cpp:2:37: E201 unexpected\n",
+            "sc_in<sc_uint<8> > sc_bigint;",
+            "f",
+            "",
+            "<< a",
+        ),
+        (
+            "and.cpp:2:37: E104 outside word\n",
+            "sc_in<sc_uint<8> > xor_eq;",
+            "f",
+            "",
+            "<< a",
+        ),
+        ("and.cpp:2:45: E201 unexpected\n", IN, "static", "", "<< a"),
+        (
+            "and.cpp:2:50: E201 unexpected\n",
             "sc_in<sc_uint<8> > SCC_SYNTHESIS;",
             "f",
             "",
-            "<< SCC_SYNTHESIS",
+            "<< a",
         ),
-        (1, IN, "static", "", "<< a"),
-        (1, IN, "next_trigger", "", "<< a"),
-        (1, IN, "always_comb", "", "<< a"),
-        (1, IN, "SCC_SYNTHESIS", "", "<< a"),
         // names and numbers of no form
-        (1, "sc_in<sc_uint<8> > 1a;", "f", "", "<< 1a"),
-        (1, "sc_in<sc_uint<8> > a$;", "f", "", "<< a$"),
-        (0, "sc_in<sc_uint<64> > a;", "f", "", "<< a"),
-        (1, "sc_in<sc_uint<0> > a;", "f", "", "<< a"),
-        (1, "sc_in<sc_uint<65> > a;", "f", "", "<< a"),
-        (1, "sc_in<sc_uint<08> > a;", "f", "", "<< a"),
-        (1, "sc_in<sc_uint<8u> > a;", "f", "", "<< a"),
-        (1, "sc_in<sc_uint<0x8> > a;", "f", "", "<< a"),
-        // a sensitivity to nothing, to an output, to a port twice, and without a port that is read
-        (1, IN, "f", "", ""),
-        (1, IN_OUT, "f", COPY, "<< a << y"),
-        (1, IN_OUT, "f", COPY, "<< a << a"),
-        (1, IN_OUT, "f", "y.write(a.read() & b.read());", "<< a"),
-        (1, IN_OUT, "f", "y.write(a.read() & b.read());", "<< b"),
-        // a write to an input, a read of an output, an output that is written twice, and one that is not written
-        (1, IN, "f", "a.write(a.read());", "<< a"),
-        (1, IN_OUT, "f", "y.write(y.read());", "<< a"),
         (
-            1,
+            "and.cpp:2:37: E103 bad literal\n",
+            "sc_in<sc_uint<8> > 1a;",
+            "f",
+            "",
+            "<< a",
+        ),
+        (
+            "and.cpp:2:38: E101 bad byte\n",
+            "sc_in<sc_uint<8> > a$;",
+            "f",
+            "",
+            "<< a",
+        ),
+        (
+            "and.cpp:2:32: E103 bad literal\n",
+            "sc_in<sc_uint<08> > a;",
+            "f",
+            "",
+            "<< a",
+        ),
+        (NOT_YET, "sc_in<sc_uint<0> > a;", "f", "", "<< a"),
+        (NOT_YET, "sc_in<sc_uint<65> > a;", "f", "", "<< a"),
+        (NOT_YET, "sc_in<sc_uint<07> > a;", "f", "", "<< a"),
+        (NOT_YET, "sc_in<sc_uint<8u> > a;", "f", "", "<< a"),
+        (NOT_YET, "sc_in<sc_uint<8l> > a;", "f", "", "<< a"),
+        (NOT_YET, "sc_in<sc_uint<0x8> > a;", "f", "", "<< a"),
+        (NOT_YET, "sc_in<sc_uint<010> > a;", "f", "", "<< a"),
+        // a sensitivity to nothing, to an output, to a port twice, and without a port that is read
+        ("and.cpp:2:93: E201 unexpected\n", IN, "f", "", ""),
+        (NOT_YET, IN_OUT, "f", COPY, "<< a << y"),
+        (NOT_YET, IN_OUT, "f", COPY, "<< a << a"),
+        (
+            NOT_YET,
+            IN_OUT,
+            "f",
+            "y.write(a.read() & b.read());",
+            "<< a",
+        ),
+        (
+            NOT_YET,
+            IN_OUT,
+            "f",
+            "y.write(a.read() & b.read());",
+            "<< b",
+        ),
+        // a write to an input, a read of an output, an output that is written twice, and one that is not written
+        (NOT_YET, IN, "f", "a.write(a.read());", "<< a"),
+        (NOT_YET, IN_OUT, "f", "y.write(y.read());", "<< a"),
+        (
+            NOT_YET,
             IN_OUT,
             "f",
             "y.write(a.read()); y.write(a.read());",
             "<< a",
         ),
-        (1, IN_OUT, "f", "", "<< a"),
+        (NOT_YET, IN_OUT, "f", "", "<< a"),
         // a name that is not declared, a third read, another operator
-        (1, IN_OUT, "f", "z.write(a.read());", "<< a"),
+        (NOT_YET, IN_OUT, "f", "z.write(a.read());", "<< a"),
         (
-            1,
+            NOT_YET,
             IN_OUT,
             "f",
             "y.write(a.read() & a.read() & a.read());",
             "<< a",
         ),
-        (1, IN_OUT, "f", "y.write(a.read() + a.read());", "<< a"),
-        // a comment
-        (1, IN_OUT, "f", "y.write(a.read()); // copies", "<< a"),
+        (
+            NOT_YET,
+            IN_OUT,
+            "f",
+            "y.write(a.read() + a.read());",
+            "<< a",
+        ),
     ] {
         let source = thin_text(rt.alloc(), ports, function, body, senses)?;
         let (status, out, err) = compiles(rt.alloc(), source.bytes())?;
-        assert_eq!(rt; status, number, "of {ports} {function} {body} {senses}");
-        assert_eq!(rt; out.bytes().is_empty(), number == 1);
-        let text = if number == 0 { "" } else { NOT_YET };
-        assert_eq!(rt; err.bytes(), text.as_bytes());
+        assert_eq!(rt;
+            err.bytes(),
+            text.as_bytes(),
+            "of {ports} {function} {body} {senses}"
+        );
+        assert_eq!(rt; status == 0, text.is_empty());
+        assert_eq!(rt; out.bytes().is_empty(), !text.is_empty());
     }
-    for source in [
-        "",
-        "#include <systemc.h>",
-        "#include <systemc.h>\n",
-        // another first line
-        "#include <systemc>\nSC_MODULE(And) { sc_in<sc_uint<8> > a; void f() { } SC_CTOR(And) { SC_METHOD(f); sensitive << a; } };\n",
+    for (text, source) in [
+        // no tokens: the place is the end
+        ("and.cpp:1:1: E901 not yet\n", ""),
+        ("and.cpp:1:21: E901 not yet\n", "#include <systemc.h>"),
+        ("and.cpp:2:1: E901 not yet\n", "#include <systemc.h>\n"),
         // another module's name, in either place, and another function
-        "#include <systemc.h>\nSC_MODULE(Or) { sc_in<sc_uint<8> > a; void f() { } SC_CTOR(And) { SC_METHOD(f); sensitive << a; } };\n",
-        "#include <systemc.h>\nSC_MODULE(And) { sc_in<sc_uint<8> > a; void f() { } SC_CTOR(Or) { SC_METHOD(f); sensitive << a; } };\n",
-        "#include <systemc.h>\nSC_MODULE(And) { sc_in<sc_uint<8> > a; void f() { } SC_CTOR(And) { SC_METHOD(g); sensitive << a; } };\n",
+        (
+            NOT_YET,
+            "#include <systemc.h>\nSC_MODULE(Or) { sc_in<sc_uint<8> > a; void f() { } SC_CTOR(And) { SC_METHOD(f); sensitive << a; } };\n",
+        ),
+        (
+            NOT_YET,
+            "#include <systemc.h>\nSC_MODULE(And) { sc_in<sc_uint<8> > a; void f() { } SC_CTOR(Or) { SC_METHOD(f); sensitive << a; } };\n",
+        ),
+        (
+            NOT_YET,
+            "#include <systemc.h>\nSC_MODULE(And) { sc_in<sc_uint<8> > a; void f() { } SC_CTOR(And) { SC_METHOD(g); sensitive << a; } };\n",
+        ),
         // more behind the module
-        "#include <systemc.h>\nSC_MODULE(And) { sc_in<sc_uint<8> > a; void f() { } SC_CTOR(And) { SC_METHOD(f); sensitive << a; } };;\n",
+        (
+            "and.cpp:3:3: E201 unexpected\n",
+            "#include <systemc.h>\nSC_MODULE(And) { sc_in<sc_uint<8> > a; void f() { } SC_CTOR(And) { SC_METHOD(f); sensitive << a; }\n};;\n",
+        ),
+        // an end too early
+        (
+            "and.cpp:3:1: E201 unexpected\n",
+            "#include <systemc.h>\nSC_MODULE(And) { sc_in<sc_uint<8> > a; // void f() { } SC_CTOR(And) { SC_METHOD(f); sensitive << a; } };\n",
+        ),
     ] {
         let (status, out, err) = compiles(rt.alloc(), source.as_bytes())?;
         assert_eq!(rt; status, 1, "of {source}");
-        assert_eq!(rt; err.bytes(), NOT_YET.as_bytes());
+        assert_eq!(rt; err.bytes(), text.as_bytes());
         assert_eq!(rt; out.bytes().len(), 0);
     }
     Ok(())
@@ -286,7 +355,7 @@ fn keeps_the_limits(rt: HostRuntime) -> Result<(), Fail> {
 fn refuses_a_long_file(rt: HostRuntime) -> Result<(), Fail> {
     for (length, text) in [
         (1_048_577, "and.cpp:1:1: E108 file too long\n"),
-        (1_048_576, NOT_YET),
+        (1_048_576, "and.cpp:1:1048577: E901 not yet\n"),
     ] {
         let source = Vec::from_elem(rt.alloc(), b' ', length)?;
         let (status, out, err) = compiles(rt.alloc(), source.as_slice())?;
@@ -297,18 +366,83 @@ fn refuses_a_long_file(rt: HostRuntime) -> Result<(), Fail> {
     Ok(())
 }
 
-#[test]
-fn refuses_several_files_unread(rt: HostRuntime) -> Result<(), Fail> {
-    let alloc = rt.alloc();
-    let mut files = MemFiles::new(alloc);
-    files.fail_at(1)?;
-    let mut out = MemSink::new(alloc, 100);
-    let mut err = MemSink::new(alloc, 100);
-    let words = words(alloc, &["compile", "And", "and.cpp", "b.cpp"])?;
+/// The statuses and the texts of `compile And` on these files, of which the first two are roots.
+fn joins(alloc: Global, held: &[(&str, &str)]) -> Result<(u8, CalmSink, CalmSink), Fail> {
+    let mut files = CalmFiles::new(alloc);
+    for (name, text) in held {
+        files.add(name, text.as_bytes())?;
+    }
+    let mut out = CalmSink::new(alloc);
+    let mut err = CalmSink::new(alloc);
+    let words = words(alloc, &["compile", "And", "src/and.cpp", "b.cpp"])?;
     let status = run(alloc, words.as_slice(), &mut files, &mut out, &mut err);
-    assert_eq!(rt; status.number(), 1);
-    assert_eq!(rt; err.bytes(), NOT_YET.as_bytes());
-    assert_eq!(rt; out.bytes().len(), 0);
+    Ok((status.number(), out, err))
+}
+
+/// An include guard, a macro of a header, a comment, a name of a library and a second file change nothing.
+#[test]
+fn joins_files(rt: HostRuntime) -> Result<(), Fail> {
+    let main = "#include \"and.h\"
+#include \"and.h\"
+SC_MODULE(And) {
+  sc_core::sc_in<sc_dt::sc_uint<BITS> > a, b; // the operands
+  sc_out<sc_uint<BITS> > y;
+  void f() { y.write(a.read() & b.read()); }
+  SC_CTOR(And) { SC_METHOD(f); sensitive << a << b; }
+};
+";
+    let header = "#ifndef AND_H
+#define AND_H
+#include <systemc.h>
+#define BITS 8
+#endif
+";
+    let (status, out, err) = joins(
+        rt.alloc(),
+        &[("src/and.cpp", main), ("b.cpp", ""), ("src/and.h", header)],
+    )?;
+    assert_eq!(rt; status, 0);
+    assert_eq!(rt; out.bytes(), AND_TEXT.as_bytes());
+    assert_eq!(rt; err.bytes().len(), 0);
+    for (status, text, first, second) in [
+        // an include that isn't held, and one behind it that isn't asked for
+        (
+            3,
+            "scc: missing src/b.h\n",
+            "#include \"b.h\"\n#include \"c.h\"\n",
+            "",
+        ),
+        // a place in the second file, in a header, and at a macro's use
+        (1, "b.cpp:2:3: E101 bad byte\n", AND, "\n  $"),
+        (
+            1,
+            "src/and.h:1:1: E104 outside word\n",
+            "\n#include \"and.h\"\n",
+            "",
+        ),
+        (
+            1,
+            "b.cpp:1:7: E201 unexpected\n",
+            "#define WORD static\n",
+            "void  WORD()",
+        ),
+        (1, "b.cpp:2:1: E201 unexpected\n", AND, "int\n;"),
+        (1, "b.cpp:3:1: E201 unexpected\n", AND, "int\nx\n"),
+        // no tokens in two files
+        (1, "b.cpp:3:2: E901 not yet\n", "\n", "\n\n "),
+    ] {
+        let (number, out, err) = joins(
+            rt.alloc(),
+            &[
+                ("src/and.cpp", first),
+                ("b.cpp", second),
+                ("src/and.h", "goto"),
+            ],
+        )?;
+        assert_eq!(rt; err.bytes(), text.as_bytes());
+        assert_eq!(rt; number, status);
+        assert_eq!(rt; out.bytes().len(), 0);
+    }
     Ok(())
 }
 
@@ -347,7 +481,7 @@ fn tells_bad_words(rt: HostRuntime) -> Result<(), Fail> {
 #[test]
 fn counts_the_files(rt: HostRuntime) -> Result<(), Fail> {
     let alloc = rt.alloc();
-    for (count, number) in [(64, 1), (65, 2)] {
+    for (count, number) in [(64, 3), (65, 2)] {
         let mut files = MemFiles::new(alloc);
         let mut out = MemSink::new(alloc, 100);
         let mut err = MemSink::new(alloc, 100);

@@ -1,0 +1,11 @@
+-- Classes of bytes (ASCII).
+use Rattle.std.specs.Prelude.{ℕ, Bool, ◌||◌, ◌&&◌, ◌==◌, nat_le}
+
+abbrev pub is_digit : ℕ → Bool
+is_digit b = nat_le 48 b && nat_le b 57
+
+abbrev pub is_letter : ℕ → Bool
+is_letter b = (nat_le 65 b && nat_le b 90) || (nat_le 97 b && nat_le b 122) || b == 95
+
+abbrev pub is_word_byte : ℕ → Bool
+is_word_byte b = is_digit b || is_letter b

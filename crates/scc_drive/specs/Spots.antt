@@ -1,0 +1,21 @@
+-- Where a place stands in its file, as a refusal says it.
+use Rattle.std.specs.Prelude.{ℕ, ◌+◌, List, [], ◌∷◌, take, if◌then◌else◌, ◌==◌, Option, Some, None, slice_get}
+use Rattle.scc_base.specs.declared.refusal.Place.{Place}
+use Rattle.scc_tokens.specs.declared.file.Source.{Source}
+use Rattle.scc_drive.specs.declared.spots.Spot.{Spot}
+
+-- The line and the column behind these bytes, from a line and a column on: an LF begins the next line.
+unfoldable pub moved : ℕ → ℕ → List ℕ → ℕ × ℕ
+moved line column [] = (line, column)
+moved line column (b ∷ bs) = if b == 10 then moved (line + 1) 1 bs else moved line (column + 1) bs
+
+abbrev pub position_at : List ℕ → ℕ → ℕ × ℕ
+position_at bytes at = moved 1 1 (take at bytes)
+
+-- a place of no file has no name
+abbrev pub spot_in : Option Source → ℕ → Spot
+spot_in None at = record { file = []; line = 1; column = 1 }
+spot_in (Some s) at = record { file = s.name; line = (position_at s.bytes at).0; column = (position_at s.bytes at).1 }
+
+abbrev pub spot_of : List Source → Place → Spot
+spot_of sources place = spot_in (slice_get sources place.file) place.at
