@@ -1,5 +1,5 @@
 //! Files and outputs of the system. They tell nothing of what they hold, so of them no clause says more than their traits.
-ghost use Rattle.std.specs.Prelude.{◌≤◌, length, IfOk};
+ghost use Rattle.std.specs.Prelude.{◌≡◌, ◌≤◌, length, IfOk};
 
 use scc_base::{FileFault, Files, Sink, SinkFault};
 use std::alloc::Global;
@@ -17,7 +17,10 @@ pub struct Disk<'a, R> {
 
 impl<'a, R> Disk<'a, R> {
     /// The files of a runtime, with both counts at 0.
-    pub fn new(rt: &'a R) -> Self {
+    pub fn new(rt: &'a R) -> Self
+        ensures no_miss { result.misses ≡ 0 }
+        ensures no_fault { result.faults ≡ 0 }
+    {
         Disk {
             rt,
             misses: 0,
@@ -95,7 +98,9 @@ pub struct Stream<W> {
 
 impl<W> Stream<W> {
     /// An output with its count at 0.
-    pub fn new(inner: W) -> Self {
+    pub fn new(inner: W) -> Self
+        ensures no_fault { result.faults ≡ 0 }
+    {
         Stream { inner, faults: 0 }
     }
 }
