@@ -106,7 +106,7 @@ module _ (names : Names) (i : Inner) (n : ℕ) (C : Opened names i n) (A : Again
   complete_decl (ReadsDecl.decl {x = x} {p = p} {a = a} {h = h} w d) k = same (ap (λ o. and_then o (s.decl_after names i)) (complete_hold w)) (complete_decl_after h x p d k)
 
   complete_value : {ts r : Text} {of : Option Expr} (d : ReadsValue names ts r of) → value_ends r ≡ true → Is (s.value names i ts) (deep_value names n d) of r
-  unfolding deep_value s.value s.test
+  unfolding deep_value s.value s.condition
   complete_value (ReadsValue.no_value {r = r}) h = done (passed (next_is m.assign) _ _ r (not_true _ (and_right _ _ h)) ∙ passed (next_is m.paren_open) _ _ r (stays_not goes_behind m.paren_open paren_goes r (expr_ends_zero r (and_left _ _ h))))
   complete_value (ReadsValue.value d) h = vlast _ (complete_expr names i n C A d (and_left _ _ h)) refl
   complete_value (ReadsValue.value_in_brackets d) h = vlast _ (vlast _ (C.expr d refl) refl) refl

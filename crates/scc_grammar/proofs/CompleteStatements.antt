@@ -16,13 +16,13 @@ use Rattle.scc_grammar.specs.declared.terminal.Terminal.{Terminal}
 use Rattle.scc_grammar.specs.declared.terminal.Terminal.TheVariants as t
 use Rattle.scc_grammar.specs.First.{begins_type, begins_expr, begins_ty_arg}
 use Rattle.scc_grammar.specs.Inner.{Inner}
-use Rattle.scc_grammar.specs.LevelsOfStatements.{deep_test, deep_maybe, deep_within, deep_for_first, deep_for_step, deep_signals, deep_stmt, deep_inner, deep_item, deep_items, deep_stmts, deep_block}
+use Rattle.scc_grammar.specs.LevelsOfStatements.{deep_condition, deep_maybe, deep_within, deep_for_first, deep_for_step, deep_signals, deep_stmt, deep_inner, deep_item, deep_items, deep_stmts, deep_block}
 use Rattle.scc_grammar.specs.Marks as m
 use Rattle.scc_grammar.specs.Names.{Names}
 use Rattle.scc_grammar.specs.Operators.{sum}
 use Rattle.scc_grammar.specs.ParseStatements as s
 use Rattle.scc_grammar.specs.ParseStatements.{step, begins_word, begins_stmt}
-use Rattle.scc_grammar.specs.Statements.{ReadsLocal, ReadsSimple, ReadsTest, ReadsMaybe, ReadsForFirst, ReadsForStep, ReadsSignals, ReadsStmt, ReadsStmts, ReadsItem, ReadsItems, ReadsBlock}
+use Rattle.scc_grammar.specs.Statements.{ReadsLocal, ReadsSimple, ReadsCondition, ReadsMaybe, ReadsForFirst, ReadsForStep, ReadsSignals, ReadsStmt, ReadsStmts, ReadsItem, ReadsItems, ReadsBlock}
 use Rattle.scc_grammar.specs.Text.{Text, at, next_is}
 use Rattle.scc_grammar.proofs.Follows.{ends, expr_ends, or_right, false_not_true, next_not, next_also}
 use Rattle.scc_grammar.proofs.CompleteTypes.{Opened, Agains, first_type, first_primary, first_unary, first_expr, expr_is_ty_arg, type_is_ty_arg}
@@ -150,9 +150,9 @@ module _ (names : Names) where
   first_item (ReadsItem.stmt_item {ts = ts} d) = next_also (begins_stmt names) m.not_brace_close (stmt_not_close names) ts (first_stmt d)
 
   module _ (i : Inner) (n : ℕ) (C : Opened names i n) (A : Agains names i) (L : LocalAgains names i) (S : OpenedStmt names i n) (B : StmtAgains names i) where
-    complete_test : {ts r : Text} {of : Expr} (d : ReadsTest names ts r of) → Is (s.test names i ts) (deep_test names n d) of r
-    unfolding deep_test s.test
-    complete_test (ReadsTest.test d) = vlast _ (C.expr d refl) refl
+    complete_condition : {ts r : Text} {of : Expr} (d : ReadsCondition names ts r of) → Is (s.condition names i ts) (deep_condition names n d) of r
+    unfolding deep_condition s.condition
+    complete_condition (ReadsCondition.condition d) = vlast _ (C.expr d refl) refl
 
     complete_within : (ends : Terminal → Bool) → ((w : Terminal) → begins_expr names w ≡ true → ends w ≡ false) → {ts r : Text} {of : Option Expr} (d : ReadsMaybe names ts r of) → is_next (next_is ends) r ≡ true → expr_ends r ≡ true
         → Is (s.within names i ends ts) (deep_within names n d) of r
@@ -217,11 +217,11 @@ module _ (names : Names) where
     complete_stmt (ReadsStmt.empty) h = done refl
     complete_stmt (ReadsStmt.local_line {ts = ts} d) h = complete_line ts (next_not (begins_ty_arg names) begins_word (ty_arg_not_word names) ts (first_local d)) (vlast _ (complete_local names i n C A L d) refl)
     complete_stmt (ReadsStmt.if_only {nests = nests} {p = p} {r = r} {test = test} {first = first} k d) h =
-        vthen _ (complete_test k) (vlast _ (S.stmt d (λ _. h refl)) (ap (λ o. and_then o (λ second. pure (s.if_of p test (first, nests) second))) (no_other r (h refl))))
-    complete_stmt (ReadsStmt.if_else k d f) h = vthen _ (complete_test k) (vthen _ (S.stmt d (λ h. false_not_true h)) (vlast _ (vlast _ (S.stmt f h) refl) refl))
-    complete_stmt (ReadsStmt.switch k d) h = vthen _ (complete_test k) (vlast _ (complete_items d) refl)
-    complete_stmt (ReadsStmt.while k d) h = vthen _ (complete_test k) (vlast _ (S.stmt d h) refl)
-    complete_stmt (ReadsStmt.do_while d k) h = vthen _ (S.stmt d (λ _. refl)) (vlast _ (complete_test k) refl)
+        vthen _ (complete_condition k) (vlast _ (S.stmt d (λ _. h refl)) (ap (λ o. and_then o (λ second. pure (s.if_of p test (first, nests) second))) (no_other r (h refl))))
+    complete_stmt (ReadsStmt.if_else k d f) h = vthen _ (complete_condition k) (vthen _ (S.stmt d (λ h. false_not_true h)) (vlast _ (vlast _ (S.stmt f h) refl) refl))
+    complete_stmt (ReadsStmt.switch k d) h = vthen _ (complete_condition k) (vlast _ (complete_items d) refl)
+    complete_stmt (ReadsStmt.while k d) h = vthen _ (complete_condition k) (vlast _ (S.stmt d h) refl)
+    complete_stmt (ReadsStmt.do_while d k) h = vthen _ (S.stmt d (λ _. refl)) (vlast _ (complete_condition k) refl)
     complete_stmt (ReadsStmt.for f k g d) h =
         vthen _ (complete_for_first f) (vthen _ (complete_within m.semicolon (expr_not_semicolon names) k refl refl) (vthen _ (complete_for_step g) (vlast _ (S.stmt d h) refl)))
     complete_stmt (ReadsStmt.break) h = done refl

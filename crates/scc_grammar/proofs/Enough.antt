@@ -17,9 +17,9 @@ use Rattle.scc_reading.proofs.Unique.{Enough, flat, both, one_more}
 use Rattle.scc_grammar.specs.declared.part.Sort.{Sort}
 use Rattle.scc_grammar.specs.Expressions.{ReadsBase, ReadsType, ReadsTyArg, ReadsTyArgs, ReadsTyRest, ReadsChain, ReadsLinks, ReadsExpr, ReadsUnary, ReadsPrimary, ReadsExprs, ReadsParts, ReadsCargs, ReadsMoreCargs, ReadsCarg, ReadsNew}
 use Rattle.scc_grammar.specs.LevelsOfExpressions.{deep_base, deep_type, deep_ty_arg, deep_ty_args, deep_ty_rest, deep_chain, deep_links, deep_expr, deep_unary, deep_primary, deep_exprs, deep_parts, deep_cargs, deep_more_cargs, deep_carg, deep_new}
-use Rattle.scc_grammar.specs.LevelsOfStatements.{deep_sizes, deep_decl, deep_value, deep_local_decl, deep_more_locals, deep_local, deep_simple, deep_test, deep_maybe, deep_within, deep_for_first, deep_for_step, deep_signals, deep_stmt, deep_inner, deep_item, deep_items, deep_stmts, deep_block}
+use Rattle.scc_grammar.specs.LevelsOfStatements.{deep_sizes, deep_decl, deep_value, deep_local_decl, deep_more_locals, deep_local, deep_simple, deep_condition, deep_maybe, deep_within, deep_for_first, deep_for_step, deep_signals, deep_stmt, deep_inner, deep_item, deep_items, deep_stmts, deep_block}
 use Rattle.scc_grammar.specs.Names.{Names}
-use Rattle.scc_grammar.specs.Statements.{ReadsSizes, ReadsDecl, ReadsValue, ReadsLocalDecl, ReadsMoreLocals, ReadsLocal, ReadsSimple, ReadsTest, ReadsMaybe, ReadsForFirst, ReadsForStep, ReadsSignals, ReadsStmt, ReadsStmts, ReadsItem, ReadsItems, ReadsBlock}
+use Rattle.scc_grammar.specs.Statements.{ReadsSizes, ReadsDecl, ReadsValue, ReadsLocalDecl, ReadsMoreLocals, ReadsLocal, ReadsSimple, ReadsCondition, ReadsMaybe, ReadsForFirst, ReadsForStep, ReadsSignals, ReadsStmt, ReadsStmts, ReadsItem, ReadsItems, ReadsBlock}
 use Rattle.scc_grammar.specs.Text.{Text}
 
 module _ (names : Names) where
@@ -155,9 +155,9 @@ module _ (names : Names) where
   enough_simple (ReadsSimple.step_last d) = enough_unary d
   enough_simple (ReadsSimple.call d ps) = both (enough_primary d) (enough_parts ps)
 
-  enough_test : {ts r : Text} {of : Expr} (d : ReadsTest names ts r of) → Enough (λ n. deep_test names n d)
-  unfolding deep_test
-  enough_test (ReadsTest.test {a = a} d) = one_more a (enough_expr d)
+  enough_condition : {ts r : Text} {of : Expr} (d : ReadsCondition names ts r of) → Enough (λ n. deep_condition names n d)
+  unfolding deep_condition
+  enough_condition (ReadsCondition.condition {a = a} d) = one_more a (enough_expr d)
 
   enough_maybe : {ts r : Text} {of : Option Expr} (d : ReadsMaybe names ts r of) → Enough (λ n. deep_maybe names n d)
   unfolding deep_maybe
@@ -192,11 +192,11 @@ module _ (names : Names) where
     enough_stmt (ReadsStmt.block d) = enough_inner d
     enough_stmt (ReadsStmt.empty) = flat
     enough_stmt (ReadsStmt.local_line d) = enough_local d
-    enough_stmt (ReadsStmt.if_only {b = b} t d) = both (enough_test t) (one_more b (enough_stmt d))
-    enough_stmt (ReadsStmt.if_else {b = b} {c = c} t d f) = both (enough_test t) (both (one_more b (enough_stmt d)) (one_more c (enough_stmt f)))
-    enough_stmt (ReadsStmt.switch t d) = both (enough_test t) (enough_items d)
-    enough_stmt (ReadsStmt.while {b = b} t d) = both (enough_test t) (one_more b (enough_stmt d))
-    enough_stmt (ReadsStmt.do_while {a = a} d t) = both (one_more a (enough_stmt d)) (enough_test t)
+    enough_stmt (ReadsStmt.if_only {b = b} t d) = both (enough_condition t) (one_more b (enough_stmt d))
+    enough_stmt (ReadsStmt.if_else {b = b} {c = c} t d f) = both (enough_condition t) (both (one_more b (enough_stmt d)) (one_more c (enough_stmt f)))
+    enough_stmt (ReadsStmt.switch t d) = both (enough_condition t) (enough_items d)
+    enough_stmt (ReadsStmt.while {b = b} t d) = both (enough_condition t) (one_more b (enough_stmt d))
+    enough_stmt (ReadsStmt.do_while {a = a} d t) = both (one_more a (enough_stmt d)) (enough_condition t)
     enough_stmt (ReadsStmt.for {m = m} f t s d) = both (enough_for_first f) (both (enough_within t) (both (enough_for_step s) (one_more m (enough_stmt d))))
     enough_stmt (ReadsStmt.break) = flat
     enough_stmt (ReadsStmt.continue) = flat

@@ -39,7 +39,7 @@ module _ (names : Names) (i : Inner) (S : Sound names i) where
 
   leaves_while : (q : Place) → Leaves (NoElse names) (p.while_rest names i q)
   unfolding p.while_rest
-  leaves_while q = leaves_then (p.test names i) (λ of. passed_on (λ body. stmt_of q (s.While of body.0)))
+  leaves_while q = leaves_then (p.condition names i) (λ of. passed_on (λ body. stmt_of q (s.While of body.0)))
 
   leaves_for : (q : Place) → Leaves (NoElse names) (p.for_rest names i q)
   unfolding p.for_rest p.for_body
@@ -67,16 +67,16 @@ module _ (names : Names) (i : Inner) (S : Sound names i) where
 
   leaves_if : (q : Place) → Leaves (NoElse names) (p.if_rest names i q)
   unfolding p.if_rest
-  leaves_if q = leaves_then (p.test names i) (λ of. leaves_then i.stmt (λ first. after_else q of first))
+  leaves_if q = leaves_then (p.condition names i) (λ of. leaves_then i.stmt (λ first. after_else q of first))
 
   leaves_by : (a : StmtStart) (q : Place) → Leaves (NoElse names) (p.stmt_by names i a q)
   unfolding p.stmt_by p.block_rest p.switch_rest p.do_rest p.return_rest p.wait_rest p.clocked_rest p.sensitive_rest p.quiet_rest p.process_rest p.reset_rest
   leaves_by block_start q = leaves_then (p.stmts_of names i i.stmt) (λ body. leaves_then (mark m.brace_close) (λ _. ends _))
   leaves_by empty_start q = ends _
   leaves_by if_start q = leaves_if q
-  leaves_by switch_start q = leaves_then (p.test names i) (λ of. leaves_then (mark m.brace_open) (λ _. leaves_then (p.switch_items names i) (λ items. leaves_then (mark m.brace_close) (λ _. ends _))))
+  leaves_by switch_start q = leaves_then (p.condition names i) (λ of. leaves_then (mark m.brace_open) (λ _. leaves_then (p.switch_items names i) (λ items. leaves_then (mark m.brace_close) (λ _. ends _))))
   leaves_by while_start q = leaves_while q
-  leaves_by do_start q = leaves_then i.stmt (λ body. leaves_then (mark m.while_word) (λ _. leaves_then (p.test names i) (λ of. leaves_then (mark m.semicolon) (λ _. ends _))))
+  leaves_by do_start q = leaves_then i.stmt (λ body. leaves_then (mark m.while_word) (λ _. leaves_then (p.condition names i) (λ of. leaves_then (mark m.semicolon) (λ _. ends _))))
   leaves_by for_start q = leaves_for q
   leaves_by break_start q = leaves_then (mark m.semicolon) (λ _. ends _)
   leaves_by continue_start q = leaves_then (mark m.semicolon) (λ _. ends _)

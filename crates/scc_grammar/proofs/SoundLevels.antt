@@ -31,7 +31,7 @@ use Rattle.scc_grammar.specs.Nodes.{base_of, native, held, clock_of, truth_of}
 use Rattle.scc_grammar.specs.StatementNodes.{decl_of, local_decl_of, local_of, simple_of, process_of, local_stmt, simple_stmt}
 use Rattle.scc_grammar.specs.Operators.{unary_operator, sum, every}
 use Rattle.scc_grammar.specs.Expressions.{ReadsShort, ReadsInteger, ReadsBase, ReadsType, ReadsTyArg, ReadsChain, ReadsLinks, ReadsExpr, ReadsUnary, ReadsPrimary, ReadsExprs, ReadsParts, ReadsCargs, ReadsCarg, ReadsNew}
-use Rattle.scc_grammar.specs.Statements.{ReadsHold, ReadsSizes, ReadsDecl, ReadsValue, ReadsLocalDecl, ReadsMoreLocals, ReadsLocal, ReadsSimple, ReadsTest, ReadsMaybe, ReadsForFirst, ReadsForStep, ReadsSignals, ReadsStmt, ReadsStmts, ReadsItems}
+use Rattle.scc_grammar.specs.Statements.{ReadsHold, ReadsSizes, ReadsDecl, ReadsValue, ReadsLocalDecl, ReadsMoreLocals, ReadsLocal, ReadsSimple, ReadsCondition, ReadsMaybe, ReadsForFirst, ReadsForStep, ReadsSignals, ReadsStmt, ReadsStmts, ReadsItems}
 use Rattle.scc_grammar.specs.ParseExpressions.{placed, number_type, word_type, named_type, constant_type}
 use Rattle.scc_grammar.specs.ParseStatements.{StmtStart, block_start, empty_start, if_start, switch_start, while_start, do_start, for_start, break_start, continue_start, return_start, wait_start, clocked_start, sensitive_start, quiet_start, process_start, reset_start, stmt_start, begins_word, step, begins_stmt, inner}
 use Rattle.scc_grammar.specs.Text.{Text, at, next_is}
@@ -185,8 +185,8 @@ module _ (names : Names) where
   abbrev test_text : List Seen
   test_text = mark_here t.ParenOpen ∷ mark_here t.This ∷ mark_here t.ParenClose ∷ []
 
-  a_test : (y : Text) → ReadsTest names (test_text ++ y) y this_expr
-  a_test y = ReadsTest.test (this_is (mark_here t.ParenClose ∷ y))
+  a_condition : (y : Text) → ReadsCondition names (test_text ++ y) y this_expr
+  a_condition y = ReadsCondition.condition (this_is (mark_here t.ParenClose ∷ y))
 
   abbrev empty_stmt : Stmt
   empty_stmt = stmt_of here s.Empty
@@ -194,10 +194,10 @@ module _ (names : Names) where
   from_word : (w : Terminal) (a : StmtStart) (q : Place) → stmt_start w ≡ Some a → Completes (RStmt names) (one_front (at w q))
   from_word w block_start q h = record { by = text (mark_here t.BraceClose ∷ []); tree = (stmt_of q (s.Block []), false); reads = λ y. rw (word_is w block_start h) (ReadsStmt.block ReadsStmts.no_stmts) }
   from_word w empty_start q h = record { by = no_front; tree = (stmt_of q s.Empty, false); reads = λ y. rw (word_is w empty_start h) ReadsStmt.empty }
-  from_word w if_start q h = record { by = text (test_text ++ mark_here t.Semicolon ∷ []); tree = (stmt_of q (s.If this_expr empty_stmt None), true); reads = λ y. rw (word_is w if_start h) (ReadsStmt.if_only (a_test (mark_here t.Semicolon ∷ y)) ReadsStmt.empty) }
-  from_word w switch_start q h = record { by = text (test_text ++ mark_here t.BraceOpen ∷ mark_here t.BraceClose ∷ []); tree = (stmt_of q (s.Switch this_expr []), false); reads = λ y. rw (word_is w switch_start h) (ReadsStmt.switch (a_test (mark_here t.BraceOpen ∷ mark_here t.BraceClose ∷ y)) ReadsItems.no_items) }
-  from_word w while_start q h = record { by = text (test_text ++ mark_here t.Semicolon ∷ []); tree = (stmt_of q (s.While this_expr empty_stmt), false); reads = λ y. rw (word_is w while_start h) (ReadsStmt.while (a_test (mark_here t.Semicolon ∷ y)) ReadsStmt.empty) }
-  from_word w do_start q h = record { by = text (mark_here t.Semicolon ∷ mark_here t.While ∷ test_text ++ mark_here t.Semicolon ∷ []); tree = (stmt_of q (s.Do empty_stmt this_expr), false); reads = λ y. rw (word_is w do_start h) (ReadsStmt.do_while ReadsStmt.empty (a_test (mark_here t.Semicolon ∷ y))) }
+  from_word w if_start q h = record { by = text (test_text ++ mark_here t.Semicolon ∷ []); tree = (stmt_of q (s.If this_expr empty_stmt None), true); reads = λ y. rw (word_is w if_start h) (ReadsStmt.if_only (a_condition (mark_here t.Semicolon ∷ y)) ReadsStmt.empty) }
+  from_word w switch_start q h = record { by = text (test_text ++ mark_here t.BraceOpen ∷ mark_here t.BraceClose ∷ []); tree = (stmt_of q (s.Switch this_expr []), false); reads = λ y. rw (word_is w switch_start h) (ReadsStmt.switch (a_condition (mark_here t.BraceOpen ∷ mark_here t.BraceClose ∷ y)) ReadsItems.no_items) }
+  from_word w while_start q h = record { by = text (test_text ++ mark_here t.Semicolon ∷ []); tree = (stmt_of q (s.While this_expr empty_stmt), false); reads = λ y. rw (word_is w while_start h) (ReadsStmt.while (a_condition (mark_here t.Semicolon ∷ y)) ReadsStmt.empty) }
+  from_word w do_start q h = record { by = text (mark_here t.Semicolon ∷ mark_here t.While ∷ test_text ++ mark_here t.Semicolon ∷ []); tree = (stmt_of q (s.Do empty_stmt this_expr), false); reads = λ y. rw (word_is w do_start h) (ReadsStmt.do_while ReadsStmt.empty (a_condition (mark_here t.Semicolon ∷ y))) }
   from_word w for_start q h = record {
     by = text (mark_here t.ParenOpen ∷ mark_here t.Semicolon ∷ mark_here t.Semicolon ∷ mark_here t.ParenClose ∷ mark_here t.Semicolon ∷ []);
     tree = (stmt_of q (s.For first.Nothing None None empty_stmt), false);

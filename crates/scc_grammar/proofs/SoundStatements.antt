@@ -35,7 +35,7 @@ use Rattle.scc_grammar.specs.Names.{Names}
 use Rattle.scc_grammar.specs.Nodes.{parts_of}
 use Rattle.scc_grammar.specs.StatementNodes.{simple_of}
 use Rattle.scc_grammar.specs.Expressions.{ReadsBase, ReadsType, ReadsUnary, ReadsPrimary}
-use Rattle.scc_grammar.specs.Statements.{assignment, ReadsHold, ReadsSizes, ReadsDecl, ReadsValue, ReadsLocalDecl, ReadsMoreLocals, ReadsLocal, ReadsSimple, ReadsTest, ReadsMaybe, ReadsForFirst, ReadsForStep, ReadsSignals, ReadsStmt, ReadsStmts, ReadsItem, ReadsItems, ReadsBlock}
+use Rattle.scc_grammar.specs.Statements.{assignment, ReadsHold, ReadsSizes, ReadsDecl, ReadsValue, ReadsLocalDecl, ReadsMoreLocals, ReadsLocal, ReadsSimple, ReadsCondition, ReadsMaybe, ReadsForFirst, ReadsForStep, ReadsSignals, ReadsStmt, ReadsStmts, ReadsItem, ReadsItems, ReadsBlock}
 use Rattle.scc_grammar.specs.ParseExpressions.{is_constant}
 use Rattle.scc_grammar.specs.ParseStatements as p
 use Rattle.scc_grammar.specs.ParseStatements.{StmtStart, block_start, empty_start, if_start, switch_start, while_start, do_start, for_start, break_start, continue_start, return_start, wait_start, clocked_start, sensitive_start, quiet_start, process_start, reset_start, stmt_start, step}
@@ -119,17 +119,17 @@ module _ (names : Names) (i : Inner) (S : Sound names i) where
   unfolding p.decl
   sound_decl = answers_seq sound_hold (λ h. answers_by _ _ (λ x mid r d ts e. d ts e) (sound_decl_after h))
 
-  pub sound_test : Answers 1 (λ x ts r. ReadsTest names ts r x) (p.test names i)
-  unfolding p.test
-  sound_test = answers_mark mark_paren_open (answers_seq S.expr (λ of. answers_mark mark_paren_close (answers_pure_at (λ y c ts d q. ReadsTest.test d.1))))
+  pub sound_condition : Answers 1 (λ x ts r. ReadsCondition names ts r x) (p.condition names i)
+  unfolding p.condition
+  sound_condition = answers_mark mark_paren_open (answers_seq S.expr (λ of. answers_mark mark_paren_close (answers_pure_at (λ y c ts d q. ReadsCondition.condition d.1))))
 
-  in_brackets : {ts r : Text} (x : Expr) → ReadsTest names ts r x → ReadsValue names ts r (Some x)
-  in_brackets x (ReadsTest.test d) = ReadsValue.value_in_brackets d
+  in_brackets : {ts r : Text} (x : Expr) → ReadsCondition names ts r x → ReadsValue names ts r (Some x)
+  in_brackets x (ReadsCondition.condition d) = ReadsValue.value_in_brackets d
 
   pub sound_value : Answers 0 (λ x ts r. ReadsValue names ts r x) (p.value names i)
   unfolding p.value
   sound_value = answers_choose 0 _ _ _ _ (answers_less (lit≤ tt) (answers_mark mark_assign (answers_seq (sound_expr names i S) (λ of. answers_pure_at (λ y ts d q. ReadsValue.value d.1)))))
-      (answers_choose 0 _ _ _ _ (answers_less (lit≤ tt) (answers_seq sound_test (λ of. answers_pure_at (λ y ts d. in_brackets of d)))) (answers_pure_at (λ y. ReadsValue.no_value)))
+      (answers_choose 0 _ _ _ _ (answers_less (lit≤ tt) (answers_seq sound_condition (λ of. answers_pure_at (λ y ts d. in_brackets of d)))) (answers_pure_at (λ y. ReadsValue.no_value)))
 
   pub sound_local_decl : Answers 0 (λ x ts r. ReadsLocalDecl names ts r x) (p.local_decl names i)
   unfolding p.local_decl
@@ -277,11 +277,11 @@ module _ (names : Names) (i : Inner) (S : Sound names i) where
 
   sound_while : (q : Place) → Answers 1 (Behind t.While q) (p.while_rest names i q)
   unfolding p.while_rest
-  sound_while q = answers_seq sound_test (λ of. answers_seq S.stmt (λ body. answers_pure_at (λ y us d ts k. ReadsStmt.while k d)))
+  sound_while q = answers_seq sound_condition (λ of. answers_seq S.stmt (λ body. answers_pure_at (λ y us d ts k. ReadsStmt.while k d)))
 
   sound_do : (q : Place) → Answers 1 (Behind t.Do q) (p.do_rest names i q)
   unfolding p.do_rest
-  sound_do q = answers_seq S.stmt (λ body. answers_mark mark_while_word (answers_seq sound_test (λ of. answers_mark mark_semicolon (answers_pure_at (λ y c us d w ts k. ReadsStmt.do_while k d)))))
+  sound_do q = answers_seq S.stmt (λ body. answers_mark mark_while_word (answers_seq sound_condition (λ of. answers_mark mark_semicolon (answers_pure_at (λ y c us d w ts k. ReadsStmt.do_while k d)))))
 
   sound_for : (q : Place) → Answers 1 (Behind t.For q) (p.for_rest names i q)
   unfolding p.for_rest p.for_body
@@ -303,7 +303,7 @@ module _ (names : Names) (i : Inner) (S : Sound names i) where
 
   sound_switch : (q : Place) → Answers 1 (Behind t.Switch q) (p.switch_rest names i q)
   unfolding p.switch_rest
-  sound_switch q = answers_seq sound_test (λ of. answers_mark mark_brace_open (answers_seq sound_switch_items (λ items. answers_mark mark_brace_close (answers_pure_at (λ y c us d o ts k. ReadsStmt.switch k d)))))
+  sound_switch q = answers_seq sound_condition (λ of. answers_mark mark_brace_open (answers_seq sound_switch_items (λ items. answers_mark mark_brace_close (answers_pure_at (λ y c us d o ts k. ReadsStmt.switch k d)))))
 
   sound_return : (q : Place) → Answers 0 (Behind t.Return q) (p.return_rest names i q)
   unfolding p.return_rest
@@ -337,7 +337,7 @@ module _ (names : Names) (i : Inner) (S : Sound names i) where
 
   -- behind the test of an `if`
   abbrev Tested : Place → Expr → Rule Seen (Stmt × Bool)
-  Tested q of = RestOf (λ x ts r. ReadsTest names ts r x) (Behind t.If q) of
+  Tested q of = RestOf (λ x ts r. ReadsCondition names ts r x) (Behind t.If q) of
 
   abbrev OtherOf : Place → Expr → Stmt × Bool → Rule Seen (Option (Stmt × Bool))
   OtherOf q of first = λ second mid r. (us : Text) → RStmt names first us mid → Tested q of (p.if_of q of first second) us r
@@ -371,7 +371,7 @@ module _ (names : Names) (i : Inner) (S : Sound names i) where
 
   sound_if : (q : Place) → Answers 1 (Behind t.If q) (p.if_rest names i q)
   unfolding p.if_rest if_after
-  sound_if q = answers_seq sound_test (λ of. sound_if_tested q of)
+  sound_if q = answers_seq sound_condition (λ of. sound_if_tested q of)
 
   -- ---- statements
 

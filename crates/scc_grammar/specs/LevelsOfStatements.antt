@@ -12,7 +12,7 @@ use Rattle.scc_tree.specs.declared.stmt.SwitchItem.{SwitchItem}
 use Rattle.scc_reading.specs.Level.{opens, ◌then◌}
 use Rattle.scc_grammar.specs.LevelsOfExpressions.{deep_type, deep_chain, deep_expr, deep_unary, deep_primary, deep_parts, deep_new}
 use Rattle.scc_grammar.specs.Names.{Names}
-use Rattle.scc_grammar.specs.Statements.{ReadsSizes, ReadsDecl, ReadsValue, ReadsLocalDecl, ReadsMoreLocals, ReadsLocal, ReadsSimple, ReadsTest, ReadsMaybe, ReadsForFirst, ReadsForStep, ReadsSignals, ReadsStmt, ReadsStmts, ReadsItem, ReadsItems, ReadsBlock}
+use Rattle.scc_grammar.specs.Statements.{ReadsSizes, ReadsDecl, ReadsValue, ReadsLocalDecl, ReadsMoreLocals, ReadsLocal, ReadsSimple, ReadsCondition, ReadsMaybe, ReadsForFirst, ReadsForStep, ReadsSignals, ReadsStmt, ReadsStmts, ReadsItem, ReadsItems, ReadsBlock}
 use Rattle.scc_grammar.specs.Text.{Text}
 
 module _ (names : Names) where
@@ -45,8 +45,8 @@ module _ (names : Names) where
   deep_simple n (ReadsSimple.step_last d) = deep_unary names n d
   deep_simple n (ReadsSimple.call d ps) = deep_primary names n d then deep_parts names n ps
 
-  unfoldable pub deep_test : {ts r : Text} {of : Expr} → ℕ → ReadsTest names ts r of → Option Text
-  deep_test n (ReadsTest.test {a = a} d) = opens n a (λ m. deep_expr names m d)
+  unfoldable pub deep_condition : {ts r : Text} {of : Expr} → ℕ → ReadsCondition names ts r of → Option Text
+  deep_condition n (ReadsCondition.condition {a = a} d) = opens n a (λ m. deep_expr names m d)
 
   unfoldable pub deep_maybe : {ts r : Text} {of : Option Expr} → ℕ → ReadsMaybe names ts r of → Option Text
   deep_maybe n (ReadsMaybe.no_expr) = None
@@ -75,11 +75,11 @@ module _ (names : Names) where
     deep_stmt n (ReadsStmt.block d) = deep_inner n d
     deep_stmt n (ReadsStmt.empty) = None
     deep_stmt n (ReadsStmt.local_line d) = deep_local n d
-    deep_stmt n (ReadsStmt.if_only {b = b} t d) = deep_test n t then opens n b (λ m. deep_stmt m d)
-    deep_stmt n (ReadsStmt.if_else {b = b} {c = c} t d e) = deep_test n t then opens n b (λ m. deep_stmt m d) then opens n c (λ m. deep_stmt m e)
-    deep_stmt n (ReadsStmt.switch t d) = deep_test n t then deep_items n d
-    deep_stmt n (ReadsStmt.while {b = b} t d) = deep_test n t then opens n b (λ m. deep_stmt m d)
-    deep_stmt n (ReadsStmt.do_while {a = a} d t) = opens n a (λ m. deep_stmt m d) then deep_test n t
+    deep_stmt n (ReadsStmt.if_only {b = b} t d) = deep_condition n t then opens n b (λ m. deep_stmt m d)
+    deep_stmt n (ReadsStmt.if_else {b = b} {c = c} t d e) = deep_condition n t then opens n b (λ m. deep_stmt m d) then opens n c (λ m. deep_stmt m e)
+    deep_stmt n (ReadsStmt.switch t d) = deep_condition n t then deep_items n d
+    deep_stmt n (ReadsStmt.while {b = b} t d) = deep_condition n t then opens n b (λ m. deep_stmt m d)
+    deep_stmt n (ReadsStmt.do_while {a = a} d t) = opens n a (λ m. deep_stmt m d) then deep_condition n t
     deep_stmt n (ReadsStmt.for {m = m} f t s d) = deep_for_first n f then deep_within n t then deep_for_step n s then opens n m (λ k. deep_stmt k d)
     deep_stmt n (ReadsStmt.break) = None
     deep_stmt n (ReadsStmt.continue) = None

@@ -109,15 +109,15 @@ module _ (names : Names) where
     decl = hold_at >>= decl_after
 
     -- an expression in brackets
-    unfoldable pub test : Parser Expr
-    test = do
+    unfoldable pub condition : Parser Expr
+    condition = do
       mark m.paren_open
       of ← i.expr
       mark m.paren_close
       pure of
 
     unfoldable pub value : Parser (Option Expr)
-    value = choose (next_is m.assign) (mark m.assign >> (e.expr names i >>= λ of. pure (Some of))) (choose (next_is m.paren_open) (test >>= λ of. pure (Some of)) (pure None))
+    value = choose (next_is m.assign) (mark m.assign >> (e.expr names i >>= λ of. pure (Some of))) (choose (next_is m.paren_open) (condition >>= λ of. pure (Some of)) (pure None))
 
     unfoldable pub local_decl : Parser LocalDecl
     local_decl = do
@@ -232,14 +232,14 @@ module _ (names : Names) where
 
     unfoldable pub if_rest : Place → Parser (Stmt × Bool)
     if_rest p = do
-      of ← test
+      of ← condition
       first ← i.stmt
       second ← other
       pure (if_of p of first second)
 
     unfoldable pub while_rest : Place → Parser (Stmt × Bool)
     while_rest p = do
-      of ← test
+      of ← condition
       body ← i.stmt
       pure (stmt_of p (s.While of body.0), body.1)
 
@@ -247,7 +247,7 @@ module _ (names : Names) where
     do_rest p = do
       body ← i.stmt
       mark m.while_word
-      of ← test
+      of ← condition
       mark m.semicolon
       pure (stmt_of p (s.Do body.0 of), false)
 
@@ -280,7 +280,7 @@ module _ (names : Names) where
 
     unfoldable pub switch_rest : Place → Parser (Stmt × Bool)
     switch_rest p = do
-      of ← test
+      of ← condition
       mark m.brace_open
       items ← switch_items
       mark m.brace_close

@@ -87,8 +87,8 @@ module _ (names : Names) where
   -- ---- parts of statements
 
   -- an expression in brackets
-  pub data ReadsTest : Text → Text → Expr → Type 0 where
-    test : {p q c : Place} {a r : Text} {of : Expr} → ReadsExpr names q a (at t.ParenClose c ∷ r) of → ReadsTest (at t.ParenOpen p ∷ a) r of
+  pub data ReadsCondition : Text → Text → Expr → Type 0 where
+    condition : {p q c : Place} {a r : Text} {of : Expr} → ReadsExpr names q a (at t.ParenClose c ∷ r) of → ReadsCondition (at t.ParenOpen p ∷ a) r of
 
   -- an expression that may stand there
   pub data ReadsMaybe : Text → Text → Option Expr → Type 0 where
@@ -119,16 +119,16 @@ module _ (names : Names) where
       empty : {p : Place} {r : Text} → ReadsStmt false (at t.Semicolon p ∷ r) r (stmt_of p s.Empty)
       local_line : {c : Place} {ts r : Text} {of : LocalTree} → ReadsLocal ts (at t.Semicolon c ∷ r) of → ReadsStmt false ts r (local_stmt of)
       if_only : {nests : Bool} {p : Place} {a b r : Text} {test : Expr} {first : Stmt}
-          → ReadsTest a b test → ReadsStmt nests b r first → ReadsStmt true (at t.If p ∷ a) r (stmt_of p (s.If test first None))
+          → ReadsCondition a b test → ReadsStmt nests b r first → ReadsStmt true (at t.If p ∷ a) r (stmt_of p (s.If test first None))
       -- the branch before an `else` has no `if` to which it could belong
       if_else : {nests : Bool} {p e : Place} {a b c r : Text} {test : Expr} {first second : Stmt}
-          → ReadsTest a b test → ReadsStmt false b (at t.Else e ∷ c) first → ReadsStmt nests c r second → ReadsStmt nests (at t.If p ∷ a) r (stmt_of p (s.If test first (Some second)))
+          → ReadsCondition a b test → ReadsStmt false b (at t.Else e ∷ c) first → ReadsStmt nests c r second → ReadsStmt nests (at t.If p ∷ a) r (stmt_of p (s.If test first (Some second)))
       switch : {p o c : Place} {a b r : Text} {of : Expr} {items : List SwitchItem}
-          → ReadsTest a (at t.BraceOpen o ∷ b) of → ReadsItems b (at t.BraceClose c ∷ r) items → ReadsStmt false (at t.Switch p ∷ a) r (stmt_of p (s.Switch of items))
+          → ReadsCondition a (at t.BraceOpen o ∷ b) of → ReadsItems b (at t.BraceClose c ∷ r) items → ReadsStmt false (at t.Switch p ∷ a) r (stmt_of p (s.Switch of items))
       while : {nests : Bool} {p : Place} {a b r : Text} {test : Expr} {body : Stmt}
-          → ReadsTest a b test → ReadsStmt nests b r body → ReadsStmt nests (at t.While p ∷ a) r (stmt_of p (s.While test body))
+          → ReadsCondition a b test → ReadsStmt nests b r body → ReadsStmt nests (at t.While p ∷ a) r (stmt_of p (s.While test body))
       do_while : {nests : Bool} {p w c : Place} {a b r : Text} {test : Expr} {body : Stmt}
-          → ReadsStmt nests a (at t.While w ∷ b) body → ReadsTest b (at t.Semicolon c ∷ r) test → ReadsStmt false (at t.Do p ∷ a) r (stmt_of p (s.Do body test))
+          → ReadsStmt nests a (at t.While w ∷ b) body → ReadsCondition b (at t.Semicolon c ∷ r) test → ReadsStmt false (at t.Do p ∷ a) r (stmt_of p (s.Do body test))
       for : {nests : Bool} {p o c d e : Place} {a b k m r : Text} {first : ForFirst} {test : Option Expr} {step : Option SimpleTree} {body : Stmt}
           → ReadsForFirst a (at t.Semicolon c ∷ b) first → ReadsMaybe b (at t.Semicolon d ∷ k) test → ReadsForStep k (at t.ParenClose e ∷ m) step → ReadsStmt nests m r body
           → ReadsStmt nests (at t.For p ∷ at t.ParenOpen o ∷ a) r (stmt_of p (s.For first test step body))

@@ -110,9 +110,9 @@ pub fn decl<'a>(c: Reader, ts: &'a [Seen]) -> Read<'a, Decl>
 }
 
 /// An expression in brackets.
-#[tactic(auto, unfolding(crate::specs::ParseStatements::test))]
-pub fn test<'a>(c: Reader, ts: &'a [Seen]) -> Read<'a, Expr>
-    ensures { Gives (λ x. (x.0, x.1.now)) result (s.test c.entry.names.now (inner c.entry.names.now c.entry.levels) ts.now) }
+#[tactic(auto, unfolding(crate::specs::ParseStatements::condition))]
+pub fn condition<'a>(c: Reader, ts: &'a [Seen]) -> Read<'a, Expr>
+    ensures { Gives (λ x. (x.0, x.1.now)) result (s.condition c.entry.names.now (inner c.entry.names.now c.entry.levels) ts.now) }
 {
     let (_, rest) = paren_open(ts)?;
     let (of, rest) = open_expr(c, rest)?;
@@ -130,7 +130,7 @@ pub fn value<'a>(c: Reader, ts: &'a [Seen]) -> Read<'a, Option<Expr>>
         return Ok((Some(of), rest));
     }
     if begins_paren_open(ts) {
-        let (of, rest) = test(c, ts)?;
+        let (of, rest) = condition(c, ts)?;
         return Ok((Some(of), rest));
     }
     Ok((None, ts))

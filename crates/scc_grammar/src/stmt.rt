@@ -15,7 +15,7 @@ use crate::chain::{additive, argument, expr, unary};
 use crate::first::*;
 use crate::halt::{Halt, place_of};
 use crate::line::*;
-use crate::local::test;
+use crate::local::condition;
 use crate::marks::*;
 use crate::next::*;
 use crate::nodes::{one, parts_of};
@@ -131,7 +131,7 @@ pub fn other<'a>(c: Reader, ts: &'a [Seen]) -> Read<'a, Option<(Stmt, bool)>>
 pub fn if_rest<'a>(c: Reader, p: Place, ts: &'a [Seen]) -> Read<'a, (Stmt, bool)>
     ensures { Gives (λ x. (x.0, x.1.now)) result (s.if_rest c.entry.names.now (inner c.entry.names.now c.entry.levels) p ts.now) }
 {
-    let (of, rest) = test(c, ts)?;
+    let (of, rest) = condition(c, ts)?;
     let (first, rest) = open_stmt(c, rest)?;
     let (second, rest) = other(c, rest)?;
     Ok((if_of(c.alloc, p, of, first, second)?, rest))
@@ -142,7 +142,7 @@ pub fn if_rest<'a>(c: Reader, p: Place, ts: &'a [Seen]) -> Read<'a, (Stmt, bool)
 pub fn while_rest<'a>(c: Reader, p: Place, ts: &'a [Seen]) -> Read<'a, (Stmt, bool)>
     ensures { Gives (λ x. (x.0, x.1.now)) result (s.while_rest c.entry.names.now (inner c.entry.names.now c.entry.levels) p ts.now) }
 {
-    let (test, rest) = test(c, ts)?;
+    let (test, rest) = condition(c, ts)?;
     let ((body, nests), rest) = open_stmt(c, rest)?;
     let node = StmtNode::While { test, body };
     Ok(((Stmt::new(c.alloc, p, node)?, nests), rest))
@@ -155,7 +155,7 @@ pub fn do_rest<'a>(c: Reader, p: Place, ts: &'a [Seen]) -> Read<'a, (Stmt, bool)
 {
     let ((body, _), rest) = open_stmt(c, ts)?;
     let (_, rest) = while_word(rest)?;
-    let (test, rest) = test(c, rest)?;
+    let (test, rest) = condition(c, rest)?;
     let (_, rest) = semicolon(rest)?;
     let node = StmtNode::Do { body, test };
     Ok((stmt_at(c.alloc, p, node)?, rest))
@@ -241,7 +241,7 @@ pub fn switch_items<'a>(c: Reader, ts: &'a [Seen]) -> Read<'a, List<SwitchItem>>
 pub fn switch_rest<'a>(c: Reader, p: Place, ts: &'a [Seen]) -> Read<'a, (Stmt, bool)>
     ensures { Gives (λ x. (x.0, x.1.now)) result (s.switch_rest c.entry.names.now (inner c.entry.names.now c.entry.levels) p ts.now) }
 {
-    let (of, rest) = test(c, ts)?;
+    let (of, rest) = condition(c, ts)?;
     let (_, rest) = brace_open(rest)?;
     let (items, rest) = switch_items(c, rest)?;
     let (_, rest) = brace_close(rest)?;
