@@ -1,4 +1,4 @@
--- The first wrong size, and the first name that is undeclared or declared twice, of a module as it is written.
+-- What is wrong first in a module as it is written: a size, a name that is undeclared or declared twice, or a driver.
 use Rattle.std.specs.Prelude.{ℕ, ◌+◌, List, [], ◌∷◌, length, Option, Some, None}
 use Rattle.scc_svtext.specs.Pieces.{spelled}
 use Rattle.scc_svraw.specs.declared.raw.RawVar.{RawVar}
@@ -7,10 +7,11 @@ use Rattle.scc_svraw.specs.declared.raw.RawItem.TheVariants.{Var, Block}
 use Rattle.scc_svraw.specs.declared.raw.RawModule.{RawModule}
 use Rattle.scc_svread.specs.declared.walk.Walk.{Walk}
 use Rattle.scc_svread.specs.declared.wrong.Wrong.{Wrong}
-use Rattle.scc_svread.specs.declared.wrong.Wrong.TheVariants.{Size, Name}
+use Rattle.scc_svread.specs.declared.wrong.Wrong.TheVariants.{Size, Name, Driver}
 use Rattle.scc_svread.specs.Scope.{Scope, declare, declare_all}
 use Rattle.scc_svread.specs.Walking.{Walking, ◌then◌, pass, start}
 use Rattle.scc_svread.specs.Blocks.{block_walk, var_walk, dir_bytes}
+use Rattle.scc_svread.specs.Drivers.{misplaced}
 
 -- ports behind a first one, each behind a comma and a line's end
 abbrev pub further_ports : Scope → List RawVar → Walking
@@ -45,14 +46,12 @@ scope_of m = names_with (declare_all [] m.ports) m.items
 abbrev pub module_walk : RawModule → Walking
 module_walk m = pass 7 then pass (length (spelled m.name)) then pass 3 then ports_walk [] m.ports then pass 3 then items_walk (declare_all [] m.ports) (scope_of m) m.items
 
--- wrong sizes before wrong names
-abbrev pub first_in : Option ℕ → Option ℕ → Option Wrong
-first_in (Some at) name = Some (Size at)
-first_in None (Some at) = Some (Name at)
-first_in None None = None
-
-abbrev pub first_of : Walk → Option Wrong
-first_of w = first_in w.size w.name
+-- wrong sizes before names that are not declared once, and these before declared names that stand where they may not
+abbrev pub first_in : Option ℕ → Option ℕ → Option ℕ → Option Wrong
+first_in (Some at) name driver = Some (Size at)
+first_in None (Some at) driver = Some (Name at)
+first_in None None (Some at) = Some (Driver at)
+first_in None None None = None
 
 abbrev pub wrong_of : RawModule → Option Wrong
-wrong_of m = first_of (module_walk m start)
+wrong_of m = first_in (module_walk m start).size (module_walk m start).name (misplaced m)

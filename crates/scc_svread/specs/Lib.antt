@@ -6,5 +6,8 @@ pub mod Parts
 pub mod Seen
 pub mod Lines
 pub mod Blocks
+pub mod Mentioned
+pub mod Within
+pub mod Drivers
 pub mod First
 pub mod Returned

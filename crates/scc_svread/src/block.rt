@@ -122,7 +122,8 @@ pub fn block(alloc: Global, scope: &Scope, b: &RawBlock, w: Walk) -> Result<Walk
     }
 }
 
-fn range(high: &Option<Text>, w: Walk) -> Walk
+/// Goes over a range.
+pub fn range(high: &Option<Text>, w: Walk) -> Walk
     ensures { result ≡ walking.pass (blocks.range_bytes high.now) w }
 {
     match high {

@@ -27,8 +27,8 @@ pub struct Seen {
     pub zero: bool,
 }
 
-// How many bytes an operator has.
-fn operator_bytes(op: SvBinary) -> usize
+/// How many bytes an operator has.
+pub fn operator_bytes(op: SvBinary) -> usize
     ensures { result ≡ length (binary_text op) }
 {
     match op {
@@ -177,7 +177,8 @@ fn operated(op: SvBinary, a: Seen, before: Walk, b: Seen) -> Seen
     closed(end, binary_bits(op, a.bits, b.bits), false)
 }
 
-fn sign_bytes(signed: bool) -> usize
+/// How many bytes stand before what is read with a sign, or without.
+pub fn sign_bytes(signed: bool) -> usize
     ensures { result ≡ parts.sign_bytes signed }
 {
     if signed { 8 } else { 10 }

@@ -4,8 +4,10 @@ ghost use Rattle.scc_svtext.specs.Pieces.{spelled};
 ghost use Rattle.scc_svread.specs.Blocks as blocks;
 ghost use Rattle.scc_svread.specs.First as firsts;
 ghost use Rattle.scc_svread.specs.Scope.{declare, declare_all};
+ghost use Rattle.scc_svread.specs.Walking.{start};
 
 use crate::block::{block, dir_bytes, var};
+use crate::drivers::misplaced;
 use crate::leaf::{pass_both, spelling};
 use crate::scope::Scope;
 use crate::walk::{START, Walk};
@@ -119,27 +121,36 @@ fn scope_of(alloc: Global, m: &RawModule) -> Result<Scope, NoMemory>
     Ok(names)
 }
 
-// The wrong size before the wrong name.
-fn first_of(w: Walk) -> Option<Wrong>
-    ensures { result ≡ firsts.first_of w }
+// A wrong size before a wrong name, and that before a wrong driver.
+fn first_in(size: Option<usize>, name: Option<usize>, driver: Option<usize>) -> Option<Wrong>
+    ensures { result ≡ firsts.first_in size name driver }
 {
-    match (w.size, w.name) {
-        (Some(at), _) => Some(Wrong::Size(at)),
-        (None, Some(at)) => Some(Wrong::Name(at)),
-        (None, None) => None,
+    match (size, name, driver) {
+        (Some(at), _, _) => Some(Wrong::Size(at)),
+        (None, Some(at), _) => Some(Wrong::Name(at)),
+        (None, None, Some(at)) => Some(Wrong::Driver(at)),
+        (None, None, None) => None,
     }
 }
 
-/// What is wrong first in a module as it is written: a wrong size, by its place in the text, or where no size is wrong, a name that is
-/// not declared or was declared before (IEEE 1800-2017, sections 5.7.1, 6.24.1, 11.4.12, 11.5.1, 11.6.1 and 23.9). The only error is
-/// want of memory.
-pub fn first_wrong(alloc: Global, m: &RawModule) -> Result<Option<Wrong>, NoMemory>
-    ensures wrong { IfOk result (λ r. r ≡ firsts.wrong_of m.now) }
+// The walk over sizes and names.
+fn looked_through(alloc: Global, m: &RawModule) -> Result<Walk, NoMemory>
+    ensures { IfOk result (λ w. w ≡ firsts.module_walk m.now start) }
 {
     let scope = scope_of(alloc, m)?;
     let mut names = Scope::new(alloc);
     let start = spelling(&m.name, START.pass(7)).pass(3);
     let behind = ports(&mut names, m.ports.as_slice(), start)?.pass(3);
-    let end = items(alloc, &mut names, &scope, m.items.as_slice(), behind)?;
-    Ok(first_of(end))
+    items(alloc, &mut names, &scope, m.items.as_slice(), behind)
+}
+
+/// What is wrong first in a module as it is written, by its place in the text: a wrong size; where no size is wrong, a name that is
+/// not declared or was declared before; where each name is declared once, one that stands where it may not (IEEE 1800-2017, sections
+/// 5.7.1, 6.24.1, 9.2.2, 11.4.12, 11.5.1, 11.6.1, 23.3.3.2 and 23.9). The only error is want of memory.
+pub fn first_wrong(alloc: Global, m: &RawModule) -> Result<Option<Wrong>, NoMemory>
+    ensures wrong { IfOk result (λ r. r ≡ firsts.wrong_of m.now) }
+{
+    let w = looked_through(alloc, m)?;
+    let driver = misplaced(alloc, m)?;
+    Ok(first_in(w.size, w.name, driver))
 }

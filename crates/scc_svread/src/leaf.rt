@@ -59,7 +59,8 @@ pub fn literal(l: &RawLiteral, w: Walk) -> Walk
     digits(l, 0, w.size_if(is_wrong_literal(l)))
 }
 
-fn select(s: &RawSelect, w: Walk) -> Walk
+/// Goes over a select.
+pub fn select(s: &RawSelect, w: Walk) -> Walk
     ensures { result ≡ walking.pass (parts.select_bytes s.now) w }
 {
     match s {

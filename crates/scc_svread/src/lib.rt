@@ -2,12 +2,17 @@
 #![tactic(auto)]
 
 mod block;
+mod drivers;
+mod edge;
 mod expr;
+mod facts;
 mod first;
 mod labels;
 mod laws;
 mod leaf;
+mod mentioned;
 mod module;
+mod name_set;
 mod names;
 mod number;
 mod scope;
@@ -16,6 +21,7 @@ mod stmt;
 mod tests;
 mod tree;
 mod walk;
+mod within;
 mod written;
 mod wrong;
 

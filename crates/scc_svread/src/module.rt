@@ -9,7 +9,8 @@ use scc_svraw::{RawBlock, RawItem, RawLoad, RawModule, RawReset, RawSet, RawVar}
 use scc_svtree::{SvBlock, SvLoad, SvModule, SvReset, SvSet, SvVar};
 use std::alloc::Global;
 
-fn copied(alloc: Global, text: &Text) -> Result<Text, NoMemory>
+/// A copy of a text.
+pub fn copied(alloc: Global, text: &Text) -> Result<Text, NoMemory>
     ensures { IfOk result (λ t. t ≡ text.now) }
 {
     let mut copy = Text::new(alloc);

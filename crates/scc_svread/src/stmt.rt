@@ -12,8 +12,8 @@ use scc_base::NoMemory;
 use scc_svraw::{RawArm, RawStmt};
 use std::alloc::Global;
 
-// The blanks before a line that stands further in.
-fn deeper(n: usize) -> usize
+/// The blanks before a line that stands further in.
+pub fn deeper(n: usize) -> usize
     ensures { result ≡ walking.deeper n }
 {
     n.saturating_add(2)

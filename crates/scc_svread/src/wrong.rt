@@ -5,4 +5,7 @@ pub enum Wrong {
     Size(usize),
     /// A name that is not declared, or that was declared before.
     Name(usize),
+    /// A name that is declared and stands where it may not: a variable that nothing drives, or two blocks; an input that is
+    /// assigned; what is mentioned before it has a value; a clock, a reset, or what a reset loads.
+    Driver(usize),
 }

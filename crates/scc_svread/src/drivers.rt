@@ -1,0 +1,170 @@
+//! The first name of a module that stands where it may not.
+ghost use Rattle.std.specs.Prelude.{◌≡◌, ◌+◌, [], None, not, ◌&&◌, length, IfOk, OnOk};
+ghost use Rattle.scc_svread.specs.Drivers as drivers;
+
+use crate::block::{dir_bytes, range};
+use crate::edge::{clock, edge};
+use crate::facts::{Clock, Facts, Taken, facts_of, is_input};
+use crate::leaf::{pass_both, spelling};
+use crate::mentioned::block_assigns;
+use crate::module::copied;
+use crate::name_set::NameSet;
+use crate::walk::{START, Walk};
+use crate::within::{mention, own_level};
+use scc_base::{List, NoMemory};
+use scc_svraw::{RawBlock, RawItem, RawModule, RawStmt, RawVar};
+use std::alloc::Global;
+
+// Whether nothing drives a variable.
+fn is_undriven(f: &Facts, v: &RawVar) -> bool
+    ensures { result ≡ drivers.is_undriven f.now v.now }
+{
+    !is_input(v.dir) && !f.driven.has(v.name.bytes())
+}
+
+// A range and a name.
+fn var(f: &Facts, v: &RawVar, w: Walk) -> Walk
+    ensures { result ≡ drivers.var_names f.now v.now w }
+{
+    mention(is_undriven(f, v), &v.name, range(&v.high, w))
+}
+
+// Ports behind a first one.
+fn further(f: &Facts, list: &[RawVar], w: Walk) -> Walk
+    ensures { result ≡ drivers.further_names f.now list.now w }
+{
+    let mut walk = w;
+    for v in list {
+        walk = var(f, v, pass_both(walk, 2, dir_bytes(v.dir)));
+    }
+    walk
+}
+
+fn ports(f: &Facts, list: &[RawVar], w: Walk) -> Walk
+    ensures { result ≡ drivers.ports_names f.now list.now w }
+{
+    match list {
+        [] => w.pass(0),
+        [v, more @ ..] => further(f, more, var(f, v, w.pass(dir_bytes(v.dir)))).pass(1),
+    }
+}
+
+// A combinational block, which assigns these names.
+fn comb(
+    alloc: Global,
+    f: &Facts,
+    t: &Taken,
+    list: &List<RawStmt>,
+    assigned: &NameSet,
+    w: Walk,
+) -> Result<Walk, NoMemory>
+    ensures { IfOk result (λ v. v ≡ drivers.comb_names f.now t.now list.now assigned.now w) }
+{
+    let mut whole = NameSet::new(alloc);
+    let end = own_level(
+        &f.inputs,
+        &t.names,
+        assigned,
+        &mut whole,
+        list.as_slice(),
+        4,
+        w.pass(20),
+    )?;
+    Ok(end.pass(6))
+}
+
+fn block(alloc: Global, f: &Facts, t: &Taken, b: &RawBlock, w: Walk) -> Result<Walk, NoMemory>
+    ensures { IfOk result (λ v. v ≡ drivers.block_names f.now t.now b.now w) }
+{
+    match b {
+        RawBlock::Comb(list) => {
+            let mut assigned = NameSet::new(alloc);
+            block_assigns(&mut assigned, b)?;
+            comb(alloc, f, t, list, &assigned, w)
+        }
+        RawBlock::Edge {
+            rising,
+            clock: name,
+            reset,
+            sets,
+        } => edge(
+            alloc,
+            f,
+            t,
+            name,
+            reset,
+            sets.as_slice(),
+            clock(f, t, *rising, name, w.pass(22)),
+        ),
+    }
+}
+
+// The clock of a block.
+fn clock_of(alloc: Global, b: &RawBlock) -> Result<Option<Clock>, NoMemory>
+    ensures { IfOk result (λ c. c ≡ drivers.with_clock b.now None) }
+{
+    match b {
+        RawBlock::Comb(_) => Ok(None),
+        RawBlock::Edge { rising, clock, .. } => Ok(Some(Clock {
+            rising: *rising,
+            name: copied(alloc, clock)?,
+        })),
+    }
+}
+
+fn add_block(alloc: Global, t: &mut Taken, b: &RawBlock) -> Result<(), NoMemory>
+    ensures names { OnOk result (t.new.names ≡ (drivers.taken_after t.old b.now).names) }
+    ensures clock { OnOk result (t.new.clock ≡ (drivers.taken_after t.old b.now).clock) }
+{
+    block_assigns(&mut t.names, b)?;
+    if t.clock.is_none() {
+        t.clock = clock_of(alloc, b)?;
+    }
+    Ok(())
+}
+
+// A declaration or a block, which is taken note of.
+fn item(alloc: Global, f: &Facts, t: &mut Taken, i: &RawItem, w: Walk) -> Result<Walk, NoMemory>
+    ensures walk { IfOk result (λ v. v ≡ drivers.item_names f.now t.old i.now w) }
+    ensures taken { OnOk result (t.new ≡ drivers.taken_behind t.old i.now) }
+{
+    match i {
+        RawItem::Var(v) => Ok(var(f, v, w.pass(8)).pass(2)),
+        RawItem::Block(b) => {
+            let end = block(alloc, f, t, b, w)?;
+            add_block(alloc, t, b)?;
+            Ok(end)
+        }
+    }
+}
+
+fn items(
+    alloc: Global,
+    f: &Facts,
+    t: &mut Taken,
+    list: &[RawItem],
+    w: Walk,
+) -> Result<Walk, NoMemory>
+    ensures { IfOk result (λ v. v ≡ drivers.items_names f.now t.old list.now w) }
+{
+    let mut walk = w;
+    for i in list {
+        walk = item(alloc, f, t, i, walk)?;
+    }
+    Ok(walk)
+}
+
+/// The place of the first name that stands where it may not.
+pub fn misplaced(alloc: Global, m: &RawModule) -> Result<Option<usize>, NoMemory>
+    ensures { IfOk result (λ at. at ≡ drivers.misplaced m.now) }
+{
+    let f = facts_of(alloc, m)?;
+    let mut t = Taken {
+        names: NameSet::new(alloc),
+        clock: None,
+    };
+    let start = spelling(&m.name, START.pass(7)).pass(3);
+    let behind = ports(&f, m.ports.as_slice(), start).pass(3);
+    let end = items(alloc, &f, &mut t, m.items.as_slice(), behind)?;
+    Ok(end.name)
+}

@@ -1,0 +1,84 @@
+//! What is known of the names of a module.
+ghost use Rattle.std.specs.Prelude.{◌≡◌, map, not, ◌&&◌, IfOk, OnOk};
+ghost use Rattle.scc_svread.specs.Drivers as drivers;
+ghost use Rattle.scc_svread.specs.Mentioned.{each};
+
+use crate::mentioned::{items_assign, items_read};
+use crate::name_set::NameSet;
+use crate::number::high_of;
+use scc_base::{NoMemory, Text};
+use scc_svraw::{RawModule, RawVar};
+use scc_svtree::Dir;
+use std::alloc::Global;
+
+/// What is known before the blocks are looked through.
+#[derive(Drop)]
+pub struct Facts {
+    pub inputs: NameSet,
+    /// The inputs of one bit.
+    pub levels: NameSet,
+    /// What some expression reads.
+    pub read: NameSet,
+    /// What some block assigns.
+    pub driven: NameSet,
+}
+
+/// A clock, and the edge at which blocks run.
+#[derive(Drop)]
+pub struct Clock {
+    pub rising: bool,
+    pub name: Text,
+}
+
+/// What the blocks before a place assign, and the clock of the first of them that has one.
+#[derive(Drop)]
+pub struct Taken {
+    pub names: NameSet,
+    pub clock: Option<Clock>,
+}
+
+/// Whether a variable is an input.
+pub fn is_input(dir: Dir) -> bool
+    ensures { result ≡ drivers.is_input dir }
+{
+    match dir {
+        Dir::Input => true,
+        Dir::Output => false,
+        Dir::Inner => false,
+    }
+}
+
+fn inputs(found: &mut NameSet, list: &[RawVar]) -> Result<(), NoMemory>
+    ensures { OnOk result (found.new ≡ each (map drivers.input_of list.now) found.old) }
+{
+    for v in list {
+        found.add_if(is_input(v.dir), v.name.bytes())?;
+    }
+    Ok(())
+}
+
+fn levels(found: &mut NameSet, list: &[RawVar]) -> Result<(), NoMemory>
+    ensures { OnOk result (found.new ≡ each (map drivers.level_of list.now) found.old) }
+{
+    for v in list {
+        found.add_if(is_input(v.dir) && high_of(v) == 0, v.name.bytes())?;
+    }
+    Ok(())
+}
+
+/// What is known of a module's names.
+pub fn facts_of(alloc: Global, m: &RawModule) -> Result<Facts, NoMemory>
+    ensures { IfOk result (λ f. f ≡ drivers.facts_of m.now) }
+{
+    let mut facts = Facts {
+        inputs: NameSet::new(alloc),
+        levels: NameSet::new(alloc),
+        read: NameSet::new(alloc),
+        driven: NameSet::new(alloc),
+    };
+    inputs(&mut facts.inputs, m.ports.as_slice())?;
+    levels(&mut facts.levels, m.ports.as_slice())?;
+    items_read(&mut facts.read, m.items.as_slice())?;
+    items_assign(&mut facts.driven, m.items.as_slice())?;
+    Ok(facts)
+}
