@@ -150,6 +150,20 @@ const TAIL: &str = "  end
 endmodule
 ";
 
+// Values for all that the block assigns.
+const VALUES: &str = "    q = a;
+    w = 128'(s);
+";
+
+// A block that is to assign `q`.
+const BLOCK: &str = "module M (
+  input logic s,
+  input logic [7:0] a,
+  output logic [7:0] q
+);
+  always_comb begin
+";
+
 // What stands before a block, and behind it.
 const PORTS: &str = "module M (
   input logic clk,
@@ -160,6 +174,21 @@ const PORTS: &str = "module M (
 ";
 
 const END: &str = "endmodule
+";
+
+// A second register, and a block that sets both and resets what stands between.
+const PAIR: &str = "  logic [7:0] n;
+";
+
+const RESETS: &str = "  always_ff @(posedge clk or posedge rst) begin
+    if (rst) begin
+";
+
+const SETS: &str = "    end else begin
+      q <= a;
+      n <= q;
+    end
+  end
 ";
 
 fn text(alloc: Global, parts: &[&str]) -> Result<Text, NoMemory> {
@@ -179,37 +208,60 @@ fn found(alloc: Global, parts: &[&str]) -> Result<Option<Wrong>, NoMemory> {
     }
 }
 
+// What is found first in the text of both lists, and how many bytes the first list has.
+fn first(alloc: Global, front: &[&str], rest: &[&str]) -> Result<(Option<Wrong>, usize), NoMemory> {
+    let mut whole = text(alloc, front)?;
+    let at = whole.bytes().len();
+    whole.push_bytes(text(alloc, rest)?.bytes())?;
+    match read_raw(alloc, whole.bytes()) {
+        Ok(m) => Ok((first_wrong(alloc, &m)?, at)),
+        Err(_) => Ok((None, at)),
+    }
+}
+
 // Whether a wrong size, or else a wrong name, stands behind the first of these.
 fn stands(alloc: Global, size: bool, front: &[&str], rest: &[&str]) -> Result<bool, NoMemory> {
-    let at = text(alloc, front)?.bytes().len();
-    let wrong = if size {
+    let (wrong, at) = first(alloc, front, rest)?;
+    let wanted = if size {
         Wrong::Size(at)
     } else {
         Wrong::Name(at)
     };
-    let mut whole = text(alloc, front)?;
-    whole.push_bytes(text(alloc, rest)?.bytes())?;
-    match read_raw(alloc, whole.bytes()) {
-        Ok(m) => Ok(first_wrong(alloc, &m)? == Some(wrong)),
-        Err(_) => Ok(false),
-    }
+    Ok(wrong == Some(wanted))
+}
+
+// Whether a name that may not stand there stands behind the first of these.
+fn is_misplaced(alloc: Global, front: &[&str], rest: &[&str]) -> Result<bool, NoMemory> {
+    let (wrong, at) = first(alloc, front, rest)?;
+    Ok(wrong == Some(Wrong::Driver(at)))
 }
 
 #[test]
 fn nothing_is_wrong(rt: HostRuntime) -> Result<(), NoMemory> {
-    let rows: &[(&str, &str)] = &[
-        ("    q = 8'hff;\n", ""),
-        ("    q = a[7:0];\n", ""),
-        ("    q = {a[3:0], {s, a[2:1], s}};\n", ""),
-        ("    w = 128'hffffffffffffffffffffffffffffffff;\n", ""),
-        ("    q = (a / $signed(8'h01));\n", ""),
-        ("    q = 8'((a << 100'h0000000000000000000000000));\n", ""),
-        ("    w[127] = (&{w[126:0], s});\n", ""),
+    let rows: &[&str] = &[
+        "    q = 8'hff;\n",
+        "    q = a[7:0];\n",
+        "    q = {a[3:0], {s, a[2:1], s}};\n",
+        "    w = 128'hffffffffffffffffffffffffffffffff;\n",
+        "    q = (a / $signed(8'h01));\n",
+        "    q = 8'((a << 100'h0000000000000000000000000));\n",
+        "    w[127] = (&{w[126:0], s});\n",
+        "    if (s) begin\n      q[0] = w[0];\n      w = (w + q);\n    end\n",
     ];
-    assert!(rt; found(rt.alloc(), &[RESET])?.is_none());
-    for (statement, more) in rows {
-        assert!(rt; found(rt.alloc(), &[HEAD, statement, more, TAIL])?.is_none());
+    for whole in [RESET, AND, COUNT, WORD, ARRAY].as_slice() {
+        assert!(rt; found(rt.alloc(), &[whole])?.is_none());
     }
+    for statement in rows {
+        assert!(rt; found(rt.alloc(), &[HEAD, VALUES, statement, TAIL])?.is_none());
+    }
+    // a part of what is set, in its order
+    assert!(rt;
+        found(
+            rt.alloc(),
+            &[PORTS, PAIR, RESETS, "      n <= 8'h00;\n", SETS, END]
+        )?
+        .is_none()
+    );
     Ok(())
 }
 
@@ -412,6 +464,190 @@ fn declarations(rt: HostRuntime) -> Result<(), NoMemory> {
     for (size, front, rest) in rows {
         assert!(rt; stands(rt.alloc(), *size, &[front], &[rest])?);
     }
+    Ok(())
+}
+
+#[test]
+fn names_where_they_may_not_stand(rt: HostRuntime) -> Result<(), NoMemory> {
+    let statements: &[(&str, &str)] = &[
+        ("    q = a;\n    ", "s = 1'h0;\n"),
+        (
+            "    q = 8'h00;\n    if (s) begin\n      ",
+            "a[0] = s;\n    end\n",
+        ),
+        ("    q = (", "q + a);\n"),
+        ("    q = (a + ", "q);\n"),
+        ("    q = {a[3:0], ", "q[3:0]};\n"),
+        ("    q = 8'((a + ", "q));\n"),
+        ("    q = $unsigned(", "q);\n"),
+        ("    q = (~", "q);\n"),
+        ("    q = (s ? a : ", "q);\n"),
+        ("    q = (", "q[0] ? a : 8'h00);\n"),
+        ("    ", "q[0] = s;\n    q = a;\n"),
+        ("    ", "q[3:1] = a[3:1];\n    q = a;\n"),
+        ("    if (s) begin\n      ", "q = a;\n    end\n"),
+        (
+            "    if (s) begin\n    end else begin\n      ",
+            "q = a;\n    end\n    q = a;\n",
+        ),
+        ("    if (", "q[0]) begin\n    end\n    q = a;\n"),
+        (
+            "    case (",
+            "q)\n      8'h00: begin\n      end\n    endcase\n    q = a;\n",
+        ),
+        (
+            "    case (s)\n      1'h0: begin\n        ",
+            "q = a;\n      end\n      1'h1: begin\n        q = a;\n      end\n    endcase\n",
+        ),
+    ];
+    for (front, rest) in statements {
+        assert!(rt; is_misplaced(rt.alloc(), &[BLOCK, front], &[rest, TAIL])?);
+    }
+    let blocks: &[(&str, &str)] = &[
+        (
+            "  always_comb begin\n    q = a;\n  end\n  always_comb begin\n    ",
+            "q = a;\n  end\n",
+        ),
+        (
+            "  always_comb begin\n    q = a;\n  end\n  always_ff @(posedge clk) begin\n    ",
+            "q <= a;\n  end\n",
+        ),
+        (
+            "  always_ff @(posedge clk) begin\n    q <= a;\n  end\n  always_comb begin\n    ",
+            "q = a;\n  end\n",
+        ),
+        (
+            "  always_ff @(posedge clk) begin\n    q <= a;\n    ",
+            "q <= a;\n  end\n",
+        ),
+        (
+            "  always_ff @(posedge clk) begin\n    q <= a;\n    ",
+            "rst <= a[0];\n  end\n",
+        ),
+        ("  always_ff @(posedge ", "a) begin\n    q <= a;\n  end\n"),
+        ("  always_ff @(posedge ", "q) begin\n    q <= a;\n  end\n"),
+        (
+            "  always_ff @(posedge ",
+            "clk) begin\n    q <= {a[6:0], clk};\n  end\n",
+        ),
+        (
+            "  always_ff @(negedge ",
+            "clk) begin\n    q <= a;\n  end\n  always_comb begin\n    n = 8'(clk);\n  end\n",
+        ),
+        (
+            "  always_ff @(posedge clk or negedge ",
+            "clk) begin\n    if ((!clk)) begin\n    end else begin\n      q <= a;\n    end\n  end\n",
+        ),
+        (
+            "  always_ff @(posedge clk or posedge ",
+            "a) begin\n    if (a) begin\n    end else begin\n      q <= a;\n    end\n  end\n",
+        ),
+        (
+            "  always_ff @(posedge clk or posedge rst) begin\n    if (",
+            "clk) begin\n    end else begin\n      q <= a;\n    end\n  end\n",
+        ),
+        (
+            "  always_ff @(posedge clk or posedge rst) begin\n    if (",
+            "(!rst)) begin\n    end else begin\n      q <= a;\n    end\n  end\n",
+        ),
+        (
+            "  always_ff @(posedge clk or negedge rst) begin\n    if (",
+            "rst) begin\n    end else begin\n      q <= a;\n    end\n  end\n",
+        ),
+    ];
+    for (front, rest) in blocks {
+        let more = "  always_comb begin\n    n = a;\n  end\n";
+        assert!(rt; is_misplaced(rt.alloc(), &[PORTS, front], &[rest, END])?);
+        assert!(rt; is_misplaced(rt.alloc(), &[PORTS, PAIR, front], &[rest, more, END])?);
+    }
+    Ok(())
+}
+
+#[test]
+fn drivers_of_declarations(rt: HostRuntime) -> Result<(), NoMemory> {
+    let loads: &[(&str, &str)] = &[
+        ("      n <= 8'h00;\n      ", "q <= 8'h00;\n"),
+        ("      q <= 8'h00;\n      ", "q <= 8'h01;\n"),
+        ("      ", "clk <= 1'h0;\n"),
+        (
+            "      q <= 8'h00;\n      n <= 8'h00;\n      ",
+            "n <= 8'h00;\n",
+        ),
+    ];
+    for (front, rest) in loads {
+        assert!(rt;
+            is_misplaced(
+                rt.alloc(),
+                &[PORTS, PAIR, RESETS, front],
+                &[rest, SETS, END]
+            )?
+        );
+    }
+    let rows: &[(&str, &str)] = &[
+        (
+            "module M (\n  input logic a,\n  output logic [7:0] ",
+            "q\n);\nendmodule\n",
+        ),
+        (
+            "module And (\n  input logic [7:0] a,\n  input logic [7:0] b,\n  output logic [7:0] ",
+            "y\n);\n  always_comb begin\n  end\nendmodule\n",
+        ),
+        (
+            "module M (\n  input logic a,\n  output logic q\n);\n  logic ",
+            "\\begin ;\n  always_comb begin\n    q = a;\n  end\nendmodule\n",
+        ),
+    ];
+    for (front, rest) in rows {
+        assert!(rt; is_misplaced(rt.alloc(), &[front], &[rest])?);
+    }
+    // a name that is not declared, and a wrong size, come before a driver that stands further in front
+    assert!(rt;
+        stands(
+            rt.alloc(),
+            false,
+            &[BLOCK, "    q = (q + "],
+            &["x);\n", TAIL]
+        )?
+    );
+    assert!(rt;
+        stands(
+            rt.alloc(),
+            true,
+            &[BLOCK, "    q = (q + "],
+            &["a[8]);\n", TAIL]
+        )?
+    );
+    // the first of two assignments may be left out
+    let text =
+        "module And (\n  input logic [7:0] a,\n  input logic [7:0] b,\n  output logic [7:0] y\n);\n  always_comb begin\n    y = 8'((64'(a) & 64'(b)));\n  end\nendmodule\n";
+    assert!(rt; found(rt.alloc(), &[text])?.is_none());
+    // another clock, and the other edge of the first
+    let first = "  always_ff @(posedge clk) begin\n    q <= a;\n  end\n";
+    let rest = ") begin\n    n <= a;\n  end\n";
+    assert!(rt;
+        is_misplaced(
+            rt.alloc(),
+            &[PORTS, PAIR, first, "  always_ff @(posedge "],
+            &["rst", rest, END]
+        )?
+    );
+    assert!(rt;
+        is_misplaced(
+            rt.alloc(),
+            &[PORTS, PAIR, first, "  always_ff @(negedge "],
+            &["clk", rest, END]
+        )?
+    );
+    // the clock of another block
+    let reset =
+        "clk) begin\n    if (clk) begin\n    end else begin\n      n <= a;\n    end\n  end\n";
+    assert!(rt;
+        is_misplaced(
+            rt.alloc(),
+            &[PORTS, PAIR, first, "  always_ff @(posedge clk or posedge "],
+            &[reset, END]
+        )?
+    );
     Ok(())
 }
 
