@@ -557,7 +557,6 @@ fn names_where_they_may_not_stand(rt: HostRuntime) -> Result<(), NoMemory> {
     ];
     for (front, rest) in blocks {
         let more = "  always_comb begin\n    n = a;\n  end\n";
-        assert!(rt; is_misplaced(rt.alloc(), &[PORTS, front], &[rest, END])?);
         assert!(rt; is_misplaced(rt.alloc(), &[PORTS, PAIR, front], &[rest, more, END])?);
     }
     Ok(())
