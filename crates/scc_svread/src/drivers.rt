@@ -8,7 +8,7 @@ use crate::facts::{Clock, Facts, Taken, facts_of, is_input};
 use crate::leaf::{pass_both, spelling};
 use crate::mentioned::block_assigns;
 use crate::module::copied;
-use crate::name_set::NameSet;
+use crate::text_set::TextSet;
 use crate::walk::{START, Walk};
 use crate::within::{mention, own_level};
 use scc_base::{List, NoMemory};
@@ -55,12 +55,12 @@ fn comb(
     f: &Facts,
     t: &Taken,
     list: &List<RawStmt>,
-    assigned: &NameSet,
+    assigned: &TextSet,
     w: Walk,
 ) -> Result<Walk, NoMemory>
     ensures { IfOk result (λ v. v ≡ drivers.comb_names f.now t.now list.now assigned.now w) }
 {
-    let mut whole = NameSet::new(alloc);
+    let mut whole = TextSet::new(alloc);
     let end = own_level(
         &f.inputs,
         &t.names,
@@ -78,7 +78,7 @@ fn block(alloc: Global, f: &Facts, t: &Taken, b: &RawBlock, w: Walk) -> Result<W
 {
     match b {
         RawBlock::Comb(list) => {
-            let mut assigned = NameSet::new(alloc);
+            let mut assigned = TextSet::new(alloc);
             block_assigns(&mut assigned, b)?;
             comb(alloc, f, t, list, &assigned, w)
         }
@@ -160,7 +160,7 @@ pub fn misplaced(alloc: Global, m: &RawModule) -> Result<Option<usize>, NoMemory
 {
     let f = facts_of(alloc, m)?;
     let mut t = Taken {
-        names: NameSet::new(alloc),
+        names: TextSet::new(alloc),
         clock: None,
     };
     let start = spelling(&m.name, START.pass(7)).pass(3);

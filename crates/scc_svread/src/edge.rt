@@ -7,7 +7,7 @@ ghost use Rattle.scc_svread.specs.Within as within;
 
 use crate::facts::{Clock, Facts, Taken};
 use crate::leaf::{digits, spelling};
-use crate::name_set::NameSet;
+use crate::text_set::TextSet;
 use crate::walk::Walk;
 use crate::within::{Within, expr, mention};
 use scc_base::{NoMemory, Text};
@@ -15,14 +15,14 @@ use scc_svraw::{RawLoad, RawReset, RawSet};
 use std::alloc::Global;
 
 // Whether a target is an input, or is assigned elsewhere or before.
-fn is_wrong_target(f: &Facts, taken: &NameSet, before: &NameSet, name: &[u8]) -> bool
+fn is_wrong_target(f: &Facts, taken: &TextSet, before: &TextSet, name: &[u8]) -> bool
     ensures { result ≡ drivers.is_wrong_target f.now taken.now before.now name.now }
 {
     f.inputs.has(name) || taken.has(name) || before.has(name)
 }
 
 // An expression in which a name may be read anywhere; no names are given to look among.
-fn set(empty: &NameSet, wrong: bool, s: &RawSet, n: usize, w: Walk) -> Walk
+fn set(empty: &TextSet, wrong: bool, s: &RawSet, n: usize, w: Walk) -> Walk
     requires { empty.now ≡ [] }
     ensures { result ≡ drivers.set_names wrong s.now n w }
 {
@@ -40,15 +40,15 @@ fn set(empty: &NameSet, wrong: bool, s: &RawSet, n: usize, w: Walk) -> Walk
 fn sets(
     alloc: Global,
     f: &Facts,
-    taken: &NameSet,
+    taken: &TextSet,
     list: &[RawSet],
     n: usize,
     w: Walk,
 ) -> Result<Walk, NoMemory>
     ensures { IfOk result (λ v. v ≡ drivers.sets_names f.now taken.now [] list.now n w) }
 {
-    let empty = NameSet::new(alloc);
-    let mut before = NameSet::new(alloc);
+    let empty = TextSet::new(alloc);
+    let mut before = TextSet::new(alloc);
     let mut walk = w;
     for s in list {
         let wrong = is_wrong_target(f, taken, &before, s.target.bytes());
@@ -80,7 +80,7 @@ fn load(wrong: bool, l: &RawLoad, n: usize, w: Walk) -> Walk
 fn loads(
     alloc: Global,
     f: &Facts,
-    taken: &NameSet,
+    taken: &TextSet,
     sets: &[RawSet],
     list: &[RawLoad],
     n: usize,
@@ -88,7 +88,7 @@ fn loads(
 ) -> Result<Walk, NoMemory>
     ensures { IfOk result (λ v. v ≡ drivers.loads_names f.now taken.now [] sets.now list.now n w) }
 {
-    let mut before = NameSet::new(alloc);
+    let mut before = TextSet::new(alloc);
     let mut rest = sets;
     let mut walk = w;
     for l in list {

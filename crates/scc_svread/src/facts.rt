@@ -4,8 +4,8 @@ ghost use Rattle.scc_svread.specs.Drivers as drivers;
 ghost use Rattle.scc_svread.specs.Mentioned.{each};
 
 use crate::mentioned::{items_assign, items_read};
-use crate::name_set::NameSet;
 use crate::number::high_of;
+use crate::text_set::TextSet;
 use scc_base::{NoMemory, Text};
 use scc_svraw::{RawModule, RawVar};
 use scc_svtree::Dir;
@@ -14,13 +14,13 @@ use std::alloc::Global;
 /// What is known before the blocks are looked through.
 #[derive(Drop)]
 pub struct Facts {
-    pub inputs: NameSet,
+    pub inputs: TextSet,
     /// The inputs of one bit.
-    pub levels: NameSet,
+    pub levels: TextSet,
     /// What some expression reads.
-    pub read: NameSet,
+    pub read: TextSet,
     /// What some block assigns.
-    pub driven: NameSet,
+    pub driven: TextSet,
 }
 
 /// A clock, and the edge at which blocks run.
@@ -33,7 +33,7 @@ pub struct Clock {
 /// What the blocks before a place assign, and the clock of the first of them that has one.
 #[derive(Drop)]
 pub struct Taken {
-    pub names: NameSet,
+    pub names: TextSet,
     pub clock: Option<Clock>,
 }
 
@@ -48,7 +48,7 @@ pub fn is_input(dir: Dir) -> bool
     }
 }
 
-fn inputs(found: &mut NameSet, list: &[RawVar]) -> Result<(), NoMemory>
+fn inputs(found: &mut TextSet, list: &[RawVar]) -> Result<(), NoMemory>
     ensures { OnOk result (found.new ≡ each (map drivers.input_of list.now) found.old) }
 {
     for v in list {
@@ -57,7 +57,7 @@ fn inputs(found: &mut NameSet, list: &[RawVar]) -> Result<(), NoMemory>
     Ok(())
 }
 
-fn levels(found: &mut NameSet, list: &[RawVar]) -> Result<(), NoMemory>
+fn levels(found: &mut TextSet, list: &[RawVar]) -> Result<(), NoMemory>
     ensures { OnOk result (found.new ≡ each (map drivers.level_of list.now) found.old) }
 {
     for v in list {
@@ -71,10 +71,10 @@ pub fn facts_of(alloc: Global, m: &RawModule) -> Result<Facts, NoMemory>
     ensures { IfOk result (λ f. f ≡ drivers.facts_of m.now) }
 {
     let mut facts = Facts {
-        inputs: NameSet::new(alloc),
-        levels: NameSet::new(alloc),
-        read: NameSet::new(alloc),
-        driven: NameSet::new(alloc),
+        inputs: TextSet::new(alloc),
+        levels: TextSet::new(alloc),
+        read: TextSet::new(alloc),
+        driven: TextSet::new(alloc),
     };
     inputs(&mut facts.inputs, m.ports.as_slice())?;
     levels(&mut facts.levels, m.ports.as_slice())?;

@@ -12,13 +12,13 @@ mod laws;
 mod leaf;
 mod mentioned;
 mod module;
-mod name_set;
 mod names;
 mod number;
 mod scope;
 mod stmt;
 #[cfg(test)]
 mod tests;
+mod text_set;
 mod tree;
 mod walk;
 mod within;

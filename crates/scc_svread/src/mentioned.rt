@@ -2,13 +2,13 @@
 ghost use Rattle.std.specs.Prelude.{◌≡◌, map, OnOk};
 ghost use Rattle.scc_svread.specs.Mentioned as names;
 
-use crate::name_set::NameSet;
+use crate::text_set::TextSet;
 use scc_base::NoMemory;
 use scc_svraw::{RawArm, RawBlock, RawExpr, RawItem, RawLoad, RawReset, RawSet, RawStmt};
 
 /// Adds what an expression reads.
 #[cycle(reads)]
-fn reads(found: &mut NameSet, e: &RawExpr) -> Result<(), NoMemory>
+fn reads(found: &mut TextSet, e: &RawExpr) -> Result<(), NoMemory>
     ensures { OnOk result (found.new ≡ names.read_by e.now found.old) }
 {
     match e {
@@ -31,7 +31,7 @@ fn reads(found: &mut NameSet, e: &RawExpr) -> Result<(), NoMemory>
 }
 
 #[cycle(reads)]
-fn all_read(found: &mut NameSet, list: &[RawExpr]) -> Result<(), NoMemory>
+fn all_read(found: &mut TextSet, list: &[RawExpr]) -> Result<(), NoMemory>
     ensures { OnOk result (found.new ≡ names.each (map names.read_by list.now) found.old) }
 {
     for e in list {
@@ -41,7 +41,7 @@ fn all_read(found: &mut NameSet, list: &[RawExpr]) -> Result<(), NoMemory>
 }
 
 #[cycle(stmts_read)]
-fn stmt_reads(found: &mut NameSet, s: &RawStmt) -> Result<(), NoMemory>
+fn stmt_reads(found: &mut TextSet, s: &RawStmt) -> Result<(), NoMemory>
     ensures { OnOk result (found.new ≡ names.read_in s.now found.old) }
 {
     match s {
@@ -59,7 +59,7 @@ fn stmt_reads(found: &mut NameSet, s: &RawStmt) -> Result<(), NoMemory>
 }
 
 #[cycle(stmts_read)]
-fn stmts_read(found: &mut NameSet, list: &[RawStmt]) -> Result<(), NoMemory>
+fn stmts_read(found: &mut TextSet, list: &[RawStmt]) -> Result<(), NoMemory>
     ensures { OnOk result (found.new ≡ names.each (map names.read_in list.now) found.old) }
 {
     for s in list {
@@ -69,7 +69,7 @@ fn stmts_read(found: &mut NameSet, list: &[RawStmt]) -> Result<(), NoMemory>
 }
 
 #[cycle(stmts_read)]
-fn arms_read(found: &mut NameSet, list: &[RawArm]) -> Result<(), NoMemory>
+fn arms_read(found: &mut TextSet, list: &[RawArm]) -> Result<(), NoMemory>
     ensures { OnOk result (found.new ≡ names.each (map names.read_in_arm list.now) found.old) }
 {
     for a in list {
@@ -79,7 +79,7 @@ fn arms_read(found: &mut NameSet, list: &[RawArm]) -> Result<(), NoMemory>
 }
 
 #[cycle(stmts_assign)]
-fn stmt_assigns(found: &mut NameSet, s: &RawStmt) -> Result<(), NoMemory>
+fn stmt_assigns(found: &mut TextSet, s: &RawStmt) -> Result<(), NoMemory>
     ensures { OnOk result (found.new ≡ names.assigned_in s.now found.old) }
 {
     match s {
@@ -93,7 +93,7 @@ fn stmt_assigns(found: &mut NameSet, s: &RawStmt) -> Result<(), NoMemory>
 }
 
 #[cycle(stmts_assign)]
-fn stmts_assign(found: &mut NameSet, list: &[RawStmt]) -> Result<(), NoMemory>
+fn stmts_assign(found: &mut TextSet, list: &[RawStmt]) -> Result<(), NoMemory>
     ensures { OnOk result (found.new ≡ names.each (map names.assigned_in list.now) found.old) }
 {
     for s in list {
@@ -103,7 +103,7 @@ fn stmts_assign(found: &mut NameSet, list: &[RawStmt]) -> Result<(), NoMemory>
 }
 
 #[cycle(stmts_assign)]
-fn arms_assign(found: &mut NameSet, list: &[RawArm]) -> Result<(), NoMemory>
+fn arms_assign(found: &mut TextSet, list: &[RawArm]) -> Result<(), NoMemory>
     ensures { OnOk result (found.new ≡ names.each (map names.assigned_in_arm list.now) found.old) }
 {
     for a in list {
@@ -112,7 +112,7 @@ fn arms_assign(found: &mut NameSet, list: &[RawArm]) -> Result<(), NoMemory>
     Ok(())
 }
 
-fn sets_read(found: &mut NameSet, list: &[RawSet]) -> Result<(), NoMemory>
+fn sets_read(found: &mut TextSet, list: &[RawSet]) -> Result<(), NoMemory>
     ensures { OnOk result (found.new ≡ names.each (map names.set_read list.now) found.old) }
 {
     for s in list {
@@ -121,7 +121,7 @@ fn sets_read(found: &mut NameSet, list: &[RawSet]) -> Result<(), NoMemory>
     Ok(())
 }
 
-fn sets_assign(found: &mut NameSet, list: &[RawSet]) -> Result<(), NoMemory>
+fn sets_assign(found: &mut TextSet, list: &[RawSet]) -> Result<(), NoMemory>
     ensures { OnOk result (found.new ≡ names.each (map names.set_assigned list.now) found.old) }
 {
     for s in list {
@@ -130,7 +130,7 @@ fn sets_assign(found: &mut NameSet, list: &[RawSet]) -> Result<(), NoMemory>
     Ok(())
 }
 
-fn loads_assign(found: &mut NameSet, list: &[RawLoad]) -> Result<(), NoMemory>
+fn loads_assign(found: &mut TextSet, list: &[RawLoad]) -> Result<(), NoMemory>
     ensures { OnOk result (found.new ≡ names.each (map names.load_assigned list.now) found.old) }
 {
     for l in list {
@@ -139,7 +139,7 @@ fn loads_assign(found: &mut NameSet, list: &[RawLoad]) -> Result<(), NoMemory>
     Ok(())
 }
 
-fn reset_assigns(found: &mut NameSet, r: &Option<RawReset>) -> Result<(), NoMemory>
+fn reset_assigns(found: &mut TextSet, r: &Option<RawReset>) -> Result<(), NoMemory>
     ensures { OnOk result (found.new ≡ names.reset_assigned r.now found.old) }
 {
     match r {
@@ -148,7 +148,7 @@ fn reset_assigns(found: &mut NameSet, r: &Option<RawReset>) -> Result<(), NoMemo
     }
 }
 
-fn block_reads(found: &mut NameSet, b: &RawBlock) -> Result<(), NoMemory>
+fn block_reads(found: &mut TextSet, b: &RawBlock) -> Result<(), NoMemory>
     ensures { OnOk result (found.new ≡ names.block_read b.now found.old) }
 {
     match b {
@@ -158,7 +158,7 @@ fn block_reads(found: &mut NameSet, b: &RawBlock) -> Result<(), NoMemory>
 }
 
 /// Adds what a block assigns.
-pub fn block_assigns(found: &mut NameSet, b: &RawBlock) -> Result<(), NoMemory>
+pub fn block_assigns(found: &mut TextSet, b: &RawBlock) -> Result<(), NoMemory>
     ensures { OnOk result (found.new ≡ names.block_assigned b.now found.old) }
 {
     match b {
@@ -170,7 +170,7 @@ pub fn block_assigns(found: &mut NameSet, b: &RawBlock) -> Result<(), NoMemory>
     }
 }
 
-fn item_reads(found: &mut NameSet, i: &RawItem) -> Result<(), NoMemory>
+fn item_reads(found: &mut TextSet, i: &RawItem) -> Result<(), NoMemory>
     ensures { OnOk result (found.new ≡ names.item_read i.now found.old) }
 {
     match i {
@@ -179,7 +179,7 @@ fn item_reads(found: &mut NameSet, i: &RawItem) -> Result<(), NoMemory>
     }
 }
 
-fn item_assigns(found: &mut NameSet, i: &RawItem) -> Result<(), NoMemory>
+fn item_assigns(found: &mut TextSet, i: &RawItem) -> Result<(), NoMemory>
     ensures { OnOk result (found.new ≡ names.item_assigned i.now found.old) }
 {
     match i {
@@ -189,7 +189,7 @@ fn item_assigns(found: &mut NameSet, i: &RawItem) -> Result<(), NoMemory>
 }
 
 /// Adds what the expressions of a module read.
-pub fn items_read(found: &mut NameSet, list: &[RawItem]) -> Result<(), NoMemory>
+pub fn items_read(found: &mut TextSet, list: &[RawItem]) -> Result<(), NoMemory>
     ensures { OnOk result (found.new ≡ names.each (map names.item_read list.now) found.old) }
 {
     for i in list {
@@ -199,7 +199,7 @@ pub fn items_read(found: &mut NameSet, list: &[RawItem]) -> Result<(), NoMemory>
 }
 
 /// Adds what the blocks of a module assign.
-pub fn items_assign(found: &mut NameSet, list: &[RawItem]) -> Result<(), NoMemory>
+pub fn items_assign(found: &mut TextSet, list: &[RawItem]) -> Result<(), NoMemory>
     ensures { OnOk result (found.new ≡ names.each (map names.item_assigned list.now) found.old) }
 {
     for i in list {

@@ -4,9 +4,10 @@ ghost use Rattle.scc_svread.specs.Lines as lines;
 ghost use Rattle.scc_svread.specs.Walking as walking;
 
 use crate::expr::part;
-use crate::labels::{Labels, is_wrong_label};
+use crate::labels::{add, is_wrong_label};
 use crate::leaf::{digits, left, pass_both};
 use crate::scope::Scope;
+use crate::text_set::TextSet;
 use crate::walk::Walk;
 use scc_base::NoMemory;
 use scc_svraw::{RawArm, RawStmt};
@@ -91,10 +92,10 @@ fn choices(
 ) -> Result<Walk, NoMemory>
     ensures { IfOk result (λ v. v ≡ lines.choices bits [] (map (lines.choice_of scope.now) arms.now) n w) }
 {
-    let mut labels = Labels::new(alloc);
+    let mut labels = TextSet::new(alloc);
     let mut walk = w;
     for a in arms {
-        let wrong = is_wrong_label(bits, labels.add(&a.label)?, &a.label);
+        let wrong = is_wrong_label(bits, add(alloc, &mut labels, &a.label)?, &a.label);
         let start = walk.pass(n).size_if(wrong);
         let body = stmts(
             alloc,

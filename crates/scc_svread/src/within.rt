@@ -6,8 +6,8 @@ ghost use Rattle.scc_svread.specs.Walking as walking;
 
 use crate::expr::{operator_bytes, sign_bytes};
 use crate::leaf::{digits, pass_both, select, spelling};
-use crate::name_set::NameSet;
 use crate::stmt::deeper;
+use crate::text_set::TextSet;
 use crate::walk::Walk;
 use scc_base::{NoMemory, Text};
 use scc_svraw::{RawArm, RawExpr, RawLeft, RawSelect, RawStmt};
@@ -16,10 +16,10 @@ use scc_svraw::{RawArm, RawExpr, RawLeft, RawSelect, RawStmt};
 /// what it has given a whole value at its own level.
 #[derive(Clone, Copy)]
 pub struct Within<'a> {
-    pub inputs: &'a NameSet,
-    pub taken: &'a NameSet,
-    pub assigned: &'a NameSet,
-    pub whole: &'a NameSet,
+    pub inputs: &'a TextSet,
+    pub taken: &'a TextSet,
+    pub assigned: &'a TextSet,
+    pub whole: &'a TextSet,
 }
 
 // Whether a name has no value yet.
@@ -170,7 +170,7 @@ fn arms(c: Within, list: &[RawArm], n: usize, w: Walk) -> Walk
 }
 
 // Adds what has a whole value behind a statement.
-fn add_whole(whole: &mut NameSet, s: &RawStmt) -> Result<(), NoMemory>
+fn add_whole(whole: &mut TextSet, s: &RawStmt) -> Result<(), NoMemory>
     ensures { OnOk result (whole.new ≡ names.whole_after s.now whole.old) }
 {
     match s {
@@ -182,10 +182,10 @@ fn add_whole(whole: &mut NameSet, s: &RawStmt) -> Result<(), NoMemory>
 
 /// The statements of a block's own level, behind so many blanks.
 pub fn own_level(
-    inputs: &NameSet,
-    taken: &NameSet,
-    assigned: &NameSet,
-    whole: &mut NameSet,
+    inputs: &TextSet,
+    taken: &TextSet,
+    assigned: &TextSet,
+    whole: &mut TextSet,
     list: &[RawStmt],
     n: usize,
     w: Walk,
