@@ -1,7 +1,7 @@
--- The first name of a module as it is written that is declared and stands where it may not: a variable that nothing drives, or that two
--- blocks drive; an input that is assigned; a name that its block reads before it has a value; and names of clocks and resets
--- (IEEE 1800-2017, 9.2.2.2, 9.2.2.4, 23.3.3.2).
-use Rattle.std.specs.Prelude.{◌≡◌, ℕ, ◌+◌, nat_eq, Bool, true, false, not, ◌&&◌, ◌||◌, if◌then◌else◌, List, [], ◌∷◌, length, map, bytes_eq, Option, Some, None}
+-- The first name of a module as it is written that stands where it may not, though it be declared: a variable that nothing drives, or that
+-- two blocks assign; an input that is assigned; what its block assigns, where it is mentioned before it has a whole value; what an edge
+-- sets twice; what a reset loads that is no part of that; clocks, resets and their levels (IEEE 1800-2017, 9.2.2.2, 9.2.2.4, 9.4.2).
+use Rattle.std.specs.Prelude.{ℕ, ◌+◌, nat_eq, Bool, true, false, not, ◌&&◌, ◌||◌, if◌then◌else◌, List, [], ◌∷◌, length, map, bytes_eq, Option, Some, None}
 use Rattle.scc_svtree.specs.declared.module.Dir.{Dir}
 use Rattle.scc_svtree.specs.declared.module.Dir.TheVariants.{Input, Output, Inner}
 use Rattle.scc_svtext.specs.Pieces.{spelled}
@@ -17,7 +17,6 @@ use Rattle.scc_svraw.specs.declared.raw.RawItem.TheVariants.{Var, Block}
 use Rattle.scc_svraw.specs.declared.raw.RawModule.{RawModule}
 use Rattle.scc_svraw.specs.Lexical.{Bytes}
 use Rattle.scc_svread.specs.declared.facts.Facts.{Facts}
-use Rattle.scc_svread.specs.declared.facts.Clock.{Clock}
 use Rattle.scc_svread.specs.declared.facts.Taken.{Taken}
 use Rattle.scc_svread.specs.Resolved.{with_name}
 use Rattle.scc_svread.specs.Scope.{high_of}
@@ -26,7 +25,7 @@ use Rattle.scc_svread.specs.Parts.{literal_bytes}
 use Rattle.scc_svread.specs.Lines.{Line}
 use Rattle.scc_svread.specs.Blocks.{range_bytes, dir_bytes}
 use Rattle.scc_svread.specs.Mentioned.{Names, Adding, each, is_among, item_read, item_assigned, block_assigned}
-use Rattle.scc_svread.specs.Within.{Known, known, is_foreign, mention, expr_names, own_lines}
+use Rattle.scc_svread.specs.Within.{Known, known, mention, expr_names, own_lines}
 
 -- ---- what is known of a module's names
 
@@ -45,12 +44,22 @@ input_of v = with_name_if (is_input v.dir) v.name
 abbrev pub level_of : RawVar → Adding
 level_of v = with_name_if (is_input v.dir && nat_eq (high_of v) 0) v.name
 
+-- the clocks of all blocks
+abbrev pub block_clock : RawBlock → Adding
+block_clock (Comb ss) names = names
+block_clock (Edge rising clock reset sets) names = with_name names clock
+
+abbrev pub item_clock : RawItem → Adding
+item_clock (Var v) names = names
+item_clock (Block b) names = block_clock b names
+
 abbrev pub facts_of : RawModule → Facts
 facts_of m = record {
   inputs = each (map input_of m.ports) [];
   levels = each (map level_of m.ports) [];
   read = each (map item_read m.items) [];
   driven = each (map item_assigned m.items) [];
+  clocks = each (map item_clock m.items) [];
 }
 
 -- ---- declarations
@@ -72,7 +81,7 @@ ports_names f (v ∷ vs) = pass (dir_bytes v.dir) then var_names f v then furthe
 
 -- ---- blocks at edges
 
--- a block at an edge assigns no input, nothing that another block assigns, and nothing twice
+-- A block at an edge assigns no input, nothing that a block before assigns, and nothing twice (IEEE 1800-2017, 9.2.2.4).
 abbrev pub is_wrong_target : Facts → Names → Names → Bytes → Bool
 is_wrong_target f taken before name = is_among f.inputs name || is_among taken name || is_among before name
 
@@ -112,26 +121,31 @@ loads_names f taken before us (l ∷ ls) n w =
 
 -- ---- clocks and resets
 
--- the module's clock, where a block before has one
-abbrev pub is_clock : Option Clock → Bytes → Bool
-is_clock None name = false
-is_clock (Some c) name = bytes_eq c.name name
-
 abbrev pub same : Bool → Bool → Bool
 same true b = b
 same false b = not b
 
-abbrev pub is_other_clock : Option Clock → Bool → Bytes → Bool
-is_other_clock None rising name = false
-is_other_clock (Some c) rising name = not (bytes_eq c.name name && same c.rising rising)
+-- the clocks of the blocks before, at this edge
+abbrev pub clocks_at : Bool → Taken → Names
+clocks_at true t = t.rising
+clocks_at false t = t.falling
 
--- A clock is an input of one bit that no expression reads; a module has one, at one edge.
-abbrev pub is_wrong_clock : Facts → Option Clock → Bool → Bytes → Bool
-is_wrong_clock f clock rising name = not (is_among f.levels name) || is_among f.read name || is_other_clock clock rising name
+-- no block before is at an edge
+abbrev pub is_first : Taken → Bool
+is_first t = nat_eq (length t.rising) 0 && nat_eq (length t.falling) 0
 
--- A reset is an input of one bit, and no clock.
-abbrev pub is_wrong_signal : Facts → Option Clock → Bytes → Bytes → Bool
-is_wrong_signal f clock own name = not (is_among f.levels name) || bytes_eq own name || is_clock clock name
+-- A module has one clock, at one edge; with `many`, each clock has one edge.
+abbrev pub is_other_clock : Bool → Taken → Bool → Bytes → Bool
+is_other_clock true t rising name = is_among (clocks_at (not rising) t) name
+is_other_clock false t rising name = not (is_first t) && not (is_among (clocks_at rising t) name)
+
+-- A clock is an input of one bit that no expression reads.
+abbrev pub is_wrong_clock : Bool → Facts → Taken → Bool → Bytes → Bool
+is_wrong_clock many f t rising name = not (is_among f.levels name) || is_among f.read name || is_other_clock many t rising name
+
+-- A reset is an input of one bit, and not its block's clock; with `many`, the clock of no block.
+abbrev pub is_wrong_signal : Bool → Facts → Bytes → Bytes → Bool
+is_wrong_signal many f own name = not (is_among f.levels name) || bytes_eq own name || (many && is_among f.clocks name)
 
 -- A reset stands while its signal has the level to which its edge leads (IEEE 1800-2017, 9.4.2).
 abbrev pub is_wrong_level : RawReset → Bool
@@ -141,55 +155,54 @@ abbrev pub level_bytes : Bool → Bytes → ℕ
 level_bytes true name = length (spelled name) + 11
 level_bytes false name = length (spelled name) + 8
 
-abbrev pub reset_names : Facts → Taken → Bytes → RawReset → List RawSet → Walking
-reset_names f t own r sets =
-    pass 12 then mention (is_wrong_signal f t.clock own r.signal) r.signal then pass 16 then name_if (is_wrong_level r) then pass (level_bytes r.negated r.level)
+abbrev pub reset_names : Bool → Facts → Taken → Bytes → RawReset → List RawSet → Walking
+reset_names many f t own r sets =
+    pass 12 then mention (is_wrong_signal many f own r.signal) r.signal then pass 16 then name_if (is_wrong_level r) then pass (level_bytes r.negated r.level)
     then loads_names f t.names [] sets r.values 6 then pass 19
 
 -- from behind the clock's name
-abbrev pub edge_names : Facts → Taken → Bytes → Option RawReset → List RawSet → Walking
-edge_names f t own None sets = pass 8 then sets_names f t.names [] sets 4 then pass 6
-edge_names f t own (Some r) sets = reset_names f t own r sets then sets_names f t.names [] sets 6 then pass 14
+abbrev pub edge_names : Bool → Facts → Taken → Bytes → Option RawReset → List RawSet → Walking
+edge_names many f t own None sets = pass 8 then sets_names f t.names [] sets 4 then pass 6
+edge_names many f t own (Some r) sets = reset_names many f t own r sets then sets_names f t.names [] sets 6 then pass 14
 
 -- ---- blocks
 
 abbrev pub comb_names : Facts → Taken → List RawStmt → Names → Walking
 comb_names f t ss assigned = pass 20 then own_lines f.inputs t.names assigned [] ss 4 then pass 6
 
-abbrev pub block_names : Facts → Taken → RawBlock → Walking
-block_names f t (Comb ss) = comb_names f t ss (block_assigned (Comb ss) [])
-block_names f t (Edge rising clock reset sets) = pass 22 then mention (is_wrong_clock f t.clock rising clock) clock then edge_names f t clock reset sets
+abbrev pub block_names : Bool → Facts → Taken → RawBlock → Walking
+block_names many f t (Comb ss) = comb_names f t ss (block_assigned (Comb ss) [])
+block_names many f t (Edge rising clock reset sets) = pass 22 then mention (is_wrong_clock many f t rising clock) clock then edge_names many f t clock reset sets
 
--- the first clock of a module
-abbrev pub with_clock : RawBlock → Option Clock → Option Clock
-with_clock b (Some c) = Some c
-with_clock (Comb ss) None = None
-with_clock (Edge rising clock reset sets) None = Some (record { rising = rising; name = clock })
+-- the clock of a block at this edge
+abbrev pub clock_at : Bool → RawBlock → Adding
+clock_at up (Comb ss) names = names
+clock_at up (Edge rising clock reset sets) names = with_name_if (same up rising) clock names
 
 -- what is known behind a block
 abbrev pub taken_after : Taken → RawBlock → Taken
-taken_after t b = record { names = block_assigned b t.names; clock = with_clock b t.clock }
+taken_after t b = record { names = block_assigned b t.names; rising = clock_at true b t.rising; falling = clock_at false b t.falling }
 
 -- ---- the module
 
-abbrev pub item_names : Facts → Taken → RawItem → Walking
-item_names f t (Var v) = pass 8 then var_names f v then pass 2
-item_names f t (Block b) = block_names f t b
+abbrev pub item_walk : Bool → Facts → Taken → RawItem → Walking
+item_walk many f t (Var v) = pass 8 then var_names f v then pass 2
+item_walk many f t (Block b) = block_names many f t b
 
 abbrev pub taken_behind : Taken → RawItem → Taken
 taken_behind t (Var v) = t
 taken_behind t (Block b) = taken_after t b
 
-abbrev pub items_names : Facts → Taken → List RawItem → Walking
-items_names f t [] w = w
-items_names f t (i ∷ more) w = items_names f (taken_behind t i) more (item_names f t i w)
+abbrev pub items_walk : Bool → Facts → Taken → List RawItem → Walking
+items_walk many f t [] w = w
+items_walk many f t (i ∷ more) w = items_walk many f (taken_behind t i) more (item_walk many f t i w)
 
 abbrev pub nothing : Taken
-nothing = record { names = []; clock = None }
+nothing = record { names = []; rising = []; falling = [] }
 
-abbrev pub names_of : RawModule → Walking
-names_of m = pass 7 then pass (length (spelled m.name)) then pass 3 then ports_names (facts_of m) m.ports then pass 3 then items_names (facts_of m) nothing m.items
+abbrev pub names_of : Bool → RawModule → Walking
+names_of many m = pass 7 then pass (length (spelled m.name)) then pass 3 then ports_names (facts_of m) m.ports then pass 3 then items_walk many (facts_of m) nothing m.items
 
 -- the place of the first name that stands where it may not
-abbrev pub misplaced : RawModule → Option ℕ
-misplaced m = (names_of m start).name
+abbrev pub misplaced : Bool → RawModule → Option ℕ
+misplaced many m = (names_of many m start).name

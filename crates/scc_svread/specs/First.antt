@@ -1,5 +1,5 @@
 -- What is wrong first in a module as it is written: a size, a name that is undeclared or declared twice, or a driver.
-use Rattle.std.specs.Prelude.{ℕ, ◌+◌, List, [], ◌∷◌, length, Option, Some, None}
+use Rattle.std.specs.Prelude.{ℕ, ◌+◌, Bool, List, [], ◌∷◌, length, Option, Some, None}
 use Rattle.scc_svtext.specs.Pieces.{spelled}
 use Rattle.scc_svraw.specs.declared.raw.RawVar.{RawVar}
 use Rattle.scc_svraw.specs.declared.raw.RawItem.{RawItem}
@@ -53,5 +53,6 @@ first_in None (Some at) driver = Some (Name at)
 first_in None None (Some at) = Some (Driver at)
 first_in None None None = None
 
-abbrev pub wrong_of : RawModule → Option Wrong
-wrong_of m = first_in (module_walk m start).size (module_walk m start).name (misplaced m)
+-- what is wrong first; `many` says whether the module may have several clocks
+abbrev pub wrong_of : Bool → RawModule → Option Wrong
+wrong_of many m = first_in (module_walk m start).size (module_walk m start).name (misplaced many m)

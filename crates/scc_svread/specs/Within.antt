@@ -37,7 +37,7 @@ pub record Known : Type 0 where
 abbrev pub is_early : Known → Bytes → Bool
 is_early k name = is_among k.assigned name && not (is_among k.whole name)
 
--- An input, and what another block assigns, isn't assigned (IEEE 1800-2017, 9.2.2.2, 23.3.3.2).
+-- An input is not assigned, nor what a block before assigns (IEEE 1800-2017, 9.2.2.2).
 abbrev pub is_foreign : Known → Bytes → Bool
 is_foreign k name = is_among k.inputs name || is_among k.taken name
 

@@ -4,10 +4,9 @@ ghost use Rattle.scc_svread.specs.Drivers as drivers;
 
 use crate::block::{dir_bytes, range};
 use crate::edge::{clock, edge};
-use crate::facts::{Clock, Facts, Taken, facts_of, is_input};
+use crate::facts::{Facts, Taken, facts_of, is_input};
 use crate::leaf::{pass_both, spelling};
 use crate::mentioned::block_assigns;
-use crate::module::copied;
 use crate::text_set::TextSet;
 use crate::walk::{START, Walk};
 use crate::within::{mention, own_level};
@@ -73,8 +72,15 @@ fn comb(
     Ok(end.pass(6))
 }
 
-fn block(alloc: Global, f: &Facts, t: &Taken, b: &RawBlock, w: Walk) -> Result<Walk, NoMemory>
-    ensures { IfOk result (λ v. v ≡ drivers.block_names f.now t.now b.now w) }
+fn block(
+    alloc: Global,
+    many: bool,
+    f: &Facts,
+    t: &Taken,
+    b: &RawBlock,
+    w: Walk,
+) -> Result<Walk, NoMemory>
+    ensures { IfOk result (λ v. v ≡ drivers.block_names many f.now t.now b.now w) }
 {
     match b {
         RawBlock::Comb(list) => {
@@ -89,50 +95,52 @@ fn block(alloc: Global, f: &Facts, t: &Taken, b: &RawBlock, w: Walk) -> Result<W
             sets,
         } => edge(
             alloc,
+            many,
             f,
             t,
             name,
             reset,
             sets.as_slice(),
-            clock(f, t, *rising, name, w.pass(22)),
+            clock(many, f, t, *rising, name, w.pass(22)),
         ),
     }
 }
 
-// The clock of a block.
-fn clock_of(alloc: Global, b: &RawBlock) -> Result<Option<Clock>, NoMemory>
-    ensures { IfOk result (λ c. c ≡ drivers.with_clock b.now None) }
+// The clock of a block at this edge.
+fn clock_at(found: &mut TextSet, up: bool, b: &RawBlock) -> Result<(), NoMemory>
+    ensures { OnOk result (found.new ≡ drivers.clock_at up b.now found.old) }
 {
     match b {
-        RawBlock::Comb(_) => Ok(None),
-        RawBlock::Edge { rising, clock, .. } => Ok(Some(Clock {
-            rising: *rising,
-            name: copied(alloc, clock)?,
-        })),
+        RawBlock::Comb(_) => Ok(()),
+        RawBlock::Edge { rising, clock, .. } => found.add_if(up == *rising, clock.bytes()),
     }
 }
 
-fn add_block(alloc: Global, t: &mut Taken, b: &RawBlock) -> Result<(), NoMemory>
-    ensures names { OnOk result (t.new.names ≡ (drivers.taken_after t.old b.now).names) }
-    ensures clock { OnOk result (t.new.clock ≡ (drivers.taken_after t.old b.now).clock) }
+fn add_block(t: &mut Taken, b: &RawBlock) -> Result<(), NoMemory>
+    ensures { OnOk result (t.new ≡ drivers.taken_after t.old b.now) }
 {
     block_assigns(&mut t.names, b)?;
-    if t.clock.is_none() {
-        t.clock = clock_of(alloc, b)?;
-    }
-    Ok(())
+    clock_at(&mut t.rising, true, b)?;
+    clock_at(&mut t.falling, false, b)
 }
 
 // A declaration or a block, which is taken note of.
-fn item(alloc: Global, f: &Facts, t: &mut Taken, i: &RawItem, w: Walk) -> Result<Walk, NoMemory>
-    ensures walk { IfOk result (λ v. v ≡ drivers.item_names f.now t.old i.now w) }
+fn item(
+    alloc: Global,
+    many: bool,
+    f: &Facts,
+    t: &mut Taken,
+    i: &RawItem,
+    w: Walk,
+) -> Result<Walk, NoMemory>
+    ensures walk { IfOk result (λ v. v ≡ drivers.item_walk many f.now t.old i.now w) }
     ensures taken { OnOk result (t.new ≡ drivers.taken_behind t.old i.now) }
 {
     match i {
         RawItem::Var(v) => Ok(var(f, v, w.pass(8)).pass(2)),
         RawItem::Block(b) => {
-            let end = block(alloc, f, t, b, w)?;
-            add_block(alloc, t, b)?;
+            let end = block(alloc, many, f, t, b, w)?;
+            add_block(t, b)?;
             Ok(end)
         }
     }
@@ -140,31 +148,33 @@ fn item(alloc: Global, f: &Facts, t: &mut Taken, i: &RawItem, w: Walk) -> Result
 
 fn items(
     alloc: Global,
+    many: bool,
     f: &Facts,
     t: &mut Taken,
     list: &[RawItem],
     w: Walk,
 ) -> Result<Walk, NoMemory>
-    ensures { IfOk result (λ v. v ≡ drivers.items_names f.now t.old list.now w) }
+    ensures { IfOk result (λ v. v ≡ drivers.items_walk many f.now t.old list.now w) }
 {
     let mut walk = w;
     for i in list {
-        walk = item(alloc, f, t, i, walk)?;
+        walk = item(alloc, many, f, t, i, walk)?;
     }
     Ok(walk)
 }
 
-/// The place of the first name that stands where it may not.
-pub fn misplaced(alloc: Global, m: &RawModule) -> Result<Option<usize>, NoMemory>
-    ensures { IfOk result (λ at. at ≡ drivers.misplaced m.now) }
+/// The place of the first name that stands where it may not, in a module that may have several clocks or one.
+pub fn misplaced(alloc: Global, many: bool, m: &RawModule) -> Result<Option<usize>, NoMemory>
+    ensures { IfOk result (λ at. at ≡ drivers.misplaced many m.now) }
 {
     let f = facts_of(alloc, m)?;
     let mut t = Taken {
         names: TextSet::new(alloc),
-        clock: None,
+        rising: TextSet::new(alloc),
+        falling: TextSet::new(alloc),
     };
     let start = spelling(&m.name, START.pass(7)).pass(3);
     let behind = ports(&f, m.ports.as_slice(), start).pass(3);
-    let end = items(alloc, &f, &mut t, m.items.as_slice(), behind)?;
+    let end = items(alloc, many, &f, &mut t, m.items.as_slice(), behind)?;
     Ok(end.name)
 }

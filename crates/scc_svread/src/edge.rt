@@ -5,7 +5,7 @@ ghost use Rattle.scc_svread.specs.Drivers as drivers;
 ghost use Rattle.scc_svread.specs.Walking as walking;
 ghost use Rattle.scc_svread.specs.Within as within;
 
-use crate::facts::{Clock, Facts, Taken};
+use crate::facts::{Facts, Taken};
 use crate::leaf::{digits, spelling};
 use crate::text_set::TextSet;
 use crate::walk::Walk;
@@ -102,36 +102,41 @@ fn loads(
     Ok(walk)
 }
 
-fn is_clock(clock: &Option<Clock>, name: &[u8]) -> bool
-    ensures { result ≡ drivers.is_clock clock.now name.now }
+// Whether no block before is at an edge.
+fn is_first(t: &Taken) -> bool
+    ensures { result ≡ drivers.is_first t.now }
 {
-    match clock {
-        None => false,
-        Some(c) => c.name.bytes() == name,
+    t.rising.is_empty() && t.falling.is_empty()
+}
+
+// Whether a block at this edge of this clock does not go with the blocks before.
+fn is_other_clock(many: bool, t: &Taken, rising: bool, name: &[u8]) -> bool
+    ensures { result ≡ drivers.is_other_clock many t.now rising name.now }
+{
+    let (same, other) = if rising {
+        (&t.rising, &t.falling)
+    } else {
+        (&t.falling, &t.rising)
+    };
+    if many {
+        other.has(name)
+    } else {
+        !is_first(t) && !same.has(name)
     }
 }
 
-fn is_other_clock(clock: &Option<Clock>, rising: bool, name: &[u8]) -> bool
-    ensures { result ≡ drivers.is_other_clock clock.now rising name.now }
+// Whether a name cannot be that of a clock.
+fn is_wrong_clock(many: bool, f: &Facts, t: &Taken, rising: bool, name: &[u8]) -> bool
+    ensures { result ≡ drivers.is_wrong_clock many f.now t.now rising name.now }
 {
-    match clock {
-        None => false,
-        Some(c) => !(c.name.bytes() == name && c.rising == rising),
-    }
-}
-
-// Whether a name is not a module's one clock, or some expression reads it.
-fn is_wrong_clock(f: &Facts, clock: &Option<Clock>, rising: bool, name: &[u8]) -> bool
-    ensures { result ≡ drivers.is_wrong_clock f.now clock.now rising name.now }
-{
-    !f.levels.has(name) || f.read.has(name) || is_other_clock(clock, rising, name)
+    !f.levels.has(name) || f.read.has(name) || is_other_clock(many, t, rising, name)
 }
 
 // Whether a name cannot be that of a reset.
-fn is_wrong_signal(f: &Facts, clock: &Option<Clock>, own: &[u8], name: &[u8]) -> bool
-    ensures { result ≡ drivers.is_wrong_signal f.now clock.now own.now name.now }
+fn is_wrong_signal(many: bool, f: &Facts, own: &[u8], name: &[u8]) -> bool
+    ensures { result ≡ drivers.is_wrong_signal many f.now own.now name.now }
 {
-    !f.levels.has(name) || own == name || is_clock(clock, name)
+    !f.levels.has(name) || own == name || (many && f.clocks.has(name))
 }
 
 // Whether a reset is asked for at another level than its edge leads to.
@@ -149,6 +154,7 @@ fn level(negated: bool, name: &Text, w: Walk) -> Walk
 
 fn reset(
     alloc: Global,
+    many: bool,
     f: &Facts,
     t: &Taken,
     own: &Text,
@@ -156,9 +162,9 @@ fn reset(
     sets: &[RawSet],
     w: Walk,
 ) -> Result<Walk, NoMemory>
-    ensures { IfOk result (λ v. v ≡ drivers.reset_names f.now t.now own.now r.now sets.now w) }
+    ensures { IfOk result (λ v. v ≡ drivers.reset_names many f.now t.now own.now r.now sets.now w) }
 {
-    let wrong = is_wrong_signal(f, &t.clock, own.bytes(), r.signal.bytes());
+    let wrong = is_wrong_signal(many, f, own.bytes(), r.signal.bytes());
     let signal = mention(wrong, &r.signal, w.pass(12)).pass(16);
     let start = level(r.negated, &r.level, signal.name_if(is_wrong_level(r)));
     Ok(loads(alloc, f, &t.names, sets, r.values.as_slice(), 6, start)?.pass(19))
@@ -167,6 +173,7 @@ fn reset(
 /// A block at an edge, from behind its clock's name.
 pub fn edge(
     alloc: Global,
+    many: bool,
     f: &Facts,
     t: &Taken,
     own: &Text,
@@ -174,20 +181,20 @@ pub fn edge(
     list: &[RawSet],
     w: Walk,
 ) -> Result<Walk, NoMemory>
-    ensures { IfOk result (λ v. v ≡ drivers.edge_names f.now t.now own.now with.now list.now w) }
+    ensures { IfOk result (λ v. v ≡ drivers.edge_names many f.now t.now own.now with.now list.now w) }
 {
     match with {
         None => Ok(sets(alloc, f, &t.names, list, 4, w.pass(8))?.pass(6)),
         Some(r) => {
-            let start = reset(alloc, f, t, own, r, list, w)?;
+            let start = reset(alloc, many, f, t, own, r, list, w)?;
             Ok(sets(alloc, f, &t.names, list, 6, start)?.pass(14))
         }
     }
 }
 
 /// A clock's name.
-pub fn clock(f: &Facts, t: &Taken, rising: bool, name: &Text, w: Walk) -> Walk
-    ensures { result ≡ within.mention (drivers.is_wrong_clock f.now t.now.clock rising name.now) name.now w }
+pub fn clock(many: bool, f: &Facts, t: &Taken, rising: bool, name: &Text, w: Walk) -> Walk
+    ensures { result ≡ within.mention (drivers.is_wrong_clock many f.now t.now rising name.now) name.now w }
 {
-    mention(is_wrong_clock(f, &t.clock, rising, name.bytes()), name, w)
+    mention(is_wrong_clock(many, f, t, rising, name.bytes()), name, w)
 }

@@ -6,8 +6,8 @@ ghost use Rattle.scc_svread.specs.Mentioned.{each};
 use crate::mentioned::{items_assign, items_read};
 use crate::number::high_of;
 use crate::text_set::TextSet;
-use scc_base::{NoMemory, Text};
-use scc_svraw::{RawModule, RawVar};
+use scc_base::NoMemory;
+use scc_svraw::{RawBlock, RawItem, RawModule, RawVar};
 use scc_svtree::Dir;
 use std::alloc::Global;
 
@@ -21,20 +21,16 @@ pub struct Facts {
     pub read: TextSet,
     /// What some block assigns.
     pub driven: TextSet,
+    /// The clocks of all blocks.
+    pub clocks: TextSet,
 }
 
-/// A clock, and the edge at which blocks run.
-#[derive(Drop)]
-pub struct Clock {
-    pub rising: bool,
-    pub name: Text,
-}
-
-/// What the blocks before a place assign, and the clock of the first of them that has one.
+/// What the blocks before a place assign, and their clocks at rising and at falling edges.
 #[derive(Drop)]
 pub struct Taken {
     pub names: TextSet,
-    pub clock: Option<Clock>,
+    pub rising: TextSet,
+    pub falling: TextSet,
 }
 
 /// Whether a variable is an input.
@@ -66,6 +62,25 @@ fn levels(found: &mut TextSet, list: &[RawVar]) -> Result<(), NoMemory>
     Ok(())
 }
 
+fn clock(found: &mut TextSet, i: &RawItem) -> Result<(), NoMemory>
+    ensures { OnOk result (found.new ≡ drivers.item_clock i.now found.old) }
+{
+    match i {
+        RawItem::Var(_) => Ok(()),
+        RawItem::Block(RawBlock::Comb(_)) => Ok(()),
+        RawItem::Block(RawBlock::Edge { clock, .. }) => found.add(clock.bytes()),
+    }
+}
+
+fn clocks(found: &mut TextSet, list: &[RawItem]) -> Result<(), NoMemory>
+    ensures { OnOk result (found.new ≡ each (map drivers.item_clock list.now) found.old) }
+{
+    for i in list {
+        clock(found, i)?;
+    }
+    Ok(())
+}
+
 /// What is known of a module's names.
 pub fn facts_of(alloc: Global, m: &RawModule) -> Result<Facts, NoMemory>
     ensures { IfOk result (λ f. f ≡ drivers.facts_of m.now) }
@@ -75,10 +90,12 @@ pub fn facts_of(alloc: Global, m: &RawModule) -> Result<Facts, NoMemory>
         levels: TextSet::new(alloc),
         read: TextSet::new(alloc),
         driven: TextSet::new(alloc),
+        clocks: TextSet::new(alloc),
     };
     inputs(&mut facts.inputs, m.ports.as_slice())?;
     levels(&mut facts.levels, m.ports.as_slice())?;
     items_read(&mut facts.read, m.items.as_slice())?;
     items_assign(&mut facts.driven, m.items.as_slice())?;
+    clocks(&mut facts.clocks, m.items.as_slice())?;
     Ok(facts)
 }

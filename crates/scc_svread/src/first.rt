@@ -146,11 +146,12 @@ fn looked_through(alloc: Global, m: &RawModule) -> Result<Walk, NoMemory>
 
 /// What is wrong first in a module as it is written, by its place in the text: a wrong size; where no size is wrong, a name that is
 /// not declared or was declared before; where each name is declared once, one that stands where it may not (IEEE 1800-2017, sections
-/// 5.7.1, 6.24.1, 9.2.2, 11.4.12, 11.5.1, 11.6.1, 23.3.3.2 and 23.9). The only error is want of memory.
-pub fn first_wrong(alloc: Global, m: &RawModule) -> Result<Option<Wrong>, NoMemory>
-    ensures wrong { IfOk result (λ r. r ≡ firsts.wrong_of m.now) }
+/// 5.7.1, 6.24.1, 9.2.2, 9.4.2, 11.4.12, 11.5.1, 11.6.1 and 23.9). With `many` a module may have several clocks. Whether blocks read
+/// in a cycle what others assign is not looked for. The only error is want of memory.
+pub fn first_wrong(alloc: Global, many: bool, m: &RawModule) -> Result<Option<Wrong>, NoMemory>
+    ensures wrong { IfOk result (λ r. r ≡ firsts.wrong_of many m.now) }
 {
     let w = looked_through(alloc, m)?;
-    let driver = misplaced(alloc, m)?;
+    let driver = misplaced(alloc, many, m)?;
     Ok(first_in(w.size, w.name, driver))
 }

@@ -203,7 +203,7 @@ fn text(alloc: Global, parts: &[&str]) -> Result<Text, NoMemory> {
 fn found(alloc: Global, parts: &[&str]) -> Result<Option<Wrong>, NoMemory> {
     let source = text(alloc, parts)?;
     match read_raw(alloc, source.bytes()) {
-        Ok(m) => first_wrong(alloc, &m),
+        Ok(m) => first_wrong(alloc, false, &m),
         Err(_) => Err(NoMemory),
     }
 }
@@ -214,7 +214,7 @@ fn first(alloc: Global, front: &[&str], rest: &[&str]) -> Result<(Option<Wrong>,
     let at = whole.bytes().len();
     whole.push_bytes(text(alloc, rest)?.bytes())?;
     match read_raw(alloc, whole.bytes()) {
-        Ok(m) => Ok((first_wrong(alloc, &m)?, at)),
+        Ok(m) => Ok((first_wrong(alloc, false, &m)?, at)),
         Err(_) => Ok((None, at)),
     }
 }

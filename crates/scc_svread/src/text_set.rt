@@ -1,5 +1,5 @@
 //! Sets of texts.
-ghost use Rattle.std.specs.Prelude.{◌≡◌, ◌++◌, ◌∷◌, ◌+◌, ◌≤◌, [], not, length, position, IfOk, OnOk, if◌then◌else◌, bytes_eq};
+ghost use Rattle.std.specs.Prelude.{◌≡◌, ◌++◌, ◌∷◌, ◌+◌, ◌≤◌, [], not, nat_eq, length, position, IfOk, OnOk, if◌then◌else◌, bytes_eq};
 ghost use Rattle.std.specs.List.{list_any};
 ghost use Rattle.scc_svread.specs.Drivers.{with_name_if};
 ghost use Rattle.scc_svread.specs.Mentioned.{is_among};
@@ -40,6 +40,12 @@ impl TextSet {
         ensures { result ≡ length self.now }
     {
         self.texts.len()
+    }
+
+    pub fn is_empty(&self) -> bool
+        ensures { result ≡ nat_eq (length self.now) 0 }
+    {
+        self.len() == 0
     }
 
     /// Whether a text is among them.

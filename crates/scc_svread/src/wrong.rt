@@ -6,6 +6,7 @@ pub enum Wrong {
     /// A name that is not declared, or that was declared before.
     Name(usize),
     /// A name that is declared and stands where it may not: a variable that nothing drives, or two blocks; an input that is
-    /// assigned; what is mentioned before it has a value; a clock, a reset, or what a reset loads.
+    /// assigned; what is mentioned before it has a value; what an edge sets twice; a clock or a reset; what a reset loads. A
+    /// reset's condition that is not that of its edge stands at its first byte.
     Driver(usize),
 }
