@@ -33,7 +33,7 @@ fn main(rt: HostRuntime) -> io::Result<()> {
     match read {
         Ok(m) => {
             let start = Instant::now(&rt)?;
-            let wrong = first_wrong(rt.alloc(), &m);
+            let wrong = first_wrong(rt.alloc(), false, &m);
             let looking = start.elapsed(&rt)?.as_micros();
             match wrong {
                 Ok(None) => println!(rt; "{reading} {looking}")?,

@@ -619,7 +619,7 @@ fn drivers_of_declarations(rt: HostRuntime) -> Result<(), NoMemory> {
     // the first of two assignments may be left out
     let text =
         "module And (\n  input logic [7:0] a,\n  input logic [7:0] b,\n  output logic [7:0] y\n);\n  always_comb begin\n    y = 8'((64'(a) & 64'(b)));\n  end\nendmodule\n";
-    assert!(rt; found(rt.alloc(), &[text])?.is_none());
+    assert!(rt; found(rt.alloc(), &[written])?.is_none());
     // another clock, and the other edge of the first
     let first = "  always_ff @(posedge clk) begin\n    q <= a;\n  end\n";
     let rest = ") begin\n    n <= a;\n  end\n";
@@ -637,16 +637,35 @@ fn drivers_of_declarations(rt: HostRuntime) -> Result<(), NoMemory> {
             &["clk", rest, END]
         )?
     );
-    // the clock of another block
-    let reset =
-        "clk) begin\n    if (clk) begin\n    end else begin\n      n <= a;\n    end\n  end\n";
-    assert!(rt;
-        is_misplaced(
-            rt.alloc(),
-            &[PORTS, PAIR, first, "  always_ff @(posedge clk or posedge "],
-            &[reset, END]
-        )?
-    );
+    // with several clocks each has one edge, and none is a reset
+    let second = text(
+        rt.alloc(),
+        &[PORTS, PAIR, first, "  always_ff @(negedge rst", rest, END],
+    )?;
+    match read_raw(rt.alloc(), second.bytes()) {
+        Ok(m) => assert!(rt; first_wrong(rt.alloc(), true, &m)?.is_none()),
+        Err(_) => assert!(rt; false),
+    }
+    let clocks: &[(&str, &str)] = &[
+        (
+            "  always_ff @(posedge clk) begin\n    q <= a;\n  end\n  always_ff @(negedge ",
+            "clk) begin\n    n <= a;\n  end\n",
+        ),
+        (
+            "  always_ff @(posedge clk or posedge ",
+            "rst) begin\n    if (rst) begin\n    end else begin\n      q <= a;\n    end\n  end\n  always_ff @(posedge rst) begin\n    n <= a;\n  end\n",
+        ),
+    ];
+    for (front, rest) in clocks {
+        let at = text(rt.alloc(), &[PORTS, PAIR, front])?.bytes().len();
+        let whole = text(rt.alloc(), &[PORTS, PAIR, front, rest, END])?;
+        match read_raw(rt.alloc(), whole.bytes()) {
+            Ok(m) => {
+                assert!(rt; first_wrong(rt.alloc(), true, &m)? == Some(Wrong::Driver(at)));
+            }
+            Err(_) => assert!(rt; false),
+        }
+    }
     Ok(())
 }
 
