@@ -617,7 +617,7 @@ fn drivers_of_declarations(rt: HostRuntime) -> Result<(), NoMemory> {
         )?
     );
     // the first of two assignments may be left out
-    let text =
+    let written =
         "module And (\n  input logic [7:0] a,\n  input logic [7:0] b,\n  output logic [7:0] y\n);\n  always_comb begin\n    y = 8'((64'(a) & 64'(b)));\n  end\nendmodule\n";
     assert!(rt; found(rt.alloc(), &[written])?.is_none());
     // another clock, and the other edge of the first
