@@ -46,7 +46,7 @@ abbrev pub is_other_length : Option ℕ → RawLiteral → Bool
 is_other_length None l = false
 is_other_length (Some bits) l = not (nat_eq (cut (number_in l.width)) bits)
 
--- A label that is no number of its width, has another length than its selector, or stands twice (IEEE 1800-2017, 12.5).
+-- A label that is no number of its width, has another length than its selector, or stands twice.
 abbrev pub is_wrong_label : Option ℕ → List Bytes → RawLiteral → Bool
 is_wrong_label bits before l = is_wrong_literal l || is_other_length bits l || list_any (bytes_eq (label_text l)) before
 

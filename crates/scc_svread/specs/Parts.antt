@@ -32,7 +32,7 @@ is_wrong_length (Some n) = not (is_width n)
 -- What is asked of an expression.
 pub record Part : Type 0 where
   pub walk : Walking
-  -- its length in bits, where each name in it is declared exactly once
+  -- its length in bits, at most 129, where each name in it is declared exactly once
   pub bits : Option ℕ
   -- whether it is a literal 0, or `$signed` of one
   pub zero : Bool

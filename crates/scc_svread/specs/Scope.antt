@@ -48,7 +48,7 @@ high_in (Some digits) = number_in digits
 abbrev pub high_of : RawVar → ℕ
 high_of v = high_in v.high
 
--- a further declaration
+-- a first declaration, or a further one
 abbrev pub once_more : ℕ → Option (Option ℕ) → Option ℕ
 once_more high None = Some high
 once_more high (Some before) = None

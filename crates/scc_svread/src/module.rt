@@ -190,7 +190,8 @@ fn all_declared(alloc: Global, m: &RawModule) -> Result<Declared, NoMemory>
 }
 
 /// The module that is written so; its sizes, names and drivers may be wrong. A name that is not declared stands for the first
-/// variable, and numbers that no right module has for the greatest of their type. The only error is want of memory.
+/// variable, one that is declared twice for some variable, and numbers that no right module has for the greatest of their type. The
+/// only error is want of memory.
 #[tactic(auto, using(crate::proofs::Mapped::map_append))]
 pub fn module_of(alloc: Global, m: &RawModule) -> Result<SvModule, NoMemory>
     ensures module { IfOk result (λ x. x ≡ resolved.module_of m.now) }

@@ -9,7 +9,7 @@ use scc_svtree::SvModule;
 use std::alloc::Global;
 
 /// Reads the module that a text says (IEEE 1800-2017, for the forms that the printer writes), and does not look whether its sizes, names and
-/// drivers are right: `first_wrong` looks for some of that. The text of a module without faults gives that module back.
+/// drivers are right. The text of a module without faults gives that module back.
 ///
 /// It stops as `read_raw` does: at the first byte at which no module's text begins with the bytes so far, or at the end; and at
 /// the first statement or expression at level 8,193.
