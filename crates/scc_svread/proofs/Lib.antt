@@ -15,3 +15,4 @@ pub mod Mapped
 pub mod Scopes
 pub mod Distinct
 pub mod Returned
+pub mod Grown

@@ -11,3 +11,6 @@ pub mod Within
 pub mod Drivers
 pub mod First
 pub mod Returned
+pub mod VarLists
+pub mod Fed
+pub mod Cycles
