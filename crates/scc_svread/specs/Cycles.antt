@@ -1,6 +1,6 @@
 -- Combinational blocks that read in a cycle what others assign. A block that reads what it assigns itself is none: it assigns it
 -- first, and runs only when what it reads of others changes (IEEE 1800-2017, 9.2.2.2).
-use Rattle.std.specs.Prelude.{◌≡◌, ℕ, ◌<◌, Bool, true, false, List, length, slice_index, slice_index_or, Option, Some, None}
+use Rattle.std.specs.Prelude.{◌≡◌, ℕ, ◌<◌, nat_lt, Bool, true, false, not, ◌&&◌, if◌then◌else◌, List, ◌++◌, length, slice_index, slice_index_or, slice_set, Option, Some, None}
 use Rattle.scc_svtree.specs.Code.{Code}
 use Rattle.scc_svtree.specs.Mentions.{code_reads, assigns}
 use Rattle.scc_svtree.specs.Settled.{block_at, Order}
@@ -71,3 +71,13 @@ Ranked g rank = (k : ℕ) → k < length g → IsAbove g rank k
 
 abbrev pub is_seen : List Bool → ℕ → Bool
 is_seen seen i = slice_index_or seen i false
+
+abbrev pub is_new : Rows → List Bool → ℕ → Bool
+is_new g seen j = nat_lt j (length g) && not (is_seen seen j)
+
+-- A row from the stack is seen, and where it is new, those that feed it wait.
+abbrev pub seen_after : Rows → ℕ → List Bool → List Bool
+seen_after g j seen = if is_new g seen j then slice_set seen j true else seen
+
+abbrev pub stack_after : Rows → ℕ → List Bool → List ℕ → List ℕ
+stack_after g j seen stack = if is_new g seen j then stack ++ row_at g j else stack

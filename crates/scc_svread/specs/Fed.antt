@@ -9,7 +9,7 @@ abbrev pub Rows : Type 0
 Rows = List (List ℕ)
 
 abbrev pub has : List ℕ → ℕ → Bool
-has xs x = list_any (nat_eq x) xs
+has xs x = list_any (λ y. nat_eq y x) xs
 
 abbrev pub row_at : Rows → ℕ → List ℕ
 row_at t i = slice_index_or t i []

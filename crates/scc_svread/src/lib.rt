@@ -2,6 +2,7 @@
 #![tactic(auto)]
 
 mod block;
+mod cycles;
 mod drivers;
 mod edge;
 mod expr;
@@ -16,6 +17,8 @@ mod module;
 mod name_set;
 mod names;
 mod number;
+mod ranks;
+mod reached;
 mod rows;
 mod scope;
 mod stmt;
@@ -28,6 +31,7 @@ mod within;
 mod written;
 mod wrong;
 
+pub use cycles::first_cycle;
 pub use first::first_wrong;
 pub use laws::{
     a_module_is_read_as_it_is_written, a_text_is_one_module, what_is_written_says_which_module,

@@ -25,7 +25,7 @@ impl Model for Rows {
 pub fn has(list: &[usize], x: usize) -> bool
     ensures { result ≡ fed.has list.now x }
 {
-    list.iter().any(|y| x == *y)
+    list.iter().any(|y| *y == x)
 }
 
 impl Rows {
