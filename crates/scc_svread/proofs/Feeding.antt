@@ -1,9 +1,8 @@
 -- The rows of the search are the feeding of the combinational blocks.
-use Rattle.std.proofs.Common.{◌≡◌, ◌<◌, ◌≤◌, ◌+◌, ◌-◌, ◌⊎◌, inl, inr, ℕ, zero, suc, nat_eq, Bool, true, false, not, ◌||◌, ◌&&◌, cond, List, [], ◌∷◌, ◌++◌, length, set, replicate, refl, sym, ap, subst, ◌∙◌, arith}
-use Rattle.std.specs.Prelude.{slice_index_or, slice_index, Option, Some, None, Result, Ok, Err, IfOk}
-use Rattle.std.specs.List.{list_any}
+use Rattle.std.proofs.Common.{◌≡◌, ◌<◌, ◌+◌, ◌-◌, inl, inr, ℕ, zero, suc, nat_eq, Bool, true, false, ◌||◌, ◌&&◌, cond, List, [], ◌∷◌, ◌++◌, length, replicate, refl, sym, ap, subst, ◌∙◌, arith}
+use Rattle.std.specs.Prelude.{slice_index, Option, Some, None, Result, Ok, Err, IfOk}
 use Rattle.std.proofs.Common.{get_or-set_other, get_or-set_same}
-use Rattle.std.proofs.lemmas.Bool.{or_cases, or_left, or_right, and_parts, and_from, cases_eq, both_ways, eqb-true, eq-eqb, ne_eqb}
+use Rattle.std.proofs.lemmas.Bool.{or_cases, or_left, or_right, and_parts, cases_eq, eqb-true, eq-eqb, ne_eqb}
 use Rattle.scc_svtree.specs.declared.module.SvBlock.{SvBlock}
 use Rattle.scc_svtree.specs.declared.module.SvBlock.TheVariants.{Comb, Edge}
 use Rattle.scc_svtree.specs.Code.{Code, code_of}
@@ -11,7 +10,8 @@ use Rattle.scc_svtree.specs.Mentions.{code_reads, assigns}
 use Rattle.scc_svtree.specs.Settled.{combs_of, block_at, Order}
 use Rattle.scc_svread.specs.VarLists.{all_read, all_assigned}
 use Rattle.scc_svread.specs.Fed.{Rows, has, row_at, grown, put, noted, owned_by, owned_from, owners_of, feeding, needs_of, needs_from, graph_of}
-use Rattle.scc_svread.specs.Cycles.{Path, one, more, Step, Feeds, FirstCycle, Said, IsFree, FirstRow, Found, Ranked}
+use Rattle.scc_svread.specs.Cycles.{Path, one, more, Feeds, Said}
+use Rattle.scc_svread.specs.Search.{Step, Found, Ranked}
 use Rattle.scc_svread.proofs.Grown.{grown_length}
 use Rattle.scc_svread.proofs.Mentioning.{or_none, read_is, assigned_is}
 use Rattle.scc_svread.proofs.Searching.{has_append, row_within}
@@ -28,9 +28,9 @@ grown_row m (r ∷ t) (suc i) = grown_row m t i
 
 put_has : (i x : ℕ) (t : Rows) (v j : ℕ) → i < length t → has (row_at (put i x t) v) j ≡ (has (row_at t v) j || (nat_eq i v && nat_eq x j))
 put_has i x t v j l = elim (cases_eq v i) [
-    | inl e ↦ subst (λ (n : ℕ). has (row_at (put i x t) n) j ≡ (has (row_at t n) j || (nat_eq i n && nat_eq x j))) (sym e) same
-    | inr ne ↦ ap (λ r. has r j) (get_or-set_other t i v (row_at t i ++ x ∷ []) [] ne) ∙ or_none (has (row_at t v) j) ∙ ap (λ b. has (row_at t v) j || (b && nat_eq x j)) (sym (ne_eqb i v (λ e. ne (sym e))))
-  ]
+  | inl e ↦ subst (λ (n : ℕ). has (row_at (put i x t) n) j ≡ (has (row_at t n) j || (nat_eq i n && nat_eq x j))) (sym e) same
+  | inr ne ↦ ap (λ r. has r j) (get_or-set_other t i v (row_at t i ++ x ∷ []) [] ne) ∙ or_none (has (row_at t v) j) ∙ ap (λ b. has (row_at t v) j || (b && nat_eq x j)) (sym (ne_eqb i v (λ e. ne (sym e))))
+]
   where
     same : has (row_at (put i x t) i) j ≡ (has (row_at t i) j || (nat_eq i i && nat_eq x j))
     same = ap (λ r. has r j) (get_or-set_same t i (row_at t i ++ x ∷ []) [] l) ∙ has_append (row_at t i) (x ∷ []) j

@@ -1,9 +1,8 @@
 -- The lists of variables are those of the code: a variable stands in one where the code reads or assigns it.
 use Rattle.std.proofs.Common.{◌≡◌, ℕ, nat_eq, Bool, true, false, ◌||◌, List, [], ◌∷◌, ◌++◌, map, refl, sym, ap, ◌∙◌}
-use Rattle.std.specs.List.{list_any}
 use Rattle.std.proofs.lemmas.List.Folds.{list_any-append}
 use Rattle.scc_svtree.specs.declared.expr.SvExpr.{SvExpr}
-use Rattle.scc_svtree.specs.declared.expr.SvExprNode.{SvExprNode, map-SvExprNode}
+use Rattle.scc_svtree.specs.declared.expr.SvExprNode.{SvExprNode}
 use Rattle.scc_svtree.specs.declared.expr.SvExprNode.TheOpen.{SvExprNode-F}
 use Rattle.scc_svtree.specs.declared.expr.SvExprNode.TheOpen as node
 use Rattle.scc_svtree.specs.declared.expr.SvLeft.{SvLeft}

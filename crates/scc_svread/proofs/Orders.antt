@@ -1,8 +1,9 @@
 -- Rows of which none is on a cycle have an order: the rank of a row is how many reach it.
-use Rattle.std.proofs.Common.{◌≡◌, ◌<◌, ◌≤◌, ◌+◌, ◌⊎◌, inl, inr, ℕ, zero, suc, Bool, true, false, ◌||◌, ◌&&◌, cond, List, length, refl, sym, ap, subst, ◌∙◌, arith}
+use Rattle.std.proofs.Common.{◌≡◌, ◌<◌, ◌≤◌, ◌+◌, ◌⊎◌, inl, inr, ℕ, zero, suc, Bool, true, false, ◌||◌, ◌&&◌, cond, length, refl, subst, arith}
 use Rattle.std.proofs.lemmas.Bool.{or_cases, or_left, or_right, and_parts, and_from, cases_order, false_from_ne_true}
 use Rattle.scc_svread.specs.Fed.{Rows, has, row_at}
-use Rattle.scc_svread.specs.Cycles.{Path, one, more, Step, IsFree}
+use Rattle.scc_svread.specs.Cycles.{Path, one, more}
+use Rattle.scc_svread.specs.Search.{Step, IsFree}
 
 pub joined : (step : ℕ → ℕ → Type 0) (i j k : ℕ) → Path step i j → Path step j k → Path step i k
 joined step i j k (one _ _ s) q = more i j k s q
@@ -27,10 +28,10 @@ at_most p q (suc n) h = go (p n) (q n) (h n (omega arith)) (at_most p q n (λ i 
 fewer : (p q : ℕ → Bool) (n x : ℕ) → x < n → p x ≡ false → q x ≡ true → ((i : ℕ) → i < n → p i ≡ true → q i ≡ true) → count p n < count q n
 fewer p q zero x l a b h = absurd (omega arith)
 fewer p q (suc n) x l a b h = elim (cases_order x n) [
-    | inl e ↦ last (p n) (q n) (subst (λ (m : ℕ). p m ≡ false) e a) (subst (λ (m : ℕ). q m ≡ true) e b) (at_most p q n (λ i m. h i (omega arith)))
-    | inr (inl m) ↦ go (p n) (q n) (h n (omega arith)) (fewer p q n x m a b (λ i k. h i (omega arith)))
-    | inr (inr m) ↦ absurd (omega arith)
-  ]
+  | inl e ↦ last (p n) (q n) (subst (λ (m : ℕ). p m ≡ false) e a) (subst (λ (m : ℕ). q m ≡ true) e b) (at_most p q n (λ i m. h i (omega arith)))
+  | inr (inl m) ↦ go (p n) (q n) (h n (omega arith)) (fewer p q n x m a b (λ i k. h i (omega arith)))
+  | inr (inr m) ↦ absurd (omega arith)
+]
   where
     last : (c d : Bool) → c ≡ false → d ≡ true → count p n ≤ count q n → cond c 1 0 + count p n < cond d 1 0 + count q n
     last false true e f m = omega arith
@@ -68,19 +69,19 @@ module _ (g : Rows) where
   through : (m i j k : ℕ) → i < m → reach m j i ≡ true → reach m i k ≡ true → reach m j k ≡ true
   through zero i j k l a b = absurd (omega arith)
   through (suc m) i j k l a b = elim (cases_order i m) [
-      | inl e ↦ by_last (subst (λ (n : ℕ). reach (suc m) j n ≡ true) e a) (subst (λ (n : ℕ). reach (suc m) n k ≡ true) e b)
-      | inr (inl h) ↦ elim (or_cases (reach m j i) (reach m j m && reach m m i) a) [
-          | inl c ↦ elim (or_cases (reach m i k) (reach m i m && reach m m k) b) [
-              | inl d ↦ or_left (reach m j k) (reach m j m && reach m m k) (through m i j k h c d)
-              | inr d ↦ let p = and_parts (reach m i m) (reach m m k) d in by_both (through m i j m h c p.0) p.1
-            ]
-          | inr c ↦ let p = and_parts (reach m j m) (reach m m i) c in elim (or_cases (reach m i k) (reach m i m && reach m m k) b) [
-              | inl d ↦ by_both p.0 (through m i m k h p.1 d)
-              | inr d ↦ by_both p.0 (and_parts (reach m i m) (reach m m k) d).1
-            ]
-        ]
-      | inr (inr h) ↦ absurd (omega arith)
+    | inl e ↦ by_last (subst (λ (n : ℕ). reach (suc m) j n ≡ true) e a) (subst (λ (n : ℕ). reach (suc m) n k ≡ true) e b)
+    | inr (inl h) ↦ elim (or_cases (reach m j i) (reach m j m && reach m m i) a) [
+      | inl c ↦ elim (or_cases (reach m i k) (reach m i m && reach m m k) b) [
+        | inl d ↦ or_left (reach m j k) (reach m j m && reach m m k) (through m i j k h c d)
+        | inr d ↦ let p = and_parts (reach m i m) (reach m m k) d in by_both (through m i j m h c p.0) p.1
+      ]
+      | inr c ↦ let p = and_parts (reach m j m) (reach m m i) c in elim (or_cases (reach m i k) (reach m i m && reach m m k) b) [
+        | inl d ↦ by_both p.0 (through m i m k h p.1 d)
+        | inr d ↦ by_both p.0 (and_parts (reach m i m) (reach m m k) d).1
+      ]
     ]
+    | inr (inr h) ↦ absurd (omega arith)
+  ]
     where
       by_both : reach m j m ≡ true → reach m m k ≡ true → reach (suc m) j k ≡ true
       by_both p q = or_right (reach m j k) (reach m j m && reach m m k) (and_from (reach m j m) (reach m m k) p q)

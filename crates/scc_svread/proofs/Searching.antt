@@ -1,13 +1,13 @@
 -- The search from a row: what is seen or waits reaches it, and what feeds it or a seen row is seen or waits.
-use Rattle.std.proofs.Common.{◌≡◌, ◌<◌, ◌≤◌, ◌+◌, ◌⊎◌, inl, inr, ℕ, zero, suc, nat_eq, nat_lt, Bool, true, false, not, ◌||◌, ◌&&◌, cond, List, [], ◌∷◌, ◌++◌, length, set, replicate, refl, sym, ap, subst, ◌∙◌, arith, length-set, length-append}
+use Rattle.std.proofs.Common.{◌≡◌, ◌<◌, ◌+◌, ◌⊎◌, inl, inr, ℕ, zero, suc, nat_eq, nat_lt, Bool, true, false, not, ◌||◌, cond, List, [], ◌∷◌, ◌++◌, length, set, replicate, refl, sym, subst, ◌∙◌, arith, length-set, length-append}
 use Rattle.std.specs.Prelude.{slice_index_or}
-use Rattle.std.specs.List.{list_any}
 use Rattle.std.proofs.Common.{get_or-set_other, get_or-set_same}
 use Rattle.std.proofs.lemmas.List.{length-replicate, get_or_read}
 use Rattle.std.proofs.lemmas.List.Folds.{list_any-append}
-use Rattle.std.proofs.lemmas.Bool.{or_cases, or_left, or_right, and_parts, and_cases, cases_eq, cases_Bool, both_ways, eqb-true, eq-eqb, ltb-true, ltb-false, not-true, not-false, lt-ltb}
+use Rattle.std.proofs.lemmas.Bool.{or_cases, or_left, or_right, and_parts, and_cases, cases_eq, both_ways, eqb-true, eq-eqb, ltb-true, not-true, not-false, lt-ltb}
 use Rattle.scc_svread.specs.Fed.{Rows, has, row_at}
-use Rattle.scc_svread.specs.Cycles.{Path, one, more, Step, Decides, is_seen, is_new, seen_after, stack_after}
+use Rattle.scc_svread.specs.Cycles.{Path, one, more}
+use Rattle.scc_svread.specs.Search.{Step, Decides, is_seen, is_new, seen_after, stack_after}
 
 or_last : (b : Bool) → (b || false) ≡ true → b ≡ true
 or_last true e = refl
@@ -93,21 +93,21 @@ module _ (g : Rows) (k : ℕ) (seen : List Bool) (stack : List ℕ) (j : ℕ) (s
       over i h = elim (or_cases (is_seen seen i) (has (stack ++ j ∷ []) i) h) [
         | inl a ↦ seen_or_waits i (inl (still i a))
         | inr b ↦ elim (on_stack i b) [
-            | inl c ↦ seen_or_waits i (inr (waits i c))
-            | inr e ↦ seen_or_waits i (inl (subst (λ (n : ℕ). is_seen (set seen j true) n ≡ true) (sym e) here))
-          ]
+          | inl c ↦ seen_or_waits i (inr (waits i c))
+          | inr e ↦ seen_or_waits i (inl (subst (λ (n : ℕ). is_seen (set seen j true) n ≡ true) (sym e) here))
+        ]
       ]
 
       sound : (i : ℕ) → (is_seen (set seen j true) i || has (stack ++ row_at g j) i) ≡ true → Path (Step g) i k
       sound i h = elim (or_cases (is_seen (set seen j true) i) (has (stack ++ row_at g j) i) h) [
         | inl a ↦ elim (cases_eq i j) [
-            | inl e ↦ subst (λ (n : ℕ). Path (Step g) n k) (sym e) j_reaches
-            | inr ne ↦ s.sound i (or_left (is_seen seen i) (has (stack ++ j ∷ []) i) (sym (other i ne) ∙ a))
-          ]
+          | inl e ↦ subst (λ (n : ℕ). Path (Step g) n k) (sym e) j_reaches
+          | inr ne ↦ s.sound i (or_left (is_seen seen i) (has (stack ++ j ∷ []) i) (sym (other i ne) ∙ a))
+        ]
         | inr b ↦ elim (or_cases (has stack i) (has (row_at g j) i) (sym (has_append stack (row_at g j) i) ∙ b)) [
-            | inl c ↦ s.sound i (or_right (is_seen seen i) (has (stack ++ j ∷ []) i) (kept i c))
-            | inr d ↦ more i j k d j_reaches
-          ]
+          | inl c ↦ s.sound i (or_right (is_seen seen i) (has (stack ++ j ∷ []) i) (kept i c))
+          | inr d ↦ more i j k d j_reaches
+        ]
       ]
 
       closed : (i n : ℕ) → i < length g → is_seen (set seen j true) n ≡ true → has (row_at g n) i ≡ true → (is_seen (set seen j true) i || has (stack ++ row_at g j) i) ≡ true
@@ -132,9 +132,9 @@ module _ (g : Rows) (k : ℕ) (seen : List Bool) (stack : List ℕ) (j : ℕ) (s
       over i m h = elim (or_cases (is_seen seen i) (has (stack ++ j ∷ []) i) h) [
         | inl a ↦ or_left (is_seen seen i) (has stack i) a
         | inr b ↦ elim (on_stack i b) [
-            | inl c ↦ or_right (is_seen seen i) (has stack i) c
-            | inr e ↦ or_left (is_seen seen i) (has stack i) (let l : j < length g = omega arith in subst (λ (n : ℕ). is_seen seen n ≡ true) (sym e) (old l))
-          ]
+          | inl c ↦ or_right (is_seen seen i) (has stack i) c
+          | inr e ↦ or_left (is_seen seen i) (has stack i) (let l : j < length g = omega arith in subst (λ (n : ℕ). is_seen seen n ≡ true) (sym e) (old l))
+        ]
       ]
 
   pub search_turns : Searching g k (seen_after g j seen) (stack_after g j seen stack)

@@ -26,7 +26,11 @@ fn owners_of(alloc: Global, blocks: &[SvBlock]) -> Result<Rows, NoMemory>
     let mut k = 0;
     for b in blocks {
         if let SvBlock::Comb(list) = b {
-            own(&mut owners, k, all_assigned(alloc, list.as_slice())?.as_slice())?;
+            own(
+                &mut owners,
+                k,
+                all_assigned(alloc, list.as_slice())?.as_slice(),
+            )?;
             k += 1;
         }
     }
@@ -78,7 +82,12 @@ pub fn graph_of(alloc: Global, blocks: &[SvBlock]) -> Result<Rows, NoMemory>
     let mut g = Rows::new(alloc);
     for b in blocks {
         if let SvBlock::Comb(list) = b {
-            add_needs(alloc, &mut g, &owners, all_read(alloc, list.as_slice())?.as_slice())?;
+            add_needs(
+                alloc,
+                &mut g,
+                &owners,
+                all_read(alloc, list.as_slice())?.as_slice(),
+            )?;
         }
     }
     Ok(g)

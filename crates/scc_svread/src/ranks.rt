@@ -1,7 +1,7 @@
 //! Ranks of combinational blocks: a first guess at an order, and whether it is one.
 ghost use Rattle.std.specs.Prelude.{◌≡◌, ℕ, ◌<◌, true, slice_index};
 ghost use Rattle.scc_svread.specs.Fed.{has};
-ghost use Rattle.scc_svread.specs.Cycles.{Ranked, IsAbove};
+ghost use Rattle.scc_svread.specs.Search.{Ranked, IsAbove};
 
 use crate::rows::Rows;
 use scc_base::NoMemory;

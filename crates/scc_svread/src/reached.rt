@@ -1,6 +1,7 @@
 //! The first combinational block on a cycle, by a search from each.
 ghost use Rattle.std.specs.Prelude.{◌≡◌, ◌<◌, length, IfOk, OnOk};
-ghost use Rattle.scc_svread.specs.Cycles.{Path, Step, Decides, Found, seen_after, stack_after};
+ghost use Rattle.scc_svread.specs.Cycles.{Path};
+ghost use Rattle.scc_svread.specs.Search.{Step, Decides, Found, seen_after, stack_after};
 
 use crate::rows::Rows;
 use scc_base::NoMemory;

@@ -1,5 +1,5 @@
 use Rattle.std.proofs.Common.{◌<◌, ℕ}
-use Rattle.scc_svread.specs.Cycles.{IsAbove}
+use Rattle.scc_svread.specs.Search.{IsAbove}
 use Rattle.scc_svread.proofs.ranks.is_ranked.Given as goal
 
 abbrev pub invariant-loop-k : goal.invariant-loop-k

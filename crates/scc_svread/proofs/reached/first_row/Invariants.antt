@@ -1,5 +1,5 @@
 use Rattle.std.proofs.Common.{◌<◌, ℕ}
-use Rattle.scc_svread.specs.Cycles.{IsFree}
+use Rattle.scc_svread.specs.Search.{IsFree}
 use Rattle.scc_svread.proofs.reached.first_row.Given as goal
 
 abbrev pub invariant-loop-k : goal.invariant-loop-k
