@@ -15,3 +15,8 @@ pub mod Mapped
 pub mod Scopes
 pub mod Distinct
 pub mod Returned
+pub mod Grown
+pub mod Mentioning
+pub mod Searching
+pub mod Orders
+pub mod Feeding

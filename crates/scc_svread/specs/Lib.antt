@@ -11,3 +11,7 @@ pub mod Within
 pub mod Drivers
 pub mod First
 pub mod Returned
+pub mod Cycles
+pub mod VarLists
+pub mod Fed
+pub mod Search

@@ -2,10 +2,12 @@
 #![tactic(auto)]
 
 mod block;
+mod cycles;
 mod drivers;
 mod edge;
 mod expr;
 mod facts;
+mod feeds;
 mod first;
 mod labels;
 mod laws;
@@ -14,17 +16,22 @@ mod mentioned;
 mod module;
 mod names;
 mod number;
+mod ranks;
+mod reached;
+mod rows;
 mod scope;
 mod stmt;
 #[cfg(test)]
 mod tests;
 mod text_set;
 mod tree;
+mod var_lists;
 mod walk;
 mod within;
 mod written;
 mod wrong;
 
+pub use cycles::first_cycle;
 pub use first::first_wrong;
 pub use laws::{
     a_module_is_read_as_it_is_written, a_text_is_one_module, what_is_written_says_which_module,

@@ -1,5 +1,5 @@
 //! What is wrong first in texts, most of which have one thing wrong.
-use crate::{Wrong, first_wrong, module_of, read_written};
+use crate::{Wrong, first_cycle, first_wrong, module_of, read_written};
 use scc_base::{NoMemory, Text};
 use scc_svraw::read_raw;
 use scc_svtext::print;
@@ -700,6 +700,67 @@ fn names_become_numbers(rt: HostRuntime) -> Result<(), NoMemory> {
             }
         }
         Err(_) => assert!(rt; false),
+    }
+    Ok(())
+}
+
+// What stands before blocks that assign x, y, z and w.
+const WIRES: &str = "module M (
+  input logic clk,
+  input logic a
+);
+  logic x;
+  logic y;
+  logic z;
+  logic w;
+";
+
+// The first block on a cycle among combinational blocks with these statements.
+fn cycle_of(alloc: Global, blocks: &[&str]) -> Result<Option<usize>, NoMemory> {
+    let mut source = text(alloc, &[WIRES])?;
+    for statements in blocks {
+        let parts = ["  always_comb begin\n", statements, "  end\n"];
+        source.push_bytes(text(alloc, parts.as_slice())?.bytes())?;
+    }
+    source.push_bytes(END.as_bytes())?;
+    match read_raw(alloc, source.bytes()) {
+        Ok(raw) => first_cycle(alloc, &module_of(alloc, &raw)?),
+        Err(_) => Err(NoMemory),
+    }
+}
+
+#[test]
+fn blocks_in_cycles(rt: HostRuntime) -> Result<(), NoMemory> {
+    let alloc = rt.alloc();
+    let [x, y, z] = ["    x = z;\n", "    y = x;\n", "    z = y;\n"];
+    // two blocks, and three behind one that has no part in it
+    let back = "    x = y;\n";
+    assert_eq!(rt; cycle_of(alloc, &[back, y])?, Some(0));
+    assert_eq!(rt; cycle_of(alloc, &["    w = a;\n", x, y, z])?, Some(1));
+    // a block that the cycle leads to, and one that leads to it
+    let rows: &[&str] = &["    w = y;\n", "    x = a;\n", "    y = (x & z);\n", z];
+    assert_eq!(rt; cycle_of(alloc, rows)?, Some(2));
+    // the first of two cycles
+    let rows: &[&str] = &["    w = z;\n", back, "    z = w;\n", y];
+    assert_eq!(rt; cycle_of(alloc, rows)?, Some(0));
+    // a test and a selector are read too
+    let test = "    if (y) begin\n      x = a;\n    end\n";
+    assert_eq!(rt; cycle_of(alloc, &[test, y])?, Some(0));
+    let selector = "    case (y)\n      1'h0: begin\n        x = a;\n      end\n    endcase\n";
+    assert_eq!(rt; cycle_of(alloc, &[selector, y])?, Some(0));
+    // no block, a block that reads what it assigns, and a chain from its end
+    assert!(rt; cycle_of(alloc, &[])?.is_none());
+    assert!(rt; cycle_of(alloc, &["    x = a;\n    x = (x & a);\n"])?.is_none());
+    assert!(rt; cycle_of(alloc, &[z, y, "    x = a;\n"])?.is_none());
+    // a register is no part of a cycle
+    for whole in [RESET, AND, COUNT, EDGE].as_slice() {
+        match read_raw(alloc, whole.as_bytes()) {
+            Ok(raw) => {
+                let m = module_of(alloc, &raw)?;
+                assert!(rt; first_cycle(alloc, &m)?.is_none());
+            }
+            Err(_) => assert!(rt; false),
+        }
     }
     Ok(())
 }
