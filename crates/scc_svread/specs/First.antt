@@ -1,7 +1,8 @@
 -- What is wrong first in a module as it is written: a size, a name that is undeclared or declared twice, or a driver.
-use Rattle.std.specs.Prelude.{ℕ, ◌+◌, Bool, List, [], ◌∷◌, length, Option, Some, None}
+use Rattle.std.specs.Prelude.{ℕ, ◌+◌, Bool, List, [], ◌∷◌, ◌++◌, length, Option, Some, None}
 use Rattle.scc_svtext.specs.Pieces.{spelled}
 use Rattle.scc_svraw.specs.declared.raw.RawVar.{RawVar}
+use Rattle.scc_svraw.specs.declared.raw.RawBlock.TheVariants.{Comb, Edge}
 use Rattle.scc_svraw.specs.declared.raw.RawItem.{RawItem}
 use Rattle.scc_svraw.specs.declared.raw.RawItem.TheVariants.{Var, Block}
 use Rattle.scc_svraw.specs.declared.raw.RawModule.{RawModule}
@@ -43,8 +44,12 @@ names_with before (i ∷ more) = names_with (item_names before i) more
 abbrev pub scope_of : RawModule → Scope
 scope_of m = names_with (declare_all [] m.ports) m.items
 
+-- up to the first line behind the ports
+abbrev pub head_walk : RawModule → Walking
+head_walk m = pass 7 then pass (length (spelled m.name)) then pass 3 then ports_walk [] m.ports then pass 3
+
 abbrev pub module_walk : RawModule → Walking
-module_walk m = pass 7 then pass (length (spelled m.name)) then pass 3 then ports_walk [] m.ports then pass 3 then items_walk (declare_all [] m.ports) (scope_of m) m.items
+module_walk m = head_walk m then items_walk (declare_all [] m.ports) (scope_of m) m.items
 
 -- wrong sizes before names that are not declared once, and these before declared names that stand where they may not
 abbrev pub first_in : Option ℕ → Option ℕ → Option ℕ → Option Wrong
@@ -56,3 +61,17 @@ first_in None None None = None
 -- what is wrong first; `many` says whether the module may have several clocks
 abbrev pub wrong_of : Bool → RawModule → Option Wrong
 wrong_of many m = first_in (module_walk m start).size (module_walk m start).name (misplaced many m)
+
+-- ---- where combinational blocks begin, behind the blanks before them
+
+abbrev pub start_of : RawItem → Walk → List ℕ
+start_of (Var v) w = []
+start_of (Block (Comb ss)) w = (pass 2 w).at ∷ []
+start_of (Block (Edge rising clock reset sets)) w = []
+
+abbrev pub starts_behind : Scope → Scope → List RawItem → Walk → List ℕ
+starts_behind before s [] w = []
+starts_behind before s (i ∷ more) w = start_of i w ++ starts_behind (item_names before i) s more (item_walk before s i w)
+
+abbrev pub starts_of : RawModule → List ℕ
+starts_of m = starts_behind (declare_all [] m.ports) (scope_of m) m.items (head_walk m start)

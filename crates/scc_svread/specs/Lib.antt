@@ -10,6 +10,7 @@ pub mod Mentioned
 pub mod Within
 pub mod Drivers
 pub mod First
+pub mod Read
 pub mod Returned
 pub mod Cycles
 pub mod VarLists

@@ -10,7 +10,8 @@ use scc_base::NoMemory;
 use scc_svtree::{SvBlock, SvModule};
 use std::alloc::Global;
 
-fn first_of(alloc: Global, blocks: &[SvBlock]) -> Result<Option<usize>, NoMemory>
+/// An order of combinational blocks, or the first on a cycle.
+pub fn first_of(alloc: Global, blocks: &[SvBlock]) -> Result<Option<usize>, NoMemory>
     ensures { IfOk result (λ o. Said (combs_of blocks.now) o) }
 {
     let g = graph_of(alloc, blocks)?;

@@ -1,5 +1,5 @@
 //! What is wrong first in a module.
-ghost use Rattle.std.specs.Prelude.{◌≡◌, ◌+◌, [], length, IfOk, OnOk};
+ghost use Rattle.std.specs.Prelude.{◌≡◌, ◌+◌, ◌++◌, [], length, IfOk, OnOk};
 ghost use Rattle.scc_svtext.specs.Pieces.{spelled};
 ghost use Rattle.scc_svread.specs.Blocks as blocks;
 ghost use Rattle.scc_svread.specs.First as firsts;
@@ -12,8 +12,8 @@ use crate::leaf::{pass_both, spelling};
 use crate::scope::Scope;
 use crate::walk::{START, Walk};
 use crate::wrong::Wrong;
-use scc_base::{NoMemory, Text};
-use scc_svraw::{RawItem, RawModule, RawVar};
+use scc_base::{List, NoMemory};
+use scc_svraw::{RawBlock, RawItem, RawModule, RawVar};
 use std::alloc::Global;
 
 // A variable, which is declared then.
@@ -133,15 +133,62 @@ fn first_in(size: Option<usize>, name: Option<usize>, driver: Option<usize>) -> 
     }
 }
 
+// A module up to its ports' end, which are declared then.
+fn head(names: &mut Scope, m: &RawModule) -> Result<Walk, NoMemory>
+    requires { names.old ≡ [] }
+    ensures walk { IfOk result (λ w. w ≡ firsts.head_walk m.now start) }
+    ensures names { OnOk result (names.new ≡ declare_all [] m.now.ports) }
+{
+    let start = spelling(&m.name, START.pass(7)).pass(3);
+    Ok(ports(names, m.ports.as_slice(), start)?.pass(3))
+}
+
 // The walk over sizes and names.
 fn looked_through(alloc: Global, m: &RawModule) -> Result<Walk, NoMemory>
     ensures { IfOk result (λ w. w ≡ firsts.module_walk m.now start) }
 {
     let scope = scope_of(alloc, m)?;
     let mut names = Scope::new(alloc);
-    let start = spelling(&m.name, START.pass(7)).pass(3);
-    let behind = ports(&mut names, m.ports.as_slice(), start)?.pass(3);
+    let behind = head(&mut names, m)?;
     items(alloc, &mut names, &scope, m.items.as_slice(), behind)
+}
+
+fn add_start(found: &mut List<usize>, i: &RawItem, w: Walk) -> Result<(), NoMemory>
+    ensures { OnOk result (found.new ≡ found.old ++ firsts.start_of i.now w) }
+{
+    match i {
+        RawItem::Var(_) => Ok(()),
+        RawItem::Block(RawBlock::Comb(_)) => found.push(w.pass(2).at),
+        RawItem::Block(RawBlock::Edge { .. }) => Ok(()),
+    }
+}
+
+fn starts_behind(
+    alloc: Global,
+    names: &mut Scope,
+    scope: &Scope,
+    list: &[RawItem],
+    w: Walk,
+) -> Result<List<usize>, NoMemory>
+    ensures { IfOk result (λ l. l ≡ firsts.starts_behind names.old scope.now list.now w) }
+{
+    let mut found = List::new(alloc);
+    let mut walk = w;
+    for i in list {
+        add_start(&mut found, i, walk)?;
+        walk = item(alloc, names, scope, i, walk)?;
+    }
+    Ok(found)
+}
+
+/// Where the combinational blocks of a module begin, behind the blanks before them.
+pub fn starts(alloc: Global, m: &RawModule) -> Result<List<usize>, NoMemory>
+    ensures { IfOk result (λ l. l ≡ firsts.starts_of m.now) }
+{
+    let scope = scope_of(alloc, m)?;
+    let mut names = Scope::new(alloc);
+    let behind = head(&mut names, m)?;
+    starts_behind(alloc, &mut names, &scope, m.items.as_slice(), behind)
 }
 
 /// What is wrong first in a module as it is written, by its place in the text: a wrong size; where no size is wrong, a name that is

@@ -18,6 +18,7 @@ mod names;
 mod number;
 mod ranks;
 mod reached;
+mod reading;
 mod rows;
 mod scope;
 mod stmt;
@@ -37,5 +38,6 @@ pub use laws::{
     a_module_is_read_as_it_is_written, a_text_is_one_module, what_is_written_says_which_module,
 };
 pub use module::module_of;
+pub use reading::{read, read_many};
 pub use written::read_written;
 pub use wrong::Wrong;
