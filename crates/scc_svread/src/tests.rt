@@ -1,6 +1,6 @@
 //! What is wrong first in texts, most of which have one thing wrong.
-use crate::{Wrong, first_cycle, first_wrong, module_of, read_written};
-use scc_base::{NoMemory, Text};
+use crate::{Wrong, first_cycle, first_wrong, module_of, read, read_many, read_written};
+use scc_base::{Code, NoMemory, Stop, Text};
 use scc_svraw::read_raw;
 use scc_svtext::print;
 use std::alloc::Global;
@@ -671,8 +671,18 @@ fn drivers_of_declarations(rt: HostRuntime) -> Result<(), NoMemory> {
 
 #[test]
 fn texts_come_back(rt: HostRuntime) -> Result<(), NoMemory> {
-    let rows: &[&str] = &[AND, COUNT, WORD, ARRAY, EDGE, RESET];
+    let rows: &[&str] = &[AND, COUNT, WORD, ARRAY, RESET];
     for row in rows {
+        match read(rt.alloc(), row.as_bytes()) {
+            Ok(m) => {
+                let printed = print(rt.alloc(), &m)?;
+                assert!(rt; printed.bytes() == row.as_bytes());
+            }
+            Err(_) => assert!(rt; false),
+        }
+    }
+    // its next values stand nowhere
+    for row in [EDGE].as_slice() {
         match read_written(rt.alloc(), row.as_bytes()) {
             Ok(m) => {
                 let printed = print(rt.alloc(), &m)?;
@@ -762,5 +772,98 @@ fn blocks_in_cycles(rt: HostRuntime) -> Result<(), NoMemory> {
             Err(_) => assert!(rt; false),
         }
     }
+    Ok(())
+}
+
+// Whether reading the text of both lists is refused with this code behind the first of them.
+fn is_refused(alloc: Global, code: Code, front: &[&str], rest: &[&str]) -> Result<bool, NoMemory> {
+    let mut whole = text(alloc, front)?;
+    let at = whole.bytes().len();
+    whole.push_bytes(text(alloc, rest)?.bytes())?;
+    match read(alloc, whole.bytes()) {
+        Err(Stop::Refused(r)) => {
+            Ok(
+                r.code == code
+                    && r.place.file == 0
+                    && r.place.at as usize == at
+                    && r.other.is_none(),
+            )
+        }
+        Err(Stop::NoMemory) => Err(NoMemory),
+        Ok(_) => Ok(false),
+    }
+}
+
+const LOOP: &str = "always_comb begin
+    n = q;
+  end
+";
+
+#[test]
+fn texts_are_refused(rt: HostRuntime) -> Result<(), NoMemory> {
+    let alloc = rt.alloc();
+    let rows: &[(Code, &str, &str)] = &[
+        (Code::SvUnexpected, "    q = 8'", "d0;\n"),
+        (Code::SvUnexpected, "    q = 8'hf", "F;\n"),
+        (Code::SvSize, "    q = (q + ", "a[8]);\n"),
+        (Code::SvName, "    q = (q + ", "x);\n"),
+        (Code::SvDriver, "    q = (", "q + a);\n"),
+    ];
+    for (code, front, rest) in rows {
+        assert!(rt; is_refused(alloc, *code, &[BLOCK, front], &[rest, TAIL])?);
+    }
+    // the second block of a cycle begins behind the first
+    let first = "  always_comb begin\n    q = n;\n  end\n";
+    assert!(rt;
+        is_refused(
+            alloc,
+            Code::SvLoop,
+            &[PORTS, PAIR, "  "],
+            &["always_comb begin\n    q = n;\n  end\n  ", LOOP, END]
+        )?
+    );
+    let before = "  logic w;\n  always_comb begin\n    w = q[0];\n  end\n  ";
+    assert!(rt;
+        is_refused(
+            alloc,
+            Code::SvLoop,
+            &[PORTS, PAIR, before],
+            &[LOOP, first, END]
+        )?
+    );
+    // the deepest level is that of the 8,191st operand
+    let mut front = text(alloc, &[BLOCK, "    q = "])?;
+    let mut rest = Text::new(alloc);
+    for _ in 0..8191 {
+        front.push_bytes(b"(~")?;
+        rest.push_bytes(b")")?;
+    }
+    let at = front.bytes().len();
+    front.push_bytes(b"a")?;
+    front.push_bytes(rest.bytes())?;
+    front.push_bytes(text(alloc, &[";\n", TAIL])?.bytes())?;
+    match read(alloc, front.bytes()) {
+        Err(Stop::Refused(r)) => {
+            assert!(rt; r.code == Code::SvDepth);
+            assert_eq!(rt; r.place.at as usize, at);
+        }
+        _ => assert!(rt; false),
+    }
+    Ok(())
+}
+
+#[test]
+fn several_clocks_are_read(rt: HostRuntime) -> Result<(), NoMemory> {
+    let blocks =
+        "  always_ff @(posedge clk) begin\n    q <= a;\n  end\n  always_ff @(negedge rst) begin\n    n <= q;\n  end\n";
+    let whole = text(rt.alloc(), &[PORTS, PAIR, blocks, END])?;
+    match read_many(rt.alloc(), whole.bytes()) {
+        Ok(m) => {
+            let printed = print(rt.alloc(), &m)?;
+            assert!(rt; printed.bytes() == whole.bytes());
+        }
+        Err(_) => assert!(rt; false),
+    }
+    assert!(rt; read(rt.alloc(), whole.bytes()).is_err());
     Ok(())
 }
