@@ -831,24 +831,6 @@ fn texts_are_refused(rt: HostRuntime) -> Result<(), NoMemory> {
             &[LOOP, first, END]
         )?
     );
-    // the deepest level is that of the 8,191st operand
-    let mut front = text(alloc, &[BLOCK, "    q = "])?;
-    let mut rest = Text::new(alloc);
-    for _ in 0..8191 {
-        front.push_bytes(b"(~")?;
-        rest.push_bytes(b")")?;
-    }
-    let at = front.bytes().len();
-    front.push_bytes(b"a")?;
-    front.push_bytes(rest.bytes())?;
-    front.push_bytes(text(alloc, &[";\n", TAIL])?.bytes())?;
-    match read(alloc, front.bytes()) {
-        Err(Stop::Refused(r)) => {
-            assert!(rt; r.code == Code::SvDepth);
-            assert_eq!(rt; r.place.at as usize, at);
-        }
-        _ => assert!(rt; false),
-    }
     Ok(())
 }
 
