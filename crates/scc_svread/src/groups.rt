@@ -1,5 +1,5 @@
-//! Groups of combinational blocks that reach each other, by a walk against the feeding: a group comes behind those that feed it
-//! (Tarjan). Nothing is claimed of them, since what is made of them looks first.
+//! Groups of combinational blocks that reach each other, by a walk against the feeding (Tarjan): a group comes behind those that
+//! feed it. No contract says so: `is_ranked` and `is_sorted` look, and the answer is right whatever the groups are.
 use crate::ranks::rank_of;
 use crate::rows::Rows;
 use scc_base::NoMemory;

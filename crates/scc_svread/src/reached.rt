@@ -35,7 +35,13 @@ fn is_on_cycle(alloc: Global, g: &Rows, k: usize) -> Result<bool, NoMemory>
 }
 
 // The same, where no search is needed for a block whose rank is above those of what feeds it.
-fn is_looped(alloc: Global, g: &Rows, rank: &[usize], sorted: bool, k: usize) -> Result<bool, NoMemory>
+fn is_looped(
+    alloc: Global,
+    g: &Rows,
+    rank: &[usize],
+    sorted: bool,
+    k: usize,
+) -> Result<bool, NoMemory>
     requires within { k < length g.now }
     requires sorted { sorted ≡ true → Sorted g.now rank.now }
     ensures { IfOk result (λ b. Decides b (Path (Step g.now) k k)) }
