@@ -1,13 +1,13 @@
 -- The search from a row: what is seen or waits reaches it, and what feeds it or a seen row is seen or waits.
-use Rattle.std.proofs.Common.{◌≡◌, ◌<◌, ◌+◌, ◌⊎◌, inl, inr, ℕ, zero, suc, nat_eq, nat_lt, Bool, true, false, not, ◌||◌, cond, List, [], ◌∷◌, ◌++◌, length, set, replicate, refl, sym, subst, ◌∙◌, arith, length-set, length-append}
-use Rattle.std.specs.Prelude.{slice_index_or}
+use Rattle.std.proofs.Common.{◌≡◌, ◌<◌, ◌+◌, ◌⊎◌, inl, inr, ℕ, zero, suc, nat_eq, nat_lt, Bool, true, false, not, ◌||◌, cond, List, [], ◌∷◌, ◌++◌, length, set, replicate, refl, ap, sym, subst, ◌∙◌, arith, length-set, length-append}
+use Rattle.std.specs.Prelude.{slice_index, slice_index_or}
 use Rattle.std.proofs.Common.{get_or-set_other, get_or-set_same}
 use Rattle.std.proofs.lemmas.List.{length-replicate, get_or_read}
 use Rattle.std.proofs.lemmas.List.Folds.{list_any-append}
 use Rattle.std.proofs.lemmas.Bool.{or_cases, or_left, or_right, and_parts, and_cases, cases_eq, both_ways, eqb-true, eq-eqb, ltb-true, not-true, not-false, lt-ltb}
 use Rattle.scc_svread.specs.Fed.{Rows, has, row_at}
 use Rattle.scc_svread.specs.Cycles.{Path, one, more}
-use Rattle.scc_svread.specs.Search.{Step, Decides, is_seen, is_new, seen_after, stack_after}
+use Rattle.scc_svread.specs.Search.{Step, Decides, is_seen, is_new, seen_after, stack_after, IsFree, Sorted}
 
 or_last : (b : Bool) → (b || false) ≡ true → b ≡ true
 or_last true e = refl
@@ -202,3 +202,16 @@ search_lighter g j old seen whole rest stack l e p q = rw (p, q, e) (turn_lighte
 pub search_done : (g : Rows) (k : ℕ) (seen : List Bool) (stack : List ℕ) (b : Bool) → k < length g → Searching g k seen stack → length stack ≡ 0 → b ≡ slice_index_or seen k b → Decides b (Path (Step g) k k)
 search_done g k seen [] b l s e r = subst (λ (d : Bool). Decides d (Path (Step g) k k)) (sym (get_or_read seen k b (let m = s.same in omega arith) r false)) (search_decides g k seen l s)
 search_done g k seen (i ∷ stack) b l s e r = absurd (omega arith)
+
+-- ---- where no search is needed
+
+-- A row above those that feed it is above all that reach it, where ranks never go down.
+all_above : (g : Rows) (rank : List ℕ) → Sorted g rank → (i k : ℕ) → ((j : ℕ) → has (row_at g k) j ≡ true → slice_index rank j < slice_index rank k) → Path (Step g) i k → slice_index rank i < slice_index rank k
+all_above g rank s i k a (one _ _ h) = a i h
+all_above g rank s i k a (more _ j _ h p) = let l = all_above g rank s j k a p in let m = s j (row_within g j i h) i h in omega arith
+
+pub free_above : (g : Rows) (rank : List ℕ) (k : ℕ) → Sorted g rank → ((j : ℕ) → has (row_at g k) j ≡ true → slice_index rank j < slice_index rank k) → IsFree g k
+free_above g rank k s a p = let l = all_above g rank s k k a p in absurd (omega arith)
+
+pub free_at : (g : Rows) (rank : List ℕ) (k top : ℕ) (row : List ℕ) → Sorted g rank → row ≡ row_at g k → top ≡ slice_index rank k → ((j : ℕ) → has row j ≡ true → slice_index rank j < top) → IsFree g k
+free_at g rank k top row s e f a = free_above g rank k s (λ j h. let l : slice_index rank j < top = a j (ap (λ r. has r j) e ∙ h) in omega arith)

@@ -1,5 +1,5 @@
 -- Cycles, ranks and the search over rows of numbers, where row k has the numbers of what feeds block k.
-use Rattle.std.specs.Prelude.{◌≡◌, ℕ, ◌<◌, nat_lt, Bool, true, false, not, ◌&&◌, if◌then◌else◌, List, ◌++◌, length, slice_index, slice_index_or, slice_set, Option, Some, None}
+use Rattle.std.specs.Prelude.{◌≡◌, ℕ, ◌<◌, ◌≤◌, nat_lt, Bool, true, false, not, ◌&&◌, if◌then◌else◌, List, ◌++◌, length, slice_index, slice_index_or, slice_set, Option, Some, None}
 use Rattle.scc_svread.specs.Fed.{Rows, has, row_at}
 use Rattle.scc_svread.specs.Cycles.{Path}
 
@@ -31,6 +31,13 @@ pub record IsAbove (g : Rows) (rank : List ℕ) (k : ℕ) : Type 0 where
 
 abbrev pub Ranked : Rows → List ℕ → Type 0
 Ranked g rank = (k : ℕ) → k < length g → IsAbove g rank k
+
+-- No row has a rank below one that feeds it.
+abbrev pub IsUpTo : Rows → List ℕ → ℕ → Type 0
+IsUpTo g rank k = (j : ℕ) → has (row_at g k) j ≡ true → slice_index rank j ≤ slice_index rank k
+
+abbrev pub Sorted : Rows → List ℕ → Type 0
+Sorted g rank = (k : ℕ) → k < length g → IsUpTo g rank k
 
 -- ---- the search from a row
 

@@ -4,7 +4,8 @@ ghost use Rattle.scc_svtree.specs.Settled.{Order, combs_of};
 ghost use Rattle.scc_svread.specs.Cycles.{FirstCycle, Said};
 
 use crate::feeds::graph_of;
-use crate::ranks::{guess, is_ranked};
+use crate::groups::group_blocks;
+use crate::ranks::is_ranked;
 use crate::reached::first_row;
 use scc_base::NoMemory;
 use scc_svtree::{SvBlock, SvModule};
@@ -15,11 +16,11 @@ pub fn first_of(alloc: Global, blocks: &[SvBlock]) -> Result<Option<usize>, NoMe
     ensures { IfOk result (λ o. Said (combs_of blocks.now) o) }
 {
     let g = graph_of(alloc, blocks)?;
-    let rank = guess(alloc, &g)?;
+    let rank = group_blocks(alloc, &g)?;
     if is_ranked(&g, rank.as_slice()) {
         return Ok(None);
     }
-    first_row(alloc, &g)
+    first_row(alloc, &g, rank.as_slice())
 }
 
 /// The first combinational block, by its number among the combinational blocks, that lies on a cycle of two or more of which each

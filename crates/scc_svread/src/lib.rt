@@ -9,6 +9,7 @@ mod expr;
 mod facts;
 mod feeds;
 mod first;
+mod groups;
 mod labels;
 mod laws;
 mod leaf;

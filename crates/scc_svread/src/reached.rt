@@ -1,8 +1,9 @@
-//! The first combinational block on a cycle, by a search from each.
-ghost use Rattle.std.specs.Prelude.{◌≡◌, ◌<◌, length, IfOk, OnOk};
+//! The first combinational block on a cycle.
+ghost use Rattle.std.specs.Prelude.{◌≡◌, ◌<◌, true, length, IfOk, OnOk};
 ghost use Rattle.scc_svread.specs.Cycles.{Path};
-ghost use Rattle.scc_svread.specs.Search.{Step, Decides, Found, seen_after, stack_after};
+ghost use Rattle.scc_svread.specs.Search.{Step, Decides, Found, seen_after, stack_after, Sorted};
 
+use crate::ranks::{all_below, is_sorted, rank_of};
 use crate::rows::Rows;
 use scc_base::NoMemory;
 use std::alloc::Global;
@@ -33,12 +34,31 @@ fn is_on_cycle(alloc: Global, g: &Rows, k: usize) -> Result<bool, NoMemory>
     Ok(seen[k])
 }
 
-/// The first block that reaches itself.
-pub fn first_row(alloc: Global, g: &Rows) -> Result<Option<usize>, NoMemory>
+// The same, where no search is needed for a block whose rank is above those of what feeds it.
+fn is_looped(
+    alloc: Global,
+    g: &Rows,
+    rank: &[usize],
+    sorted: bool,
+    k: usize,
+) -> Result<bool, NoMemory>
+    requires within { k < length g.now }
+    requires sorted { sorted ≡ true → Sorted g.now rank.now }
+    ensures { IfOk result (λ b. Decides b (Path (Step g.now) k k)) }
+{
+    if sorted && all_below(rank, g.row(k), rank_of(rank, k)) {
+        return Ok(false);
+    }
+    is_on_cycle(alloc, g, k)
+}
+
+/// The first block that reaches itself. Where the ranks are those of groups of blocks that reach each other, it takes one search.
+pub fn first_row(alloc: Global, g: &Rows, rank: &[usize]) -> Result<Option<usize>, NoMemory>
     ensures { IfOk result (λ o. Found g.now o) }
 {
+    let sorted = is_sorted(g, rank);
     for k in 0..g.len() {
-        if is_on_cycle(alloc, g, k)? {
+        if is_looped(alloc, g, rank, sorted, k)? {
             return Ok(Some(k));
         }
     }

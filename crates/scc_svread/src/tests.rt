@@ -1,8 +1,12 @@
 //! What is wrong first in texts, most of which have one thing wrong.
+use crate::feeds::graph_of;
+use crate::groups::group_blocks;
+use crate::ranks::{is_ranked, is_sorted};
 use crate::{Wrong, first_cycle, first_wrong, module_of, read, read_many, read_written};
 use scc_base::{Code, NoMemory, Stop, Text};
 use scc_svraw::read_raw;
 use scc_svtext::print;
+use scc_svtree::SvModule;
 use std::alloc::Global;
 
 const RESET: &str = "module R (
@@ -725,8 +729,8 @@ const WIRES: &str = "module M (
   logic w;
 ";
 
-// The first block on a cycle among combinational blocks with these statements.
-fn cycle_of(alloc: Global, blocks: &[&str]) -> Result<Option<usize>, NoMemory> {
+// A module of combinational blocks with these statements.
+fn wired(alloc: Global, blocks: &[&str]) -> Result<SvModule, NoMemory> {
     let mut source = text(alloc, &[WIRES])?;
     for statements in blocks {
         let parts = ["  always_comb begin\n", statements, "  end\n"];
@@ -734,9 +738,25 @@ fn cycle_of(alloc: Global, blocks: &[&str]) -> Result<Option<usize>, NoMemory> {
     }
     source.push_bytes(END.as_bytes())?;
     match read_raw(alloc, source.bytes()) {
-        Ok(raw) => first_cycle(alloc, &module_of(alloc, &raw)?),
+        Ok(raw) => module_of(alloc, &raw),
         Err(_) => Err(NoMemory),
     }
+}
+
+fn cycle_of(alloc: Global, blocks: &[&str]) -> Result<Option<usize>, NoMemory> {
+    let m = wired(alloc, blocks)?;
+    first_cycle(alloc, &m)
+}
+
+// Whether the groups of the blocks are an order, and whether they are sorted.
+fn grouped(alloc: Global, blocks: &[&str]) -> Result<(bool, bool), NoMemory> {
+    let m = wired(alloc, blocks)?;
+    let g = graph_of(alloc, m.blocks.as_slice())?;
+    let groups = group_blocks(alloc, &g)?;
+    Ok((
+        is_ranked(&g, groups.as_slice()),
+        is_sorted(&g, groups.as_slice()),
+    ))
 }
 
 #[test]
@@ -750,6 +770,8 @@ fn blocks_in_cycles(rt: HostRuntime) -> Result<(), NoMemory> {
     // a block that the cycle leads to, and one that leads to it
     let rows: &[&str] = &["    w = y;\n", "    x = a;\n", "    y = (x & z);\n", z];
     assert_eq!(rt; cycle_of(alloc, rows)?, Some(2));
+    let (ranked, sorted) = grouped(alloc, rows)?;
+    assert!(rt; !ranked && sorted);
     // the first of two cycles
     let rows: &[&str] = &["    w = z;\n", back, "    z = w;\n", y];
     assert_eq!(rt; cycle_of(alloc, rows)?, Some(0));
@@ -761,7 +783,10 @@ fn blocks_in_cycles(rt: HostRuntime) -> Result<(), NoMemory> {
     // no block, a block that reads what it assigns, and a chain from its end
     assert!(rt; cycle_of(alloc, &[])?.is_none());
     assert!(rt; cycle_of(alloc, &["    x = a;\n    x = (x & a);\n"])?.is_none());
-    assert!(rt; cycle_of(alloc, &[z, y, "    x = a;\n"])?.is_none());
+    let rows: &[&str] = &[z, y, "    x = a;\n"];
+    assert!(rt; cycle_of(alloc, rows)?.is_none());
+    let (ranked, sorted) = grouped(alloc, rows)?;
+    assert!(rt; ranked && sorted);
     // a register is no part of a cycle
     for whole in [RESET, AND, COUNT, EDGE].as_slice() {
         match read_raw(alloc, whole.as_bytes()) {
