@@ -1,7 +1,7 @@
 #!/usr/bin/env bash
-# Prints how long reading an emitted text of 1,000 and of 2,000 small threads takes: its tree as it is written, and then what is wrong first in
-# it. Fails where twice the text takes more than 2.2 times as long. Where Icarus Verilog is installed, it prints its time too.
-# The program that reads it is made, proved and built in a folder of its own.
+# Prints how long an emitted text of 1,000 and of 2,000 small threads takes to be read and to be printed again. Fails where twice the text takes
+# more than 2.2 times as long, or where it is printed otherwise. Where Icarus Verilog is installed, it prints its time too.
+# The program is made, proved and built in a folder of its own.
 set -euo pipefail
 top=$(cd "$(dirname "$0")/.." && pwd)
 work=$(mktemp -d)
@@ -11,13 +11,13 @@ for crate in scc_base scc_bits scc_reading scc_svtree scc_svtext scc_svraw scc_s
   cp -r "$top/crates/$crate" "$work/crates"
   grep "^$crate:" "$top/crates.txt" >>"$work/crates.txt"
 done
-echo 'bench: scc_base scc_svraw scc_svread' >>"$work/crates.txt"
+echo 'bench: scc_base scc_svtext scc_svread' >>"$work/crates.txt"
 cat >"$work/crates/bench/src/main.rt" <<'PROGRAM'
-//! Times the reading of an emitted text.
+//! Times an emitted text: read, and printed again.
 #![tactic(auto)]
 
-use scc_svraw::read_raw;
-use scc_svread::first_wrong;
+use scc_svread::read;
+use scc_svtext::print;
 use std::io;
 use std::time::Instant;
 
@@ -28,19 +28,21 @@ fn main(rt: HostRuntime) -> io::Result<()> {
         text.push(10)?;
     }
     let start = Instant::now(&rt)?;
-    let read = read_raw(rt.alloc(), text.as_slice());
+    let module = read(rt.alloc(), text.as_slice());
     let reading = start.elapsed(&rt)?.as_micros();
-    match read {
+    match module {
         Ok(m) => {
             let start = Instant::now(&rt)?;
-            let wrong = first_wrong(rt.alloc(), false, &m);
-            let looking = start.elapsed(&rt)?.as_micros();
-            match wrong {
-                Ok(None) => println!(rt; "{reading} {looking}")?,
-                _ => println!(rt; "something is wrong")?,
+            let printed = print(rt.alloc(), &m);
+            let printing = start.elapsed(&rt)?.as_micros();
+            match printed {
+                Ok(printed) if printed.bytes() == text.as_slice() => {
+                    println!(rt; "{reading} {printing}")?
+                }
+                _ => println!(rt; "printed otherwise")?,
             }
         }
-        Err(_) => println!(rt; "not read")?,
+        Err(_) => println!(rt; "refused")?,
     }
     Ok(())
 }
@@ -79,14 +81,14 @@ least() {
   done | awk '{ if (NR == 1 || $1 < a) a = $1; if (NR == 1 || $2 < b) b = $2 } END { print a, b }'
 }
 
-read -r one_read one_look < <(least "$work/one.sv")
-read -r two_read two_look < <(least "$work/two.sv")
-echo "$(wc -l <"$work/one.sv") lines: read in $one_read us, looked through in $one_look us"
-echo "$(wc -l <"$work/two.sv") lines: read in $two_read us, looked through in $two_look us"
+read -r one_read one_print < <(least "$work/one.sv")
+read -r two_read two_print < <(least "$work/two.sv")
+echo "$(wc -l <"$work/one.sv") lines: read in $one_read us, printed in $one_print us"
+echo "$(wc -l <"$work/two.sv") lines: read in $two_read us, printed in $two_print us"
 if command -v iverilog >/dev/null; then
   start=$(date +%s%N)
   iverilog -g2012 -t null "$work/one.sv"
   echo "Icarus Verilog reads the first in $((($(date +%s%N) - start) / 1000)) us"
 fi
-awk -v a="$one_read" -v b="$two_read" -v c="$one_look" -v d="$two_look" \
+awk -v a="$one_read" -v b="$two_read" -v c="$one_print" -v d="$two_print" \
   'BEGIN { if (b > 2.2 * a || d > 2.2 * c) { print "more than linear"; exit 1 } }'
