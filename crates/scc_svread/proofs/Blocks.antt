@@ -25,7 +25,8 @@ use Rattle.scc_svraw.specs.Lexical.{Bytes}
 use Rattle.scc_svraw.specs.Grammar.{edge_word, ReadsSets, ReadsLoads, ReadsLevel, ReadsBlock}
 use Rattle.scc_svraw.proofs.Runs.{and_left, and_right}
 use Rattle.scc_svread.specs.Written.{name_of, raw_expr, raw_set, raw_load, raw_reset, raw_block}
-use Rattle.scc_svread.specs.Resolved.{word_number, word_of, expr_of, set_of, load_of, reset_of, block_of}
+use Rattle.scc_svcheck.specs.Numbers.{word_number}
+use Rattle.scc_svread.specs.Resolved.{word_of, expr_of, set_of, load_of, reset_of, block_of}
 use Rattle.scc_svread.proofs.Decimals.{both}
 use Rattle.scc_svread.proofs.Digits.{number_hex}
 use Rattle.scc_svread.proofs.Sums.{two, three, four, five}

@@ -2,7 +2,7 @@
 use Rattle.std.proofs.Common.{◌≡◌, ◌<◌, ◌≤◌, ◌+◌, ◌-◌, ◌*◌, ◌/◌, ◌%◌, ◌^◌, ℕ, zero, suc, Bool, true, false, ◌&&◌, nat_le, [], ◌∷◌, ◌++◌, decimal, refl, ap, ◌∙◌, arith}
 use Rattle.std.proofs.lemmas.Fmt.{decimal_by_steps}
 use Rattle.std.proofs.lemmas.Bool.{le-leb}
-use Rattle.scc_svread.specs.Resolved.{small_number}
+use Rattle.scc_svcheck.specs.Numbers.{small_number}
 use Rattle.scc_svraw.specs.Lexical.{Bytes, is_digit, all_pass, is_positive, is_decimal, number_from, number}
 use Rattle.scc_svraw.proofs.Numbers.{positive_decimal}
 use Rattle.scc_svraw.proofs.Runs.{and_left, and_right}

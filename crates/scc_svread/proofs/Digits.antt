@@ -10,7 +10,7 @@ use Rattle.std.proofs.lemmas.Bool.Decides.{nat_tests}
 use Rattle.scc_svtext.specs.Pieces.{digit, hex_text}
 use Rattle.scc_svraw.specs.Lexical.{is_digit, is_hex_digit, all_pass}
 use Rattle.scc_svread.proofs.Decimals.{both}
-use Rattle.scc_svread.specs.Resolved.{digit_value, hex_from, hex_number, word_number}
+use Rattle.scc_svcheck.specs.Numbers.{digit_value, hex_from, hex_number, word_number}
 
 above_9 : (d : ℕ) → 10 ≤ d → nat_le (87 + d) 57 ≡ false
 above_9 d h = grind (arith, nat_tests)

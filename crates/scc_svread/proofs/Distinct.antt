@@ -6,7 +6,8 @@ use Rattle.std.proofs.Common.{append_assoc, append-nil}
 use Rattle.scc_svtree.specs.declared.module.SvVar.{SvVar}
 use Rattle.scc_svtree.specs.Sound.{Each, IsNotNamed, AreNamed}
 use Rattle.scc_svraw.specs.Lexical.{Bytes}
-use Rattle.scc_svread.specs.Resolved.{with_name, with_names}
+use Rattle.scc_svcheck.specs.Mentioned.{with_name}
+use Rattle.scc_svread.specs.Resolved.{with_names}
 use Rattle.scc_svread.proofs.Leaves.{bare_names, other_bytes}
 
 IsNew : List Bytes → SvVar → Type 0

@@ -32,7 +32,7 @@ use Rattle.scc_svread.proofs.Decimals.{small_decimal, decimal_is}
 use Rattle.scc_svread.proofs.Sums.{two, three, four, seven}
 use Rattle.scc_svread.proofs.Leaves.{bare_names, reads_literal, back_literal, reads_left, back_left}
 use Rattle.scc_svread.proofs.Fits.{Fits, of_left, of_unary, of_first, of_second, of_test, of_then, of_else, of_parts, of_cast, of_sign}
-use Rattle.scc_svread.proofs.Trees.{made, expr_made, by_expr}
+use Rattle.scc_svorder.proofs.Trees.{made, expr_made, by_expr}
 use Rattle.scc_svread.proofs.RawTrees as raw
 
 -- the byte of an operator of one operand

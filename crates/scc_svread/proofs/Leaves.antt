@@ -17,7 +17,8 @@ use Rattle.scc_svtext.specs.Pieces.{spelled, name_at, hex_text, literal_text, le
 use Rattle.scc_svtext.specs.ModuleText.{names_of}
 use Rattle.scc_svraw.specs.Lexical.{Bytes, ReadsName, ReadsLiteral, ReadsLeft}
 use Rattle.scc_svread.specs.Written.{name_of, raw_literal, raw_left}
-use Rattle.scc_svread.specs.Resolved.{number_of, var_of, small_number, word_number, word_of, literal_of, left_of}
+use Rattle.scc_svcheck.specs.Numbers.{small_number, word_number}
+use Rattle.scc_svread.specs.Resolved.{number_of, var_of, word_of, literal_of, left_of}
 use Rattle.scc_svread.proofs.Decimals.{number_decimal, small_decimal, decimal_is}
 use Rattle.scc_svread.proofs.Digits.{hex_digits, length-hex, number_hex}
 use Rattle.scc_svread.proofs.Sums.{three, four, six}

@@ -17,13 +17,14 @@ use Rattle.scc_svraw.specs.Grammar.{ReadsItems, ReadsModule, Reads}
 use Rattle.scc_svraw.proofs.Whole as raw_whole
 use Rattle.scc_svread.specs.Written.{raw_block, raw_blocks, raw_of}
 use Rattle.scc_svread.specs.Resolved.{variable_of, block_of, blocks_in, module_of, declared, named, names_in, with_names}
+use Rattle.scc_svread.proofs.Formed.{Formed, formed_of}
 use Rattle.scc_svread.proofs.Sums.{two, seven}
 use Rattle.scc_svread.proofs.Leaves.{bare_names}
 use Rattle.scc_svread.proofs.Distinct.{names_after, names_kept}
 use Rattle.scc_svread.proofs.Blocks.{ToldBlock, told_block}
 use Rattle.scc_svread.proofs.Variables.{reads_ports, reads_declarations, variables_all, blocks_all, back_variables, back_names}
 
-module _ (many : Bool) (m : SvModule) (sound : IsSound many m) where
+module _ (m : SvModule) (sound : Formed m) where
   abbrev vars : List SvVar
   vars = m.vars
 
@@ -47,9 +48,9 @@ module _ (many : Bool) (m : SvModule) (sound : IsSound many m) where
       let P : Bytes → Type 0 = λ ts. ReadsItems begun ts r (raw_blocks vars (b ∷ bs)) in
       subst P (sym (two (block_text vars (names_of vars) b) later r ∙ p.1)) (ReadsItems.block p.2 (reads_blocks bs k.1 true r))
 
-  pub reads_module : Reads (module_text m) (raw_of m)
+  pub reads_formed : Reads (module_text m) (raw_of m)
   unfolding fixed_text
-  reads_module =
+  reads_formed =
       let ports : Bytes = ports_text false vars in
       let declarations : Bytes = flat_map decl_text vars in
       let blocks : Bytes = flat_map (block_text vars (names_of vars)) m.blocks in
@@ -74,13 +75,19 @@ module _ (many : Bool) (m : SvModule) (sound : IsSound many m) where
       names_after [] (named (raw_of m).ports) (named (declared (raw_of m).items)) ∙ ap (with_names []) (append_named (raw_of m).ports (declared (raw_of m).items))
       ∙ ap (λ vs. with_names [] (named vs)) (variables_all vars m.blocks vars sound.ports) ∙ ap (with_names []) (back_names vars) ∙ names_kept vars sound.names
 
-  pub back_module : module_of (raw_of m) ≡ m
-  back_module =
+  back_formed : module_of (raw_of m) ≡ m
+  back_formed =
       ap (λ vs. record { name = m.name; vars = map variable_of vs; blocks = map (block_of (names_in (raw_of m))) (blocks_in (raw_of m).items) }) (variables_all vars m.blocks vars sound.ports)
       ∙ ap (λ vs. record { name = m.name; vars = vs; blocks = map (block_of (names_in (raw_of m))) (blocks_in (raw_of m).items) }) (back_variables vars sound.widths)
       ∙ ap (λ ns. record { name = m.name; vars = vars; blocks = map (block_of ns) (blocks_in (raw_of m).items) }) same_names
       ∙ ap (λ bs. record { name = m.name; vars = vars; blocks = map (block_of (bare_names vars)) bs }) (blocks_all vars m.blocks vars)
       ∙ ap (λ bs. record { name = m.name; vars = vars; blocks = bs }) (back_blocks m.blocks told)
+
+pub reads_module : (many : Bool) (m : SvModule) → IsSound many m → Reads (module_text m) (raw_of m)
+reads_module many m s = reads_formed m (formed_of s)
+
+pub back_module : (many : Bool) (m : SvModule) → IsSound many m → module_of (raw_of m) ≡ m
+back_module many m s = back_formed m (formed_of s)
 
 -- ---- no bytes are two modules
 

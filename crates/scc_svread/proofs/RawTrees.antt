@@ -20,8 +20,9 @@ use Rattle.scc_svraw.specs.declared.raw.RawArm.{RawArm, fold-RawArm, fold-roll-R
 use Rattle.scc_svraw.specs.Grammar.{arm}
 use denote.Hole.Carrier.{roll}
 use Rattle.scc_svraw.specs.Lexical.{Bytes}
-use Rattle.scc_svread.specs.Resolved.{small_number, literal_of, left_of, expr_node, expr_of, stmt_node, arm_node, stmt_of}
-use Rattle.scc_svread.proofs.Trees.{made, arm_made}
+use Rattle.scc_svcheck.specs.Numbers.{small_number}
+use Rattle.scc_svread.specs.Resolved.{literal_of, left_of, expr_node, expr_of, stmt_node, arm_node, stmt_of}
+use Rattle.scc_svorder.proofs.Trees.{made, arm_made}
 
 module _ (names : List Bytes) where
   abbrev step : RawExpr-F SvExpr → SvExpr

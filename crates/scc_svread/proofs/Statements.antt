@@ -34,7 +34,7 @@ use Rattle.scc_svread.specs.Resolved.{expr_of, stmt_of}
 use Rattle.scc_svread.proofs.Sums.{two, three, five, six, seven, eight}
 use Rattle.scc_svread.proofs.Leaves.{bare_names, reads_literal, back_literal, reads_left, back_left}
 use Rattle.scc_svread.proofs.Fits.{FitsCode, FitsArms, assign_left, assign_value, assign_rest, if_test, if_then, if_else, if_rest, case_selector, case_arms, case_rest, arm_label, arm_body, arm_more}
-use Rattle.scc_svread.proofs.Trees.{arm_made, by_stmt}
+use Rattle.scc_svorder.proofs.Trees.{arm_made, by_stmt}
 use Rattle.scc_svread.proofs.RawTrees.{of_assign, of_if, of_case, of_arm, arm_of}
 use Rattle.scc_svread.proofs.Expressions.{IsTold, known}
 

@@ -1,5 +1,5 @@
 -- What reading an emitted text answers: the module that it says, or the one refusal that it has coming.
-use Rattle.std.specs.Prelude.{◌≡◌, ℕ, ◌-◌, ◌^◌, min, Bool, List, length, slice_index, Option, Some, None, ◌⊎◌}
+use Rattle.std.specs.Prelude.{◌≡◌, ℕ, ◌-◌, ◌^◌, min, Bool, List, length, slice_index, Option, Some, None, Result, Ok, Err, ◌⊎◌}
 use Rattle.scc_base.specs.declared.code.Code.{Code as Reason}
 use Rattle.scc_base.specs.declared.code.Code.TheVariants.{SvUnexpected, SvSize, SvName, SvDriver, SvLoop, SvDepth}
 use Rattle.scc_base.specs.declared.refusal.Stop.{Stop}
@@ -7,16 +7,20 @@ use Rattle.scc_base.specs.declared.refusal.Stop.TheVariants as stop
 use Rattle.scc_svtree.specs.declared.module.SvModule.{SvModule}
 use Rattle.scc_svtree.specs.Code.{Code}
 use Rattle.scc_svtree.specs.Settled.{combs_of, Order}
+use Rattle.scc_svtext.specs.Emitted.{SvReads}
 use Rattle.scc_svraw.specs.declared.halt.Halt.{Halt}
 use Rattle.scc_svraw.specs.declared.halt.Halt.TheVariants as halt
 use Rattle.scc_svraw.specs.declared.raw.RawModule.{RawModule}
 use Rattle.scc_svraw.specs.Lexical.{Bytes}
+use Rattle.scc_svraw.specs.Grammar.{Reads}
+use Rattle.scc_svraw.specs.Levels.{deep}
 use Rattle.scc_svraw.specs.Claim.{IsRead, FaultAt}
-use Rattle.scc_svread.specs.declared.wrong.Wrong.{Wrong}
-use Rattle.scc_svread.specs.declared.wrong.Wrong.TheVariants.{Size, Name, Driver}
+use Rattle.scc_svcheck.specs.declared.wrong.Wrong.{Wrong}
+use Rattle.scc_svcheck.specs.declared.wrong.Wrong.TheVariants.{Size, Name, Driver}
+use Rattle.scc_svread.specs.Written.{raw_of}
 use Rattle.scc_svread.specs.Resolved.{module_of}
-use Rattle.scc_svread.specs.First.{wrong_of, starts_of}
-use Rattle.scc_svread.specs.Cycles.{FirstCycle}
+use Rattle.scc_svcheck.specs.First.{wrong_of, starts_of}
+use Rattle.scc_svorder.specs.Cycles.{FirstCycle}
 
 -- a refusal at a byte of the one text
 abbrev pub refusal : Reason → ℕ → Stop
@@ -75,10 +79,23 @@ pub record IsStopped (bytes : Bytes) (e : Stop) : Type 0 where
   pub stands : FaultAt 8192 bytes fault
   pub said : e ≡ stop_at bytes fault
 
--- the module
-abbrev pub ReadAs : Bool → Bytes → SvModule → Type 0
-ReadAs many bytes m = Taken bytes (λ raw. IsRight many raw m)
+-- The bytes are the text of this module, which is without faults, and in which no statement or expression stands deeper than the limit.
+pub record ReadAs (many : Bool) (bytes : Bytes) (m : SvModule) : Type 0 where
+  pub text : SvReads many bytes m
+  pub within : (d : Reads bytes (raw_of m)) → deep 8192 d ≡ None
 
 -- the refusal
 abbrev pub RefusedAs : Bool → Bytes → Stop → Type 0
 RefusedAs many bytes e = IsStopped bytes e ⊎ Taken bytes (λ raw. IsFaulty many raw e)
+
+-- what is answered where the bytes are the text of this module: the module itself, or a refusal at its first part that stands too deep
+abbrev pub Answered : Option Bytes → Bytes → SvModule → Result SvModule Stop → Type 0
+Answered None bytes m (Ok found) = found ≡ m
+Answered (Some at) bytes m (Ok found) = ⊥
+Answered deep bytes m (Err stop.NoMemory) = Unit {0}
+Answered None bytes m (Err (stop.Refused r)) = ⊥
+Answered (Some at) bytes m (Err (stop.Refused r)) = stop.Refused r ≡ refusal SvDepth (length bytes - length at)
+
+-- The text of a module without faults is read as that module, unless memory ran out.
+abbrev pub ReadBack : Bool → Bytes → Result SvModule Stop → Type 0
+ReadBack many bytes result = (m : SvModule) → SvReads many bytes m → (d : Reads bytes (raw_of m)) → Answered (deep 8192 d) bytes m result

@@ -1,6 +1,5 @@
 -- The module that a text says, from the text as it is written. It may have wrong sizes, names and drivers.
-use Rattle.std.specs.Prelude.{ℕ, ◌+◌, ◌-◌, ◌*◌, ◌^◌, min, nat_le, List, [], ◌∷◌, ◌++◌, map, bytes_eq, option_map, position, unwrap_or, Option, Some, None, if◌then◌else◌}
-use Rattle.std.specs.List.{list_any}
+use Rattle.std.specs.Prelude.{ℕ, ◌+◌, ◌-◌, ◌^◌, min, List, [], ◌∷◌, ◌++◌, map, bytes_eq, option_map, position, unwrap_or, Option, Some, None}
 use Rattle.scc_bits.specs.declared.kind.Word.{Word}
 use Rattle.scc_svtree.specs.declared.expr.VarId.{VarId}
 use Rattle.scc_svtree.specs.declared.expr.SvLiteral.{SvLiteral}
@@ -39,28 +38,11 @@ use Rattle.scc_svraw.specs.declared.raw.RawVar.{RawVar}
 use Rattle.scc_svraw.specs.declared.raw.RawItem.{RawItem}
 use Rattle.scc_svraw.specs.declared.raw.RawItem.TheVariants.{Var, Block}
 use Rattle.scc_svraw.specs.declared.raw.RawModule.{RawModule}
-use Rattle.scc_svraw.specs.Lexical.{Bytes, number}
+use Rattle.scc_svraw.specs.Lexical.{Bytes}
+use Rattle.scc_svcheck.specs.Numbers.{small_number, word_number}
+use Rattle.scc_svcheck.specs.Mentioned.{with_name}
 
 -- ---- leaves
-
--- `0` to `9` and `a` to `f` (IEEE 1800-2017, 5.7.1)
-abbrev pub digit_value : ℕ → ℕ
-digit_value b = if nat_le b 57 then b - 48 else b - 87
-
--- the number that digits of base 16 stand for, behind those of a number before them
-abbrev pub hex_from : ℕ → Bytes → ℕ
-hex_from before [] = before
-hex_from before (b ∷ bs) = hex_from (16 * before + digit_value b) bs
-
-abbrev pub hex_number : Bytes → ℕ
-hex_number = hex_from 0
-
--- Decimal digits past 2^32 - 1, and digits of base 16 past 2^128 - 1, count as these: a module without faults has smaller ones.
-abbrev pub small_number : Bytes → ℕ
-small_number digits = min (number digits) (2 ^ 32 - 1)
-
-abbrev pub word_number : Bytes → ℕ
-word_number digits = min (hex_number digits) (2 ^ 128 - 1)
 
 abbrev pub word_of : ℕ → Word
 word_of bits = record { bits = bits }
@@ -70,9 +52,6 @@ abbrev pub literal_of : RawLiteral → SvLiteral
 literal_of l = record { width = small_number l.width; value = word_of (word_number l.digits) }
 
 -- the names, each where it is first declared
-abbrev pub with_name : List Bytes → Bytes → List Bytes
-with_name before name = if list_any (bytes_eq name) before then before else before ++ name ∷ []
-
 abbrev pub with_names : List Bytes → List Bytes → List Bytes
 with_names before [] = before
 with_names before (name ∷ more) = with_names (with_name before name) more

@@ -1,5 +1,6 @@
 //! Modules as trees without names.
 ghost use Rattle.std.specs.Prelude.{◌≡◌, ◌++◌, ◌∷◌, [], map, option_map, IfOk, OnOk};
+ghost use Rattle.scc_svcheck.specs.Mentioned.{with_name};
 ghost use Rattle.scc_svread.specs.Resolved as resolved;
 
 use crate::names::VarNames;
@@ -48,7 +49,7 @@ struct Declared {
 
 fn declare(alloc: Global, d: &mut Declared, v: &RawVar) -> Result<(), NoMemory>
     ensures vars { OnOk result (d.new.vars ≡ d.old.vars ++ resolved.variable_of v.now ∷ []) }
-    ensures names { OnOk result (d.new.names ≡ resolved.with_name d.old.names v.now.name) }
+    ensures names { OnOk result (d.new.names ≡ with_name d.old.names v.now.name) }
 {
     d.vars.push(variable(alloc, v)?)?;
     d.names.add(v.name.bytes())
@@ -192,7 +193,7 @@ fn all_declared(alloc: Global, m: &RawModule) -> Result<Declared, NoMemory>
 /// The module that is written so; its sizes, names and drivers may be wrong. A name that is not declared stands for the first
 /// variable, one that is declared twice for some variable, and numbers that no right module has for the greatest of their type. The
 /// only error is want of memory.
-#[tactic(auto, using(crate::proofs::Mapped::map_append))]
+#[tactic(auto, using(scc_svcheck::proofs::Mapped::map_append))]
 pub fn module_of(alloc: Global, m: &RawModule) -> Result<SvModule, NoMemory>
     ensures module { IfOk result (λ x. x ≡ resolved.module_of m.now) }
 {

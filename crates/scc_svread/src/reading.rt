@@ -1,16 +1,15 @@
 //! Reads an emitted text.
 ghost use Rattle.std.specs.Prelude.{◌≡◌, ◌-◌, false, true, length, slice_index, IfOk, IfErr};
 ghost use Rattle.scc_base.specs.declared.code.Code.TheVariants.{SvLoop};
-ghost use Rattle.scc_svread.specs.First.{starts_of};
+ghost use Rattle.scc_svcheck.specs.First.{starts_of};
 ghost use Rattle.scc_svread.specs.Read as reading;
-ghost use Rattle.scc_svread.specs.Read.{IsFaulty, IsRight, Ordered, ReadAs, RefusedAs};
+ghost use Rattle.scc_svread.specs.Read.{IsFaulty, IsRight, Ordered, ReadAs, ReadBack, RefusedAs};
 ghost use Rattle.scc_svtree.specs.Settled.{combs_of};
 
-use crate::cycles::first_of;
-use crate::first::{first_wrong, starts};
 use crate::module::module_of;
-use crate::wrong::Wrong;
 use scc_base::{Code, NoMemory, Place, Refusal, Stop};
+use scc_svcheck::{Wrong, first_wrong, starts};
+use scc_svorder::first_of;
 use scc_svraw::{Halt, RawModule, read_raw};
 use scc_svtree::{SvBlock, SvModule};
 use std::alloc::Global;
@@ -88,6 +87,7 @@ fn judged(alloc: Global, many: bool, raw: &RawModule) -> Result<SvModule, Stop>
 
 fn read_one(alloc: Global, many: bool, bytes: &[u8]) -> Result<SvModule, Stop>
     ensures read { IfOk result (λ m. ReadAs many bytes.now m) }
+    ensures back { ReadBack many bytes.now result }
     ensures refused { IfErr result (λ e. RefusedAs many bytes.now e) }
 {
     match read_raw(alloc, bytes) {
@@ -104,6 +104,7 @@ fn read_one(alloc: Global, many: bool, bytes: &[u8]) -> Result<SvModule, Stop>
 /// first combinational block on a cycle of blocks that read what others assign.
 pub fn read(alloc: Global, bytes: &[u8]) -> Result<SvModule, Stop>
     ensures read { IfOk result (λ m. ReadAs false bytes.now m) }
+    ensures back { ReadBack false bytes.now result }
     ensures refused { IfErr result (λ e. RefusedAs false bytes.now e) }
 {
     read_one(alloc, false, bytes)
@@ -112,6 +113,7 @@ pub fn read(alloc: Global, bytes: &[u8]) -> Result<SvModule, Stop>
 /// Reads an emitted text as `read` does; it may have several clocks, each at one edge.
 pub fn read_many(alloc: Global, bytes: &[u8]) -> Result<SvModule, Stop>
     ensures read { IfOk result (λ m. ReadAs true bytes.now m) }
+    ensures back { ReadBack true bytes.now result }
     ensures refused { IfErr result (λ e. RefusedAs true bytes.now e) }
 {
     read_one(alloc, true, bytes)

@@ -1,25 +1,26 @@
 //! Expressions and statements as trees without names.
 ghost use Rattle.std.specs.Prelude.{◌≡◌, map, IfOk};
+ghost use Rattle.scc_svcheck.specs.Numbers as numbers;
 ghost use Rattle.scc_svread.specs.Resolved as resolved;
 
 use crate::names::VarNames;
-use crate::number::{decimal, hexadecimal};
 use scc_base::{Boxed, List, NoMemory};
 use scc_bits::Word;
+use scc_svcheck::{decimal, hexadecimal};
 use scc_svraw::{RawArm, RawExpr, RawLeft, RawLiteral, RawSelect, RawStmt};
 use scc_svtree::{SvArm, SvExpr, SvExprNode, SvLeft, SvLiteral, SvStmt, VarId};
 use std::alloc::Global;
 
 /// The number of decimal digits, at most 2^32 - 1.
 pub fn small_number(digits: &[u8]) -> u32
-    ensures { result ≡ resolved.small_number digits.now }
+    ensures { result ≡ numbers.small_number digits.now }
 {
     decimal(digits).min(u128::from(u32::MAX)) as u32
 }
 
 /// The word of digits of base 16.
 pub fn word(digits: &[u8]) -> Word
-    ensures { result ≡ resolved.word_of (resolved.word_number digits.now) }
+    ensures { result ≡ resolved.word_of (numbers.word_number digits.now) }
 {
     Word {
         bits: hexadecimal(digits),

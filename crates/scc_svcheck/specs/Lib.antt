@@ -1,0 +1,11 @@
+pub mod Numbers
+pub mod Walking
+pub mod Scope
+pub mod Parts
+pub mod Seen
+pub mod Lines
+pub mod Blocks
+pub mod Mentioned
+pub mod Within
+pub mod Drivers
+pub mod First

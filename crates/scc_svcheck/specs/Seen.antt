@@ -1,0 +1,13 @@
+-- What the code sees of an expression from where it stands.
+use Rattle.std.specs.Prelude.{Bool}
+use Rattle.scc_svcheck.specs.declared.walk.Walk.{Walk}
+use Rattle.scc_svcheck.specs.declared.expr.Seen.{Seen}
+use Rattle.scc_svcheck.specs.Walking.{◌orelse◌, mark}
+use Rattle.scc_svcheck.specs.Parts.{Part}
+
+abbrev pub seen : Part → Walk → Seen
+seen p w = record { walk = p.walk w; bits = p.bits; zero = p.zero }
+
+-- the end of a part that may be wrong as a whole
+abbrev pub whole_behind : Bool → Walk → Walk → Walk
+whole_behind wrong w v = record { at = v.at; size = w.size orelse mark wrong w.at orelse v.size; name = v.name }

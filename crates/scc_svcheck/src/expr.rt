@@ -1,0 +1,254 @@
+//! Expressions.
+ghost use Rattle.std.specs.Prelude.{◌≡◌, ◌+◌, ◌&&◌, false, not, max, map, length};
+ghost use Rattle.scc_svtree.specs.Classes.{class_of};
+ghost use Rattle.scc_svtext.specs.ExprText.{binary_text};
+ghost use Rattle.scc_svraw.specs.Grammar as grammar;
+ghost use Rattle.scc_svcheck.specs.Parts as parts;
+ghost use Rattle.scc_svcheck.specs.Scope as scopes;
+ghost use Rattle.scc_svcheck.specs.Seen.{seen, whole_behind};
+ghost use Rattle.scc_svcheck.specs.Walking as walking;
+
+use crate::leaf::{cut, left, literal, part_bits, pass_both};
+use crate::number::{decimal, hexadecimal, is_width};
+use crate::scope::Scope;
+use crate::walk::{Walk, first, mark};
+use scc_base::Text;
+use scc_svraw::{RawExpr, RawLeft, RawLiteral};
+use scc_svtree::{SvBinary, SvUnary};
+
+/// What is seen of an expression.
+#[derive(Clone, Copy)]
+pub struct Seen {
+    /// Where the walk stands behind it.
+    pub walk: Walk,
+    /// Its length in bits, at most 129, where each name in it is declared exactly once.
+    pub bits: Option<u32>,
+    /// Whether it is a literal 0, or `$signed` of one.
+    pub zero: bool,
+}
+
+/// How many bytes an operator has.
+pub fn operator_bytes(op: SvBinary) -> usize
+    ensures { result ≡ length (binary_text op) }
+{
+    match op {
+        SvBinary::Add | SvBinary::Sub | SvBinary::Mul | SvBinary::Div | SvBinary::Rem => 1,
+        SvBinary::And | SvBinary::Or | SvBinary::Xor | SvBinary::Lt | SvBinary::Gt => 1,
+        SvBinary::Shl | SvBinary::Shr | SvBinary::Eq | SvBinary::Ne => 2,
+        SvBinary::Le | SvBinary::Ge | SvBinary::LogAnd | SvBinary::LogOr => 2,
+        SvBinary::Sar => 3,
+    }
+}
+
+// The length of an operator's answer.
+fn binary_bits(op: SvBinary, a: Option<u32>, b: Option<u32>) -> Option<u32>
+    ensures { result ≡ parts.with_both (parts.class_bits (class_of op)) a b }
+{
+    match (a, b) {
+        (Some(a), Some(b)) => Some(operator_bits(op, a, b)),
+        (Some(_), None) => None,
+        (None, _) => None,
+    }
+}
+
+fn operator_bits(op: SvBinary, a: u32, b: u32) -> u32
+    ensures { result ≡ parts.class_bits (class_of op) a b }
+{
+    match op {
+        SvBinary::Add | SvBinary::Sub | SvBinary::Mul | SvBinary::Div | SvBinary::Rem => a.max(b),
+        SvBinary::And | SvBinary::Or | SvBinary::Xor => a.max(b),
+        SvBinary::Shl | SvBinary::Shr | SvBinary::Sar => a,
+        SvBinary::Eq | SvBinary::Ne | SvBinary::Lt | SvBinary::Le => 1,
+        SvBinary::Gt | SvBinary::Ge | SvBinary::LogAnd | SvBinary::LogOr => 1,
+    }
+}
+
+fn is_division(op: SvBinary) -> bool
+    ensures { result ≡ grammar.is_division op }
+{
+    matches!(op, SvBinary::Div | SvBinary::Rem)
+}
+
+fn unary_bits(op: SvUnary, a: Option<u32>) -> Option<u32>
+    ensures { result ≡ parts.unary_bits op a }
+{
+    match op {
+        SvUnary::Not | SvUnary::Neg => a,
+        SvUnary::LogNot | SvUnary::And | SvUnary::Or | SvUnary::Xor => a.map(|_| 1),
+    }
+}
+
+// The sum of two lengths.
+fn sum(a: Option<u32>, b: Option<u32>) -> Option<u32>
+    ensures { result ≡ parts.with_both (λ a b. parts.cut (a + b)) a b }
+{
+    match (a, b) {
+        (Some(a), Some(b)) => Some(a.saturating_add(b).min(129)),
+        (Some(_), None) => None,
+        (None, _) => None,
+    }
+}
+
+// The greater length of the two that a condition chooses from.
+fn chosen_bits(c: Option<u32>, a: Option<u32>, b: Option<u32>) -> Option<u32>
+    ensures { result ≡ parts.with_both (λ n m. m) c (parts.with_both max a b) }
+{
+    match (c, a, b) {
+        (Some(_), Some(a), Some(b)) => Some(a.max(b)),
+        (Some(_), Some(_), None) => None,
+        (Some(_), None, _) => None,
+        (None, _, _) => None,
+    }
+}
+
+fn cast_bits(width: u128, a: Option<u32>) -> Option<u32>
+    ensures { result ≡ parts.with_one (λ n. parts.cut width) a }
+{
+    match a {
+        Some(_) => Some(cut(width)),
+        None => None,
+    }
+}
+
+fn is_wrong_length(bits: Option<u32>) -> bool
+    ensures { result ≡ parts.is_wrong_length bits }
+{
+    match bits {
+        Some(n) => !is_width(u128::from(n)),
+        None => false,
+    }
+}
+
+// A part that may be wrong as a whole, in front of what is wrong inside.
+fn whole(wrong: bool, start: Walk, end: Walk) -> Walk
+    ensures { result ≡ whole_behind wrong start end }
+{
+    Walk {
+        size: first(start.size, first(mark(wrong, start.at), end.size)),
+        ..end
+    }
+}
+
+// An expression with its own length, which may be wrong.
+fn measured(start: Walk, s: Seen) -> Seen
+    ensures { result ≡ record { walk = whole_behind (parts.is_wrong_length s.bits) start s.walk; bits = s.bits; zero = s.zero } }
+{
+    Seen {
+        walk: whole(is_wrong_length(s.bits), start, s.walk),
+        ..s
+    }
+}
+
+fn number(l: &RawLiteral, w: Walk) -> Seen
+    ensures { result ≡ seen (parts.literal_part l.now) w }
+{
+    Seen {
+        walk: literal(l, w),
+        bits: Some(cut(decimal(l.width.bytes()))),
+        zero: hexadecimal(l.digits.bytes()) == 0,
+    }
+}
+
+fn variable(scope: &Scope, l: &RawLeft, w: Walk) -> Seen
+    ensures { result ≡ seen (parts.left_part scope.now l.now) w }
+{
+    Seen {
+        walk: left(scope, l, w),
+        bits: part_bits(&l.select, scope.high(l.name.bytes())),
+        zero: false,
+    }
+}
+
+fn closed(walk: Walk, bits: Option<u32>, zero: bool) -> Seen
+    ensures { result ≡ record { walk = walking.pass 1 walk; bits = bits; zero = zero } }
+{
+    Seen {
+        walk: walk.pass(1),
+        bits,
+        zero,
+    }
+}
+
+// An operator between its operands, the right one of which stands behind `before`.
+fn operated(op: SvBinary, a: Seen, before: Walk, b: Seen) -> Seen
+    ensures { result ≡ record { walk = walking.pass 1 (whole_behind (grammar.is_division op && b.zero) before b.walk); bits = parts.with_both (parts.class_bits (class_of op)) a.bits b.bits; zero = false } }
+{
+    let end = whole(is_division(op) && b.zero, before, b.walk);
+    closed(end, binary_bits(op, a.bits, b.bits), false)
+}
+
+/// How many bytes stand before what is read with a sign, or without.
+pub fn sign_bytes(signed: bool) -> usize
+    ensures { result ≡ parts.sign_bytes signed }
+{
+    if signed { 8 } else { 10 }
+}
+
+// A cast in front of its operand.
+fn cast_front(width: &Text, w: Walk) -> Walk
+    ensures { result ≡ walking.pass (length width.now + 2) (walking.size_if (not (scopes.is_width (scopes.number_in width.now))) w) }
+{
+    let bytes = width.bytes();
+    pass_both(w.size_if(!is_width(decimal(bytes))), bytes.len(), 2)
+}
+
+/// An expression, from where the walk stands.
+#[cycle(part)]
+pub fn part(scope: &Scope, e: &RawExpr, w: Walk) -> Seen
+    ensures { result ≡ seen (parts.part_of scope.now e.now) w }
+{
+    match e {
+        RawExpr::Literal(l) => measured(w, number(l, w)),
+        RawExpr::Left(l) => measured(w, variable(scope, l, w)),
+        RawExpr::Unary { op, of } => {
+            let a = part(scope, of.get(), w.pass(2));
+            measured(w, closed(a.walk, unary_bits(*op, a.bits), false))
+        }
+        RawExpr::Binary { op, left, right } => {
+            let a = part(scope, left.get(), w.pass(1));
+            let before = a.walk.pass(operator_bytes(*op) + 2);
+            let b = part(scope, right.get(), before);
+            measured(w, operated(*op, a, before, b))
+        }
+        RawExpr::Cond { test, yes, no } => {
+            let c = part(scope, test.get(), w.pass(1));
+            let a = part(scope, yes.get(), c.walk.pass(3));
+            let b = part(scope, no.get(), a.walk.pass(3));
+            measured(
+                w,
+                closed(b.walk, chosen_bits(c.bits, a.bits, b.bits), false),
+            )
+        }
+        RawExpr::Concat(list) => measured(w, concat(scope, list.as_slice(), w)),
+        RawExpr::Cast { width, of } => {
+            let a = part(scope, of.get(), cast_front(width, w));
+            let bits = cast_bits(decimal(width.bytes()), a.bits);
+            measured(w, closed(a.walk, bits, false))
+        }
+        RawExpr::Sign { signed, of } => {
+            let a = part(scope, of.get(), w.pass(sign_bytes(*signed)));
+            measured(w, closed(a.walk, a.bits, *signed && a.zero))
+        }
+    }
+}
+
+// A concatenation.
+#[cycle(part)]
+fn concat(scope: &Scope, list: &[RawExpr], w: Walk) -> Seen
+    ensures { result ≡ seen (parts.concat_part (map (parts.part_of scope.now) list.now)) w }
+{
+    let mut walk = w;
+    let mut bits = Some(0);
+    let mut lead = 1;
+    for e in list {
+        let p = part(scope, e, walk.pass(lead));
+        walk = p.walk;
+        bits = sum(bits, p.bits);
+        lead = 2;
+    }
+    Seen {
+        walk: walk.pass(1),
+        bits,
+        zero: false,
+    }
+}

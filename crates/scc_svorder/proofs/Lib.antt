@@ -1,0 +1,6 @@
+pub mod Trees
+pub mod Grown
+pub mod Mentioning
+pub mod Searching
+pub mod Orders
+pub mod Feeding

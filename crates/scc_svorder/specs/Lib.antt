@@ -1,0 +1,4 @@
+pub mod VarLists
+pub mod Cycles
+pub mod Fed
+pub mod Search
