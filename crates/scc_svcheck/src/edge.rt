@@ -33,7 +33,7 @@ fn set(empty: &TextSet, wrong: bool, s: &RawSet, n: usize, w: Walk) -> Walk
         whole: empty,
     };
     let target = mention(wrong, &s.target, w.pass(n));
-    expr(c, &s.value, target.pass(4)).pass(2)
+    expr(&c, &s.value, target.pass(4)).pass(2)
 }
 
 // What an edge sets, behind so many blanks.

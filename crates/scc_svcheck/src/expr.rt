@@ -5,7 +5,7 @@ ghost use Rattle.scc_svtext.specs.ExprText.{binary_text};
 ghost use Rattle.scc_svraw.specs.Grammar as grammar;
 ghost use Rattle.scc_svcheck.specs.Parts as parts;
 ghost use Rattle.scc_svcheck.specs.Scope as scopes;
-ghost use Rattle.scc_svcheck.specs.Seen.{seen, whole_behind};
+ghost use Rattle.scc_svcheck.specs.Seen.{measured_from, seen, whole_behind};
 ghost use Rattle.scc_svcheck.specs.Walking as walking;
 
 use crate::leaf::{cut, left, literal, part_bits, pass_both};
@@ -130,8 +130,9 @@ fn whole(wrong: bool, start: Walk, end: Walk) -> Walk
 }
 
 // An expression with its own length, which may be wrong.
+#[inline(never)]
 fn measured(start: Walk, s: Seen) -> Seen
-    ensures { result ≡ record { walk = whole_behind (parts.is_wrong_length s.bits) start s.walk; bits = s.bits; zero = s.zero } }
+    ensures { result ≡ measured_from start s }
 {
     Seen {
         walk: whole(is_wrong_length(s.bits), start, s.walk),
@@ -139,6 +140,7 @@ fn measured(start: Walk, s: Seen) -> Seen
     }
 }
 
+#[inline(never)]
 fn number(l: &RawLiteral, w: Walk) -> Seen
     ensures { result ≡ seen (parts.literal_part l.now) w }
 {
@@ -149,6 +151,7 @@ fn number(l: &RawLiteral, w: Walk) -> Seen
     }
 }
 
+#[inline(never)]
 fn variable(scope: &Scope, l: &RawLeft, w: Walk) -> Seen
     ensures { result ≡ seen (parts.left_part scope.now l.now) w }
 {
@@ -170,11 +173,12 @@ fn closed(walk: Walk, bits: Option<u32>, zero: bool) -> Seen
 }
 
 // An operator between its operands, the right one of which stands behind `before`.
-fn operated(op: SvBinary, a: Seen, before: Walk, b: Seen) -> Seen
-    ensures { result ≡ record { walk = walking.pass 1 (whole_behind (grammar.is_division op && b.zero) before b.walk); bits = parts.with_both (parts.class_bits (class_of op)) a.bits b.bits; zero = false } }
+#[inline(never)]
+fn operated(op: SvBinary, a: Option<u32>, before: Walk, b: Seen) -> Seen
+    ensures { result ≡ record { walk = walking.pass 1 (whole_behind (grammar.is_division op && b.zero) before b.walk); bits = parts.with_both (parts.class_bits (class_of op)) a b.bits; zero = false } }
 {
     let end = whole(is_division(op) && b.zero, before, b.walk);
-    closed(end, binary_bits(op, a.bits, b.bits), false)
+    closed(end, binary_bits(op, a, b.bits), false)
 }
 
 /// How many bytes stand before what is read with a sign, or without.
@@ -185,6 +189,7 @@ pub fn sign_bytes(signed: bool) -> usize
 }
 
 // A cast in front of its operand.
+#[inline(never)]
 fn cast_front(width: &Text, w: Walk) -> Walk
     ensures { result ≡ walking.pass (length width.now + 2) (walking.size_if (not (scopes.is_width (scopes.number_in width.now))) w) }
 {
@@ -192,48 +197,93 @@ fn cast_front(width: &Text, w: Walk) -> Walk
     pass_both(w.size_if(!is_width(decimal(bytes))), bytes.len(), 2)
 }
 
+// What stands behind a first operand is read by functions of their own, which are not inlined, nor are those that they call: what nests
+// deep then takes little of the stack.
+
+#[cycle(part)]
+#[inline(never)]
+fn unary(scope: &Scope, op: SvUnary, of: &RawExpr, w: Walk) -> Seen
+    ensures { result ≡ seen (parts.unary_part op (parts.part_of scope.now of.now)) w }
+{
+    let a = part(scope, of, w.pass(2));
+    closed(a.walk, unary_bits(op, a.bits), false)
+}
+
+// A right operand, behind the left one.
+#[cycle(part)]
+#[inline(never)]
+fn right_of(scope: &Scope, op: SvBinary, right: &RawExpr, a: Seen) -> Seen
+    ensures { result ≡ record { walk = walking.pass 1 (walking.size_of_whole (grammar.is_division op && (parts.part_of scope.now right.now).zero) (parts.part_of scope.now right.now).walk (walking.pass (length (binary_text op) + 2) a.walk)); bits = parts.with_both (parts.class_bits (class_of op)) a.bits (parts.part_of scope.now right.now).bits; zero = false } }
+{
+    let before = a.walk.pass(operator_bytes(op) + 2);
+    let b = part(scope, right, before);
+    operated(op, a.bits, before, b)
+}
+
+// The last operand of a choice, behind the two others.
+#[cycle(part)]
+#[inline(never)]
+fn last_of(scope: &Scope, no: &RawExpr, test: Option<u32>, a: Seen) -> Seen
+    ensures { result ≡ record { walk = walking.pass 1 ((parts.part_of scope.now no.now).walk (walking.pass 3 a.walk)); bits = parts.with_both (λ n m. m) test (parts.with_both max a.bits (parts.part_of scope.now no.now).bits); zero = false } }
+{
+    let b = part(scope, no, a.walk.pass(3));
+    closed(b.walk, chosen_bits(test, a.bits, b.bits), false)
+}
+
+#[cycle(part)]
+#[inline(never)]
+fn cast(scope: &Scope, width: &Text, of: &RawExpr, w: Walk) -> Seen
+    ensures { result ≡ seen (parts.cast_part width.now (parts.part_of scope.now of.now)) w }
+{
+    let a = part(scope, of, cast_front(width, w));
+    closed(a.walk, cast_bits(decimal(width.bytes()), a.bits), false)
+}
+
+#[cycle(part)]
+#[inline(never)]
+fn sign(scope: &Scope, signed: bool, of: &RawExpr, w: Walk) -> Seen
+    ensures { result ≡ seen (parts.sign_part signed (parts.part_of scope.now of.now)) w }
+{
+    let a = part(scope, of, w.pass(sign_bytes(signed)));
+    closed(a.walk, a.bits, signed && a.zero)
+}
+
+// An expression but for its own length.
+#[cycle(part)]
+#[inline(never)]
+fn node(scope: &Scope, e: &RawExpr, w: Walk) -> Seen
+    ensures { measured_from w result ≡ seen (parts.part_of scope.now e.now) w }
+{
+    match e {
+        RawExpr::Literal(l) => number(l, w),
+        RawExpr::Left(l) => variable(scope, l, w),
+        RawExpr::Unary { op, of } => unary(scope, *op, of.get(), w),
+        RawExpr::Binary { op, left, right } => {
+            let a = part(scope, left.get(), w.pass(1));
+            right_of(scope, *op, right.get(), a)
+        }
+        RawExpr::Cond { test, yes, no } => {
+            let c = part(scope, test.get(), w.pass(1));
+            let a = part(scope, yes.get(), c.walk.pass(3));
+            last_of(scope, no.get(), c.bits, a)
+        }
+        RawExpr::Concat(list) => concat(scope, list.as_slice(), w),
+        RawExpr::Cast { width, of } => cast(scope, width, of.get(), w),
+        RawExpr::Sign { signed, of } => sign(scope, *signed, of.get(), w),
+    }
+}
+
 /// An expression, from where the walk stands.
 #[cycle(part)]
 pub fn part(scope: &Scope, e: &RawExpr, w: Walk) -> Seen
     ensures { result ≡ seen (parts.part_of scope.now e.now) w }
 {
-    match e {
-        RawExpr::Literal(l) => measured(w, number(l, w)),
-        RawExpr::Left(l) => measured(w, variable(scope, l, w)),
-        RawExpr::Unary { op, of } => {
-            let a = part(scope, of.get(), w.pass(2));
-            measured(w, closed(a.walk, unary_bits(*op, a.bits), false))
-        }
-        RawExpr::Binary { op, left, right } => {
-            let a = part(scope, left.get(), w.pass(1));
-            let before = a.walk.pass(operator_bytes(*op) + 2);
-            let b = part(scope, right.get(), before);
-            measured(w, operated(*op, a, before, b))
-        }
-        RawExpr::Cond { test, yes, no } => {
-            let c = part(scope, test.get(), w.pass(1));
-            let a = part(scope, yes.get(), c.walk.pass(3));
-            let b = part(scope, no.get(), a.walk.pass(3));
-            measured(
-                w,
-                closed(b.walk, chosen_bits(c.bits, a.bits, b.bits), false),
-            )
-        }
-        RawExpr::Concat(list) => measured(w, concat(scope, list.as_slice(), w)),
-        RawExpr::Cast { width, of } => {
-            let a = part(scope, of.get(), cast_front(width, w));
-            let bits = cast_bits(decimal(width.bytes()), a.bits);
-            measured(w, closed(a.walk, bits, false))
-        }
-        RawExpr::Sign { signed, of } => {
-            let a = part(scope, of.get(), w.pass(sign_bytes(*signed)));
-            measured(w, closed(a.walk, a.bits, *signed && a.zero))
-        }
-    }
+    measured(w, node(scope, e, w))
 }
 
 // A concatenation.
 #[cycle(part)]
+#[inline(never)]
 fn concat(scope: &Scope, list: &[RawExpr], w: Walk) -> Seen
     ensures { result ≡ seen (parts.concat_part (map (parts.part_of scope.now) list.now)) w }
 {

@@ -33,8 +33,7 @@ fn stmt(alloc: Global, scope: &Scope, s: &RawStmt, n: usize, w: Walk) -> Result<
         RawStmt::If { test, yes, no } => {
             let test = part(scope, test, pass_both(w, n, 4)).walk.pass(8);
             let first = stmts(alloc, scope, yes.as_slice(), deeper(n), test)?;
-            let second = other(alloc, scope, no.as_slice(), n, first)?;
-            Ok(pass_both(second, n, 4))
+            other(alloc, scope, no.as_slice(), n, first)
         }
         RawStmt::Case { of, arms } => {
             let of = part(scope, of, pass_both(w, n, 6));
@@ -63,8 +62,9 @@ pub fn stmts(
     Ok(walk)
 }
 
-// A branch behind an `else`, which an empty one has not.
+// A branch behind an `else`, which an empty one has not, and the end of both.
 #[cycle(stmts)]
+#[inline(never)]
 fn other(
     alloc: Global,
     scope: &Scope,
@@ -72,16 +72,20 @@ fn other(
     n: usize,
     w: Walk,
 ) -> Result<Walk, NoMemory>
-    ensures { IfOk result (λ v. v ≡ lines.other_line (map (lines.line_of scope.now) list.now) n w) }
+    ensures { IfOk result (λ v. v ≡ walking.pass (n + 4) (lines.other_line (map (lines.line_of scope.now) list.now) n w)) }
 {
     match list {
-        [] => Ok(w),
-        [_, ..] => stmts(alloc, scope, list, deeper(n), pass_both(w, n, 15)),
+        [] => Ok(pass_both(w, n, 4)),
+        [_, ..] => {
+            let end = stmts(alloc, scope, list, deeper(n), pass_both(w, n, 15))?;
+            Ok(pass_both(end, n, 4))
+        }
     }
 }
 
 // The arms of a `case`.
 #[cycle(stmts)]
+#[inline(never)]
 fn choices(
     alloc: Global,
     scope: &Scope,

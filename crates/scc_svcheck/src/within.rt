@@ -23,62 +23,72 @@ pub struct Within<'a> {
 }
 
 // Whether a name has no value yet.
-fn is_early(c: Within, name: &Text) -> bool
-    ensures { result ≡ names.is_early (known c.entry.inputs.now c.entry.taken.now c.entry.assigned.now c.entry.whole.now) name.now }
+fn is_early(c: &Within, name: &Text) -> bool
+    ensures { result ≡ names.is_early (known c.now.inputs.now c.now.taken.now c.now.assigned.now c.now.whole.now) name.now }
 {
     c.assigned.has(name.bytes()) && !c.whole.has(name.bytes())
 }
 
 // Whether a name is an input, or another block assigns it.
-fn is_foreign(c: Within, name: &Text) -> bool
-    ensures { result ≡ names.is_foreign (known c.entry.inputs.now c.entry.taken.now c.entry.assigned.now c.entry.whole.now) name.now }
+fn is_foreign(c: &Within, name: &Text) -> bool
+    ensures { result ≡ names.is_foreign (known c.now.inputs.now c.now.taken.now c.now.assigned.now c.now.whole.now) name.now }
 {
     c.inputs.has(name.bytes()) || c.taken.has(name.bytes())
 }
 
 /// Goes over a name that may stand where it may not.
+#[inline(never)]
 pub fn mention(wrong: bool, name: &Text, w: Walk) -> Walk
     ensures { result ≡ names.mention wrong name.now w }
 {
     spelling(name, w.name_if(wrong))
 }
 
+#[inline(never)]
 fn left(wrong: bool, l: &RawLeft, w: Walk) -> Walk
     ensures { result ≡ names.left_mention wrong l.now w }
 {
     select(&l.select, mention(wrong, &l.name, w))
 }
 
+// The last part of an expression, up to the bracket behind it. It is not inlined: what nests deep then takes little of the stack.
+#[cycle(expr)]
+#[inline(never)]
+fn last(c: &Within, e: &RawExpr, w: Walk) -> Walk
+    ensures { result ≡ walking.pass 1 (names.expr_names (known c.now.inputs.now c.now.taken.now c.now.assigned.now c.now.whole.now) e.now w) }
+{
+    expr(c, e, w).pass(1)
+}
+
 /// Goes over an expression.
 #[cycle(expr)]
-pub fn expr(c: Within, e: &RawExpr, w: Walk) -> Walk
-    ensures { result ≡ names.expr_names (known c.entry.inputs.now c.entry.taken.now c.entry.assigned.now c.entry.whole.now) e.now w }
+pub fn expr(c: &Within, e: &RawExpr, w: Walk) -> Walk
+    ensures { result ≡ names.expr_names (known c.now.inputs.now c.now.taken.now c.now.assigned.now c.now.whole.now) e.now w }
 {
     match e {
         RawExpr::Literal(l) => digits(l, 0, w),
         RawExpr::Left(l) => left(is_early(c, &l.name), l, w),
-        RawExpr::Unary { of, .. } => expr(c, of.get(), w.pass(2)).pass(1),
+        RawExpr::Unary { of, .. } => last(c, of.get(), w.pass(2)),
         RawExpr::Binary { op, left, right } => {
-            let before = expr(c, left.get(), w.pass(1)).pass(operator_bytes(*op) + 2);
-            expr(c, right.get(), before).pass(1)
+            let before = expr(c, left.get(), w.pass(1));
+            last(c, right.get(), before.pass(operator_bytes(*op) + 2))
         }
         RawExpr::Cond { test, yes, no } => {
-            let test = expr(c, test.get(), w.pass(1)).pass(3);
-            let yes = expr(c, yes.get(), test).pass(3);
-            expr(c, no.get(), yes).pass(1)
+            let test = expr(c, test.get(), w.pass(1));
+            let yes = expr(c, yes.get(), test.pass(3));
+            last(c, no.get(), yes.pass(3))
         }
         RawExpr::Concat(list) => exprs(c, list.as_slice(), w).pass(1),
-        RawExpr::Cast { width, of } => {
-            expr(c, of.get(), pass_both(w, width.bytes().len(), 2)).pass(1)
-        }
-        RawExpr::Sign { signed, of } => expr(c, of.get(), w.pass(sign_bytes(*signed))).pass(1),
+        RawExpr::Cast { width, of } => { last(c, of.get(), pass_both(w, width.bytes().len(), 2)) }
+        RawExpr::Sign { signed, of } => last(c, of.get(), w.pass(sign_bytes(*signed))),
     }
 }
 
 // The parts of a concatenation.
 #[cycle(expr)]
-fn exprs(c: Within, list: &[RawExpr], w: Walk) -> Walk
-    ensures { result ≡ names.parts_names 1 (map (names.expr_names (known c.entry.inputs.now c.entry.taken.now c.entry.assigned.now c.entry.whole.now)) list.now) w }
+#[inline(never)]
+fn exprs(c: &Within, list: &[RawExpr], w: Walk) -> Walk
+    ensures { result ≡ names.parts_names 1 (map (names.expr_names (known c.now.inputs.now c.now.taken.now c.now.assigned.now c.now.whole.now)) list.now) w }
 {
     let mut walk = w;
     let mut lead = 1;
@@ -100,15 +110,15 @@ fn is_whole(s: &RawSelect) -> bool
 }
 
 // Whether a left side stands where it may not.
-fn is_wrong_left(c: Within, own: bool, l: &RawLeft) -> bool
-    ensures { result ≡ names.is_wrong_left (known c.entry.inputs.now c.entry.taken.now c.entry.assigned.now c.entry.whole.now) own l.now }
+fn is_wrong_left(c: &Within, own: bool, l: &RawLeft) -> bool
+    ensures { result ≡ names.is_wrong_left (known c.now.inputs.now c.now.taken.now c.now.assigned.now c.now.whole.now) own l.now }
 {
     is_foreign(c, &l.name) || (!(own && is_whole(&l.select)) && is_early(c, &l.name))
 }
 
 // An assignment behind so many blanks.
-fn assign(c: Within, l: &RawLeft, value: &RawExpr, own: bool, n: usize, w: Walk) -> Walk
-    ensures { result ≡ names.assign_names (known c.entry.inputs.now c.entry.taken.now c.entry.assigned.now c.entry.whole.now) l.now value.now own n w }
+fn assign(c: &Within, l: &RawLeft, value: &RawExpr, own: bool, n: usize, w: Walk) -> Walk
+    ensures { result ≡ names.assign_names (known c.now.inputs.now c.now.taken.now c.now.assigned.now c.now.whole.now) l.now value.now own n w }
 {
     let target = left(is_wrong_left(c, own, l), l, w.pass(n));
     expr(c, value, target.pass(3)).pass(2)
@@ -116,8 +126,8 @@ fn assign(c: Within, l: &RawLeft, value: &RawExpr, own: bool, n: usize, w: Walk)
 
 /// A statement behind so many blanks, at its block's own level or further in.
 #[cycle(inner)]
-fn stmt(c: Within, s: &RawStmt, own: bool, n: usize, w: Walk) -> Walk
-    ensures { result ≡ names.stmt_names (known c.entry.inputs.now c.entry.taken.now c.entry.assigned.now c.entry.whole.now) s.now own n w }
+fn stmt(c: &Within, s: &RawStmt, own: bool, n: usize, w: Walk) -> Walk
+    ensures { result ≡ names.stmt_names (known c.now.inputs.now c.now.taken.now c.now.assigned.now c.now.whole.now) s.now own n w }
 {
     match s {
         RawStmt::Assign { left, value } => assign(c, left, value, own, n, w),
@@ -135,8 +145,8 @@ fn stmt(c: Within, s: &RawStmt, own: bool, n: usize, w: Walk) -> Walk
 
 // Statements further in.
 #[cycle(inner)]
-fn inner(c: Within, list: &[RawStmt], n: usize, w: Walk) -> Walk
-    ensures { result ≡ names.inner (map (names.stmt_names (known c.entry.inputs.now c.entry.taken.now c.entry.assigned.now c.entry.whole.now)) list.now) n w }
+fn inner(c: &Within, list: &[RawStmt], n: usize, w: Walk) -> Walk
+    ensures { result ≡ names.inner (map (names.stmt_names (known c.now.inputs.now c.now.taken.now c.now.assigned.now c.now.whole.now)) list.now) n w }
 {
     let mut walk = w;
     for s in list {
@@ -147,8 +157,8 @@ fn inner(c: Within, list: &[RawStmt], n: usize, w: Walk) -> Walk
 
 // A branch behind an `else`, which an empty one has not.
 #[cycle(inner)]
-fn other(c: Within, list: &[RawStmt], n: usize, w: Walk) -> Walk
-    ensures { result ≡ names.other_names (map (names.stmt_names (known c.entry.inputs.now c.entry.taken.now c.entry.assigned.now c.entry.whole.now)) list.now) n w }
+fn other(c: &Within, list: &[RawStmt], n: usize, w: Walk) -> Walk
+    ensures { result ≡ names.other_names (map (names.stmt_names (known c.now.inputs.now c.now.taken.now c.now.assigned.now c.now.whole.now)) list.now) n w }
 {
     match list {
         [] => w,
@@ -158,8 +168,8 @@ fn other(c: Within, list: &[RawStmt], n: usize, w: Walk) -> Walk
 
 // The arms of a `case`.
 #[cycle(inner)]
-fn arms(c: Within, list: &[RawArm], n: usize, w: Walk) -> Walk
-    ensures { result ≡ names.arms_names (map (names.chosen_of (known c.entry.inputs.now c.entry.taken.now c.entry.assigned.now c.entry.whole.now)) list.now) n w }
+fn arms(c: &Within, list: &[RawArm], n: usize, w: Walk) -> Walk
+    ensures { result ≡ names.arms_names (map (names.chosen_of (known c.now.inputs.now c.now.taken.now c.now.assigned.now c.now.whole.now)) list.now) n w }
 {
     let mut walk = w;
     for a in list {
@@ -200,7 +210,7 @@ pub fn own_level(
             assigned,
             whole,
         };
-        walk = stmt(c, s, true, n, walk);
+        walk = stmt(&c, s, true, n, walk);
         add_whole(whole, s)?;
     }
     Ok(walk)
