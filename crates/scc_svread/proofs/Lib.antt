@@ -3,8 +3,8 @@ pub mod Digits
 pub mod Sums
 pub mod Leaves
 pub mod Fits
-pub mod RawTrees
 pub mod RawFolds
+pub mod RawTrees
 pub mod Expressions
 pub mod Statements
 pub mod Blocks
@@ -18,6 +18,7 @@ pub mod Noted
 pub mod NotedSizes
 pub mod RightWalks
 pub mod RightLeaves
+pub mod NamedTrees
 pub mod RightTrees
 pub mod RightExpressions
 pub mod RightLabels
@@ -36,7 +37,6 @@ pub mod MeantSets
 pub mod MeantBlocks
 pub mod MeantModule
 pub mod NamedTests
-pub mod NamedTrees
 pub mod NamedLists
 pub mod NamedExpressions
 pub mod NamedStatements

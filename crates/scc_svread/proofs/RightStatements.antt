@@ -23,7 +23,8 @@ use Rattle.scc_svread.proofs.Fits.{FitsCode, FitsArms, assign_left, assign_value
 use Rattle.scc_svorder.proofs.Trees.{arm_made, by_stmt}
 use Rattle.scc_svread.proofs.RightWalks.{Quiet, quiet_pass, quiet_then, quiet_here, QuietLine, quiet_lines}
 use Rattle.scc_svread.proofs.RightLeaves.{quiet_left}
-use Rattle.scc_svread.proofs.RightTrees.{line_in, raw_arm, choice_in, in_assign, in_if, in_case, in_arm}
+use Rattle.scc_svread.proofs.NamedTrees.{raw_arm}
+use Rattle.scc_svread.proofs.RightTrees.{line_in, choice_in, in_assign, in_if, in_case, in_arm}
 use Rattle.scc_svread.proofs.RightExpressions.{IsRight, right_expr}
 use Rattle.scc_svread.proofs.RightLabels.{RightChoice, RightChoices, quiet_choices}
 
