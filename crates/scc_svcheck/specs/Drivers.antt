@@ -80,7 +80,7 @@ ports_names f (v ∷ vs) = pass (dir_bytes v.dir) then var_names f v then furthe
 
 -- ---- blocks at edges
 
--- A block at an edge assigns no input, nothing that a block before assigns, and nothing twice (IEEE 1800-2017, 9.2.2.4).
+-- A block at an edge assigns no input, nothing that a block before assigns (IEEE 1800-2017, 9.2.2.4), and nothing twice.
 abbrev pub is_wrong_target : Facts → Names → Names → Bytes → Bool
 is_wrong_target f taken before name = is_among f.inputs name || is_among taken name || is_among before name
 

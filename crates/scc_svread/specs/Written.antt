@@ -99,7 +99,7 @@ raw_block vars (Edge rising clock reset sets) = block.Edge rising (name_of vars 
 
 -- ---- the module
 
--- the number of the highest bit; one bit has no range (IEEE 1800-2017, 6.9.1)
+-- the number of the highest bit (IEEE 1800-2017, 6.9.1); one bit is written without a range
 abbrev pub raw_high : ℕ → Option (List ℕ)
 raw_high width = if nat_le width 1 then None else Some (decimal (width - 1))
 

@@ -96,7 +96,7 @@ fn read_one(alloc: Global, many: bool, bytes: &[u8]) -> Result<SvModule, Stop>
     }
 }
 
-/// Reads an emitted text of at most one clock (IEEE 1800-2017, for the forms that the printer writes).
+/// Reads an emitted text of at most one clock: a module in the one spelling in which `print` of `scc_svtext` writes it (IEEE 1800-2017).
 ///
 /// It is refused as `E701` at the first byte at which no module's text begins with the bytes so far, or at the end, or as `E706` at the
 /// first statement or expression at level 8,193, whichever stands first; then as `E702` at the first wrong size; as `E703` at the
