@@ -1,6 +1,7 @@
 //! Emitted texts that are read and printed again, and what is wrong first in others.
 mod back;
 mod cycles;
+mod deep;
 mod drivers;
 mod names;
 mod sizes;
