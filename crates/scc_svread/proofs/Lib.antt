@@ -51,3 +51,4 @@ pub mod DrivenParts
 pub mod DrivenWalk
 pub mod DrivenModule
 pub mod Linked
+pub mod Counted
