@@ -52,3 +52,5 @@ pub mod DrivenWalk
 pub mod DrivenModule
 pub mod Linked
 pub mod Counted
+pub mod CountedSizes
+
