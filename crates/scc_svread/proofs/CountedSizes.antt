@@ -1,5 +1,5 @@
 -- The walk over sizes and undeclared names goes over the bytes that are there.
-use Rattle.std.proofs.Common.{◌≡◌, ℕ, Bool, true, false, not, ◌+◌, ◌-◌, ◌^◌, ◌&&◌, ◌||◌, min, List, [], ◌∷◌, ◌++◌, length, map, codes, refl, sym, subst, ap}
+use Rattle.std.proofs.Common.{◌≡◌, ℕ, Bool, true, false, not, ◌+◌, ◌-◌, ◌^◌, ◌&&◌, ◌||◌, min, List, [], ◌∷◌, ◌++◌, length, map, codes, refl, sym, subst, ap, arith}
 use Rattle.std.specs.Prelude.{Option, Some, None}
 use Rattle.scc_svtext.specs.ExprText.{binary_text}
 use Rattle.scc_svtext.specs.Pieces.{blanks, spelled}
@@ -12,14 +12,21 @@ use Rattle.scc_svraw.specs.declared.raw.RawArm.{RawArm}
 use Rattle.scc_svraw.specs.declared.raw.RawSet.{RawSet}
 use Rattle.scc_svraw.specs.declared.raw.RawLoad.{RawLoad}
 use Rattle.scc_svraw.specs.declared.raw.RawBlock.{RawBlock}
+use Rattle.scc_svraw.specs.declared.raw.RawVar.{RawVar}
+use Rattle.scc_svraw.specs.declared.raw.RawItem.{RawItem}
+use Rattle.scc_svraw.specs.declared.raw.RawItem.TheVariants.{Var, Block}
+use Rattle.scc_svraw.specs.declared.raw.RawModule.{RawModule}
+use Rattle.scc_svtree.specs.declared.module.Dir.{Dir}
+use Rattle.scc_svtree.specs.declared.module.Dir.TheVariants.{Inner}
 use Rattle.scc_svraw.specs.Lexical.{Bytes, ReadsLiteral, ReadsName, ReadsLeft}
-use Rattle.scc_svraw.specs.Grammar.{is_division, ReadsDivisor, ReadsExpr, ReadsParts, ReadsStmt, ReadsStmts, ReadsArms, ReadsSets, ReadsLoads, ReadsLevel, ReadsBlock, edge_word}
-use Rattle.scc_svcheck.specs.Walking.{Walking, ◌then◌, pass, deeper}
-use Rattle.scc_svcheck.specs.Scope.{Scope, number_in, is_width, is_wrong_literal, once}
+use Rattle.scc_svraw.specs.Grammar.{is_division, ReadsDivisor, ReadsExpr, ReadsParts, ReadsStmt, ReadsStmts, ReadsArms, ReadsSets, ReadsLoads, ReadsLevel, ReadsBlock, ReadsVar, ReadsPort, ReadsMorePorts, ReadsPorts, ReadsItems, ReadsModule, Reads, edge_word, dir_of}
+use Rattle.scc_svcheck.specs.Walking.{Walking, ◌then◌, pass, deeper, start}
+use Rattle.scc_svcheck.specs.Scope.{Scope, number_in, is_width, is_wrong_literal, once, high_of, is_declared, declare, declare_all}
 use Rattle.scc_svcheck.specs.Parts.{Part, is_wrong_length, literal_bytes, select_bytes, sign_bytes, is_wrong_part, is_missing, name_walk, left_walk, literal_walk, parts_walk, measured, literal_part, left_part, unary_part, binary_part, cond_part, concat_part, cast_part, sign_part, node_part, part_of}
 use Rattle.scc_svcheck.specs.Lines.{Line, Choice, lines, other_line, is_wrong_label, with_label, choices, stmt_node, arm_node, line_of, choice_of}
-use Rattle.scc_svcheck.specs.Blocks.{set_line, is_wrong_load, load_line, level_walk, block_walk}
-use Rattle.scc_svread.proofs.Counted.{Goes, goes_pass, goes_over, goes_none, goes_size, goes_name_if, goes_whole, ◌also◌, goes_from, Indent, further, further_in, goes_line, goes_blanks, literal_long, name_long, select_long, binary_over, sign_over, cast_over, literal_over, edge_over, or_over}
+use Rattle.scc_svcheck.specs.Blocks.{set_line, is_wrong_load, load_line, level_walk, block_walk, range_bytes, var_walk}
+use Rattle.scc_svcheck.specs.First.{further_ports, ports_walk, item_walk, items_walk, scope_of, module_walk}
+use Rattle.scc_svread.proofs.Counted.{Goes, goes_pass, goes_over, goes_none, goes_size, goes_name_if, goes_whole, ◌also◌, goes_from, Indent, further, further_in, goes_line, goes_blanks, literal_long, name_long, select_long, binary_over, sign_over, cast_over, literal_over, edge_over, or_over, port_over, further_over, range_long, ends_at}
 use Rattle.scc_svread.proofs.RawFolds.{at_literal, at_left, at_unary, at_binary, at_cond, at_concat, at_cast, at_sign, at_assign, at_if, at_case, at_arm}
 
 module _ (s : Scope) where
@@ -134,3 +141,37 @@ module _ (s : Scope) where
       edge_over rising a also named a (codes " or " ++ (edge_word up ++ b)) clock h
       also (or_over up b also named b (codes ") begin\n    if (" ++ c) signal i also goes_over (codes ") begin\n    if (") c also level_goes negated c (blanks 4 ++ x) level l
           also loads_go v 6 six also goes_over (codes "    end else begin\n") (blanks 4 ++ f) also sets_go d 6 six also goes_over (codes "    end\n  end\n") r)
+
+-- ---- declarations
+
+var_goes : (before : Scope) (dir : Dir) (ts r : Bytes) (v : RawVar) → ReadsVar dir ts r v → Goes (var_walk before v) ts r
+var_goes before dir ts r v h = goes_size (not (is_width (high_of v + 1))) also goes_pass (range_bytes v.high) (range_long ts h.0 v.high h.1)
+    also goes_name_if (is_declared before v.name) also goes_pass (length (spelled v.name)) (name_long h.0 r v.name h.2)
+
+further_go : {ts r : Bytes} {vs : List RawVar} → ReadsMorePorts ts r vs → (before : Scope) → Goes (further_ports before vs) ts r
+further_go (ReadsMorePorts.no_more) before = goes_none
+further_go (ReadsMorePorts.more {m = m} {v = v} (ReadsPort.port input a h) rest) before =
+    further_over input v.dir a h.3 also var_goes before (dir_of input) a m v h also further_go rest (declare before v)
+
+ports_go : (ts r : Bytes) (vs : List RawVar) → ReadsPorts ts r vs → (before : Scope) → Goes (ports_walk before vs) ts r
+ports_go ts r vs (ReadsPorts.no_ports) before = goes_pass 0 (omega arith)
+ports_go ts r vs (ReadsPorts.ports {m = m} {v = v} {vs = more} (ReadsPort.port input a h) rest) before =
+    port_over input v.dir a h.3 also var_goes before (dir_of input) a m v h also further_go rest (declare before v) also goes_over (codes "\n") r
+
+-- ---- the module
+
+items_go : {begun : Bool} {ts r : Bytes} {xs : List RawItem} → ReadsItems begun ts r xs → (before s : Scope) → Goes (items_walk before s xs) ts r
+items_go (ReadsItems.no_items) before s = goes_none
+items_go (ReadsItems.var {a = a} {m = m} {v = v} d more) before s =
+    goes_over (codes "  logic ") a also var_goes before Inner a (codes ";\n" ++ m) v d also goes_over (codes ";\n") m also items_go more (declare before v) s
+items_go (ReadsItems.block d more) before s = block_goes s d also items_go more before s
+
+module_goes : {ts r : Bytes} {m : RawModule} → ReadsModule ts r m → Goes (module_walk m) ts (codes "endmodule\n" ++ r)
+module_goes (ReadsModule.whole {a = a} {b = b} {c = c} {r = r} {name = name} {vars = vars} {items = items} h p d) =
+    goes_over (codes "module ") a also goes_pass (length (spelled name)) (name_long a (codes " (\n" ++ b) name h) also goes_over (codes " (\n") b
+    also ports_go b (codes ");\n" ++ c) vars p [] also goes_over (codes ");\n") c
+    also items_go d (declare_all [] vars) (scope_of (record { name = name; ports = vars; items = items }))
+
+-- the walk ends where the text's last line begins
+pub sizes_counted : {bytes : Bytes} {raw : RawModule} → Reads bytes raw → (module_walk raw start).at ≡ min (length bytes - 10) (2 ^ 64 - 1)
+sizes_counted d = ends_at (module_goes d)
