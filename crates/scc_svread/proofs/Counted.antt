@@ -11,11 +11,12 @@ use Rattle.scc_svraw.specs.declared.raw.RawLiteral.{RawLiteral}
 use Rattle.scc_svraw.specs.declared.raw.RawSelect.{RawSelect}
 use Rattle.scc_svraw.specs.declared.raw.RawSelect.TheVariants.{Whole, Bit, Range}
 use Rattle.scc_svraw.specs.Lexical.{Bytes, ReadsDecimal, ReadsLiteral, ReadsName, ReadsSelect, ReadsRange}
-use Rattle.scc_svraw.specs.Grammar.{sign_word, edge_word, dir_word, dir_of}
+use Rattle.scc_svraw.specs.Grammar.{sign_word, edge_word, ReadsLevel, dir_word, dir_of}
 use Rattle.scc_svcheck.specs.declared.walk.Walk.{Walk}
 use Rattle.scc_svcheck.specs.Walking.{Walking, ◌then◌, pass, size_if, name_if, size_of_whole, deeper, start}
 use Rattle.scc_svcheck.specs.Parts.{literal_bytes, select_bytes, sign_bytes}
 use Rattle.scc_svcheck.specs.Blocks.{range_bytes, dir_bytes}
+use Rattle.scc_svcheck.specs.Drivers.{level_bytes}
 
 -- Places from here on are not told from each other.
 abbrev pub last : ℕ
@@ -99,6 +100,12 @@ further {m} {n} i = record { is = deeper_by last m n i.is }
 line_saturated : (c m n x : ℕ) → m ≡ min n c → min (m + x) c ≡ min (n + x) c
 line_saturated c m n x e = omega (arith, e)
 
+pub four : Indent 4 4
+four = record { is = refl }
+
+pub six : Indent 6 6
+six = record { is = refl }
+
 -- a line's blanks, and a text behind them
 pub goes_line : {m n : ℕ} → Indent m n → (t r : Bytes) → Goes (pass (m + length t)) (blanks n ++ (t ++ r)) r
 goes_line {m} {n} i t r = goes_counted (m + length t) (n + length t) (line_saturated last m n (length t) i.is) (omega (arith, blanks_long n (t ++ r), length-append t r))
@@ -144,6 +151,15 @@ cast_over ts r width h = goes_pass (length width + 2) (omega (arith, decimal_lon
 -- a literal and a text behind it
 pub literal_over : (ts t r : Bytes) (l : RawLiteral) → ReadsLiteral ts (t ++ r) l → Goes (pass (literal_bytes l + length t)) ts r
 literal_over ts t r l h = goes_pass (literal_bytes l + length t) (omega (arith, literal_long ts (t ++ r) l h, length-append t r))
+
+-- what a reset loads, from behind its name
+pub load_over : (ts r : Bytes) (l : RawLiteral) → ReadsLiteral ts (codes ";\n" ++ r) l → Goes (pass (4 + literal_bytes l + 2)) (codes " <= " ++ ts) r
+load_over ts r l h = goes_pass (4 + literal_bytes l + 2) (omega (arith, length-append (codes " <= ") ts, literal_long ts (codes ";\n" ++ r) l h, length-append (codes ";\n") r))
+
+-- the condition under which a reset stands, and what is written behind it
+pub level_long : (negated : Bool) (ts r name : Bytes) → ReadsLevel negated ts (codes ") begin\n" ++ r) name → length ts ≡ level_bytes negated name + length r
+level_long true ts r name h = omega (arith, ap length h.1, length-append (codes "(!") h.0, name_long h.0 (codes ")) begin\n" ++ r) name h.2, length-append (codes ")) begin\n") r)
+level_long false ts r name h = omega (arith, name_long ts (codes ") begin\n" ++ r) name h, length-append (codes ") begin\n") r)
 
 -- the line before a block at an edge
 pub edge_over : (rising : Bool) (r : Bytes) → Goes (pass 22) (codes "  always_ff @(" ++ (edge_word rising ++ r)) r

@@ -26,7 +26,7 @@ use Rattle.scc_svcheck.specs.Parts.{Part, is_wrong_length, literal_bytes, select
 use Rattle.scc_svcheck.specs.Lines.{Line, Choice, lines, other_line, is_wrong_label, with_label, choices, stmt_node, arm_node, line_of, choice_of}
 use Rattle.scc_svcheck.specs.Blocks.{set_line, is_wrong_load, load_line, level_walk, block_walk, range_bytes, var_walk}
 use Rattle.scc_svcheck.specs.First.{further_ports, ports_walk, item_walk, items_walk, scope_of, module_walk}
-use Rattle.scc_svread.proofs.Counted.{Goes, goes_pass, goes_over, goes_none, goes_size, goes_name_if, goes_whole, ◌also◌, goes_from, Indent, further, further_in, goes_line, goes_blanks, literal_long, name_long, select_long, binary_over, sign_over, cast_over, literal_over, edge_over, or_over, port_over, further_over, range_long, ends_at}
+use Rattle.scc_svread.proofs.Counted.{Goes, goes_pass, goes_over, goes_none, goes_size, goes_name_if, goes_whole, ◌also◌, goes_from, Indent, four, six, further, further_in, goes_line, goes_blanks, literal_long, name_long, select_long, binary_over, sign_over, cast_over, literal_over, edge_over, or_over, port_over, further_over, range_long, ends_at}
 use Rattle.scc_svread.proofs.RawFolds.{at_literal, at_left, at_unary, at_binary, at_cond, at_concat, at_cast, at_sign, at_assign, at_if, at_case, at_arm}
 
 module _ (s : Scope) where
@@ -126,12 +126,6 @@ module _ (s : Scope) where
   level_goes false ts r name h = named ts (codes ") begin\n" ++ r) name h also goes_over (codes ") begin\n") r
 
   -- ---- blocks
-
-  four : Indent 4 4
-  four = record { is = refl }
-
-  six : Indent 6 6
-  six = record { is = refl }
 
   pub block_goes : {ts r : Bytes} {b : RawBlock} → ReadsBlock ts r b → Goes (block_walk s b) (codes "  " ++ ts) r
   block_goes (ReadsBlock.comb {a = a} {r = r} d) = goes_over (codes "  always_comb begin\n") (blanks 2 ++ a) also stmts_go d 4 four also goes_over (codes "  end\n") r

@@ -53,4 +53,5 @@ pub mod DrivenModule
 pub mod Linked
 pub mod Counted
 pub mod CountedSizes
+pub mod CountedNames
 

@@ -1,4 +1,3 @@
-use Rattle.scc_svread.proofs.CountedSizes.{sizes_counted}
 use Rattle.scc_svread.proofs.Modules.{one_module}
 use Rattle.scc_svread.proofs.laws.a_text_is_one_module.Goals as goal
 
