@@ -1,10 +1,9 @@
 -- Walks that go over the bytes between two places of a text.
-use Rattle.std.proofs.Common.{◌≡◌, ℕ, ◌+◌, ◌-◌, ◌^◌, min, Bool, true, false, List, [], ◌∷◌, ◌++◌, length, length-append, codes, refl, sym, subst, ap, ◌∙◌, arith}
+use Rattle.std.proofs.Common.{◌≡◌, ℕ, ◌+◌, ◌-◌, ◌^◌, min, Bool, true, false, ◌++◌, length, length-append, codes, refl, sym, subst, ap, ◌∙◌, arith}
 use Rattle.std.proofs.lemmas.List.{length-replicate}
 use Rattle.std.specs.Prelude.{Option, Some, None}
 use Rattle.scc_svtree.specs.declared.expr.SvBinary.{SvBinary}
 use Rattle.scc_svtree.specs.declared.module.Dir.{Dir}
-use Rattle.scc_svtree.specs.declared.module.Dir.TheVariants.{Input, Output, Inner}
 use Rattle.scc_svtext.specs.ExprText.{binary_text}
 use Rattle.scc_svtext.specs.Pieces.{blanks, spelled}
 use Rattle.scc_svraw.specs.declared.raw.RawLiteral.{RawLiteral}
@@ -43,11 +42,13 @@ moved k a n b t e f = omega (arith, e, f)
 
 -- so many bytes, or a saturated number of them
 pub goes_counted : (m n : ℕ) {ts r : Bytes} → min m last ≡ min n last → length ts ≡ n + length r → Goes (pass m) ts r
-goes_counted m n {ts} {r} e f = record { goes = λ total w h. record {
-  before = h.before + n;
-  whole = moved h.before (length ts) n (length r) total f h.whole;
-  counted = saturated last w.at h.before m n h.counted e;
-} }
+goes_counted m n {ts} {r} e f = record {
+  goes = λ total w h. record {
+    before = h.before + n;
+    whole = moved h.before (length ts) n (length r) total f h.whole;
+    counted = saturated last w.at h.before m n h.counted e;
+  };
+}
 
 pub goes_pass : (n : ℕ) {ts r : Bytes} → length ts ≡ n + length r → Goes (pass n) ts r
 goes_pass n e = goes_counted n n refl e
@@ -118,7 +119,7 @@ goes_blanks {m} {n} i r = goes_counted m n (twice last m n i.is) (blanks_long n 
 
 -- ---- leaves
 
-pub decimal_long : (ts r n : Bytes) → ReadsDecimal ts r n → length ts ≡ length n + length r
+decimal_long : (ts r n : Bytes) → ReadsDecimal ts r n → length ts ≡ length n + length r
 decimal_long ts r n h = ap length h.0 ∙ length-append n r
 
 pub literal_long : (ts r : Bytes) (l : RawLiteral) → ReadsLiteral ts r l → length ts ≡ literal_bytes l + length r
@@ -130,7 +131,9 @@ name_long ts r name h = ap length h.0 ∙ length-append (spelled name) r
 pub select_long : (ts r : Bytes) (s : RawSelect) → ReadsSelect ts r s → length ts ≡ select_bytes s + length r
 select_long ts r Whole h = omega (arith, ap length h)
 select_long ts r (Bit at) h = omega (arith, ap length h.0, length-append (codes "[") (at ++ (codes "]" ++ r)), length-append at (codes "]" ++ r), length-append (codes "]") r)
-select_long ts r (Range high low) h = omega (arith, ap length h.0, length-append (codes "[") (high ++ (codes ":" ++ (low ++ (codes "]" ++ r)))), length-append high (codes ":" ++ (low ++ (codes "]" ++ r))), length-append (codes ":") (low ++ (codes "]" ++ r)), length-append low (codes "]" ++ r), length-append (codes "]") r)
+select_long ts r (Range high low) h =
+    let tail : Bytes = low ++ (codes "]" ++ r) in
+    omega (arith, ap length h.0, length-append (codes "[") (high ++ (codes ":" ++ tail)), length-append high (codes ":" ++ tail), length-append (codes ":") tail, length-append low (codes "]" ++ r), length-append (codes "]") r)
 
 pub range_long : (ts r : Bytes) (high : Option Bytes) → ReadsRange ts r high → length ts ≡ range_bytes high + length r
 range_long ts r None h = omega (arith, ap length h)

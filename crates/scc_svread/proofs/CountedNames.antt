@@ -1,9 +1,7 @@
 -- The walk over drivers goes over the bytes that are there.
-use Rattle.std.proofs.Common.{◌≡◌, ℕ, Bool, true, false, ◌+◌, ◌-◌, ◌^◌, ◌||◌, min, List, [], ◌∷◌, ◌++◌, length, map, codes, refl, sym, subst, ap, arith}
-use Rattle.std.specs.Prelude.{Option, Some, None}
+use Rattle.std.proofs.Common.{◌≡◌, ℕ, Bool, true, false, ◌+◌, ◌-◌, ◌^◌, ◌||◌, min, List, [], ◌∷◌, ◌++◌, length, map, codes, sym, subst, arith}
 use Rattle.scc_svtree.specs.declared.module.Dir.{Dir}
 use Rattle.scc_svtree.specs.declared.module.Dir.TheVariants.{Inner}
-use Rattle.scc_svtext.specs.ExprText.{binary_text}
 use Rattle.scc_svtext.specs.Pieces.{blanks, spelled}
 use Rattle.scc_svraw.specs.declared.raw.RawLiteral.{RawLiteral}
 use Rattle.scc_svraw.specs.declared.raw.RawLeft.{RawLeft}
@@ -16,21 +14,21 @@ use Rattle.scc_svraw.specs.declared.raw.RawSet.{RawSet}
 use Rattle.scc_svraw.specs.declared.raw.RawLoad.{RawLoad}
 use Rattle.scc_svraw.specs.declared.raw.RawReset.{RawReset}
 use Rattle.scc_svraw.specs.declared.raw.RawBlock.{RawBlock}
-use Rattle.scc_svraw.specs.declared.raw.RawBlock.TheVariants.{Comb, Edge}
+use Rattle.scc_svraw.specs.declared.raw.RawBlock.TheVariants.{Comb}
 use Rattle.scc_svraw.specs.declared.raw.RawVar.{RawVar}
 use Rattle.scc_svraw.specs.declared.raw.RawItem.{RawItem}
-use Rattle.scc_svraw.specs.declared.raw.RawItem.TheVariants.{Var, Block}
+use Rattle.scc_svraw.specs.declared.raw.RawItem.TheVariants.{Block}
 use Rattle.scc_svraw.specs.declared.raw.RawModule.{RawModule}
 use Rattle.scc_svraw.specs.Lexical.{Bytes, ReadsLiteral, ReadsName, ReadsLeft}
-use Rattle.scc_svraw.specs.Grammar.{ReadsDivisor, ReadsExpr, ReadsParts, ReadsStmt, ReadsStmts, ReadsArms, ReadsSets, ReadsLoads, ReadsLevel, ReadsBlock, ReadsVar, ReadsPort, ReadsMorePorts, ReadsPorts, ReadsItems, ReadsModule, Reads, edge_word, dir_of}
+use Rattle.scc_svraw.specs.Grammar.{ReadsDivisor, ReadsExpr, ReadsParts, ReadsStmt, ReadsStmts, ReadsArms, ReadsSets, ReadsLoads, ReadsBlock, ReadsVar, ReadsPort, ReadsMorePorts, ReadsPorts, ReadsItems, ReadsModule, Reads, edge_word, dir_of}
 use Rattle.scc_svcheck.specs.declared.facts.Facts.{Facts}
 use Rattle.scc_svcheck.specs.declared.facts.Taken.{Taken}
-use Rattle.scc_svcheck.specs.Walking.{Walking, ◌then◌, pass, name_if, deeper, start}
-use Rattle.scc_svcheck.specs.Parts.{literal_bytes, select_bytes, sign_bytes}
+use Rattle.scc_svcheck.specs.Walking.{Walking, deeper, start}
+use Rattle.scc_svcheck.specs.Parts.{literal_bytes, select_bytes}
 use Rattle.scc_svcheck.specs.Mentioned.{Names, block_assigned, with_name}
-use Rattle.scc_svcheck.specs.Within.{Known, known, mention, left_mention, is_early, parts_names, expr_node_names, expr_names, Own, Chosen, inner, is_wrong_left, other_names, arms_names, stmt_node_names, arm_node_names, stmt_names, chosen_of, whole_after, own_lines}
-use Rattle.scc_svcheck.specs.Blocks.{range_bytes, dir_bytes}
-use Rattle.scc_svcheck.specs.Drivers.{anywhere, is_undriven, var_names, further_names, ports_names, is_wrong_target, sets_names, behind, is_out_of_order, left_over, load_names, loads_names, is_wrong_level, is_wrong_signal, is_wrong_clock, level_bytes, block_names, taken_behind, item_walk, items_walk, nothing, facts_of, names_of}
+use Rattle.scc_svcheck.specs.Within.{Known, known, mention, left_mention, is_early, parts_names, expr_node_names, expr_names, Own, Chosen, inner, is_wrong_left, arms_names, stmt_node_names, arm_node_names, stmt_names, chosen_of, whole_after, own_lines}
+use Rattle.scc_svcheck.specs.Blocks.{range_bytes}
+use Rattle.scc_svcheck.specs.Drivers.{anywhere, is_undriven, var_names, further_names, ports_names, is_wrong_target, sets_names, behind, is_out_of_order, left_over, loads_names, is_wrong_level, is_wrong_signal, is_wrong_clock, level_bytes, block_names, taken_behind, items_walk, nothing, facts_of, names_of}
 use Rattle.scc_svread.proofs.Counted.{Goes, goes_pass, goes_over, goes_none, goes_name_if, ◌also◌, goes_same, goes_from, Indent, four, six, further, further_in, goes_line, goes_blanks, literal_long, name_long, select_long, range_long, level_long, binary_over, sign_over, cast_over, literal_over, load_over, edge_over, or_over, port_over, further_over, ends_at}
 use Rattle.scc_svread.proofs.RawFolds.{at_literal, at_left, at_unary, at_binary, at_cond, at_concat, at_cast, at_sign, at_assign, at_if, at_case, at_arm}
 
@@ -96,7 +94,7 @@ module _ (k : Known) where
     stmt_goes (ReadsStmt.if_else {n = n} {a = a} {b = b} {c = c} {r = r} {test = t} {body = x} {first = y} {more = ys} d f g) =
         same_own n (blanks n ++ (codes "if (" ++ a)) r (at_if Own Chosen (stmt_node_names k) arm_node_names t x (y ∷ ys))
         (λ own m i. goes_line i (codes "if (") a also expr_goes d also goes_over (codes ") begin\n") (blanks n ++ b) also stmts_go f (deeper m) (further i)
-            also (goes_line i (codes "end else begin\n") (blanks n ++ c) also stmts_go g (deeper m) (further i)) also goes_line i (codes "end\n") r)
+        also (goes_line i (codes "end else begin\n") (blanks n ++ c) also stmts_go g (deeper m) (further i)) also goes_line i (codes "end\n") r)
     stmt_goes (ReadsStmt.case {n = n} {a = a} {b = b} {r = r} {of = x} {arms = arms} d f) =
         same_own n (blanks n ++ (codes "case (" ++ a)) r (at_case Own Chosen (stmt_node_names k) arm_node_names x arms)
         (λ own m i. goes_line i (codes "case (") a also expr_goes d also goes_over (codes ")\n") (blanks n ++ b) also arms_go f (deeper m) (further i) also goes_line i (codes "endcase\n") r)
@@ -113,7 +111,7 @@ module _ (k : Known) where
         let P : Chosen → Type 0 = λ x. Goes (arms_names (x ∷ map (chosen_of k) more) m) (blanks n ++ (codes "  " ++ a)) (blanks n ++ r) in
         subst P (sym (at_arm Own Chosen (stmt_node_names k) arm_node_names label body))
         (goes_from (further_in n a) (goes_blanks i a) also literal_over a (codes ": begin\n") (blanks (n + 2) ++ b) label l
-            also stmts_go d (deeper m) (further i) also goes_line i (codes "end\n") (blanks n ++ c) also arms_go rest m i)
+        also stmts_go d (deeper m) (further i) also goes_line i (codes "end\n") (blanks n ++ c) also arms_go rest m i)
 
 own_go : (inputs taken assigned whole : Names) {n : ℕ} {ts r : Bytes} {xs : List RawStmt} → ReadsStmts n ts r xs
     → (m : ℕ) → Indent m (n + 2) → Goes (own_lines inputs taken assigned whole xs m) (blanks n ++ ts) (blanks n ++ r)
@@ -149,8 +147,8 @@ module _ (many : Bool) (f : Facts) where
       let reset : RawReset = record { rising = up; signal = signal; negated = negated; level = level; values = values } in
       edge_over rising a also mentioned (is_wrong_clock many f t rising clock) a (codes " or " ++ (edge_word up ++ b)) clock h
       also (or_over up b also mentioned (is_wrong_signal many f clock signal) b (codes ") begin\n    if (" ++ c) signal i also goes_over (codes ") begin\n    if (") c
-          also goes_name_if (is_wrong_level reset) also goes_pass (level_bytes negated level) (level_long negated c (blanks 4 ++ x) level l)
-          also loads_go f t.names v sets [] 6 six also goes_over (codes "    end else begin\n") (blanks 4 ++ y) also sets_go f t.names d [] 6 six also goes_over (codes "    end\n  end\n") r)
+      also goes_name_if (is_wrong_level reset) also goes_pass (level_bytes negated level) (level_long negated c (blanks 4 ++ x) level l)
+      also loads_go f t.names v sets [] 6 six also goes_over (codes "    end else begin\n") (blanks 4 ++ y) also sets_go f t.names d [] 6 six also goes_over (codes "    end\n  end\n") r)
 
   -- ---- declarations
 

@@ -1,7 +1,8 @@
 -- The walk over sizes and undeclared names goes over the bytes that are there.
-use Rattle.std.proofs.Common.{◌≡◌, ℕ, Bool, true, false, not, ◌+◌, ◌-◌, ◌^◌, ◌&&◌, ◌||◌, min, List, [], ◌∷◌, ◌++◌, length, map, codes, refl, sym, subst, ap, arith}
-use Rattle.std.specs.Prelude.{Option, Some, None}
-use Rattle.scc_svtext.specs.ExprText.{binary_text}
+use Rattle.std.proofs.Common.{◌≡◌, ℕ, Bool, true, false, not, ◌+◌, ◌-◌, ◌^◌, ◌&&◌, min, List, [], ◌∷◌, ◌++◌, length, map, codes, sym, subst, ap, arith}
+use Rattle.std.specs.Prelude.{Option}
+use Rattle.scc_svtree.specs.declared.module.Dir.{Dir}
+use Rattle.scc_svtree.specs.declared.module.Dir.TheVariants.{Inner}
 use Rattle.scc_svtext.specs.Pieces.{blanks, spelled}
 use Rattle.scc_svraw.specs.declared.raw.RawLiteral.{RawLiteral}
 use Rattle.scc_svraw.specs.declared.raw.RawLeft.{RawLeft}
@@ -14,19 +15,16 @@ use Rattle.scc_svraw.specs.declared.raw.RawLoad.{RawLoad}
 use Rattle.scc_svraw.specs.declared.raw.RawBlock.{RawBlock}
 use Rattle.scc_svraw.specs.declared.raw.RawVar.{RawVar}
 use Rattle.scc_svraw.specs.declared.raw.RawItem.{RawItem}
-use Rattle.scc_svraw.specs.declared.raw.RawItem.TheVariants.{Var, Block}
 use Rattle.scc_svraw.specs.declared.raw.RawModule.{RawModule}
-use Rattle.scc_svtree.specs.declared.module.Dir.{Dir}
-use Rattle.scc_svtree.specs.declared.module.Dir.TheVariants.{Inner}
 use Rattle.scc_svraw.specs.Lexical.{Bytes, ReadsLiteral, ReadsName, ReadsLeft}
 use Rattle.scc_svraw.specs.Grammar.{is_division, ReadsDivisor, ReadsExpr, ReadsParts, ReadsStmt, ReadsStmts, ReadsArms, ReadsSets, ReadsLoads, ReadsLevel, ReadsBlock, ReadsVar, ReadsPort, ReadsMorePorts, ReadsPorts, ReadsItems, ReadsModule, Reads, edge_word, dir_of}
-use Rattle.scc_svcheck.specs.Walking.{Walking, ◌then◌, pass, deeper, start}
+use Rattle.scc_svcheck.specs.Walking.{deeper, start}
 use Rattle.scc_svcheck.specs.Scope.{Scope, number_in, is_width, is_wrong_literal, once, high_of, is_declared, declare, declare_all}
-use Rattle.scc_svcheck.specs.Parts.{Part, is_wrong_length, literal_bytes, select_bytes, sign_bytes, is_wrong_part, is_missing, name_walk, left_walk, literal_walk, parts_walk, measured, literal_part, left_part, unary_part, binary_part, cond_part, concat_part, cast_part, sign_part, node_part, part_of}
-use Rattle.scc_svcheck.specs.Lines.{Line, Choice, lines, other_line, is_wrong_label, with_label, choices, stmt_node, arm_node, line_of, choice_of}
+use Rattle.scc_svcheck.specs.Parts.{Part, is_wrong_length, literal_bytes, select_bytes, is_wrong_part, is_missing, name_walk, left_walk, parts_walk, measured, literal_part, left_part, unary_part, binary_part, cond_part, concat_part, cast_part, sign_part, node_part, part_of}
+use Rattle.scc_svcheck.specs.Lines.{Line, Choice, lines, is_wrong_label, with_label, choices, stmt_node, arm_node, line_of, choice_of}
 use Rattle.scc_svcheck.specs.Blocks.{set_line, is_wrong_load, load_line, level_walk, block_walk, range_bytes, var_walk}
-use Rattle.scc_svcheck.specs.First.{further_ports, ports_walk, item_walk, items_walk, scope_of, module_walk}
-use Rattle.scc_svread.proofs.Counted.{Goes, goes_pass, goes_over, goes_none, goes_size, goes_name_if, goes_whole, ◌also◌, goes_from, Indent, four, six, further, further_in, goes_line, goes_blanks, literal_long, name_long, select_long, binary_over, sign_over, cast_over, literal_over, edge_over, or_over, port_over, further_over, range_long, ends_at}
+use Rattle.scc_svcheck.specs.First.{further_ports, ports_walk, items_walk, scope_of, module_walk}
+use Rattle.scc_svread.proofs.Counted.{Goes, goes_pass, goes_over, goes_none, goes_size, goes_name_if, goes_whole, ◌also◌, goes_from, Indent, four, six, further, further_in, goes_line, goes_blanks, literal_long, name_long, select_long, range_long, binary_over, sign_over, cast_over, literal_over, edge_over, or_over, port_over, further_over, ends_at}
 use Rattle.scc_svread.proofs.RawFolds.{at_literal, at_left, at_unary, at_binary, at_cond, at_concat, at_cast, at_sign, at_assign, at_if, at_case, at_arm}
 
 module _ (s : Scope) where
@@ -91,7 +89,7 @@ module _ (s : Scope) where
     stmt_goes (ReadsStmt.if_else {n = n} {a = a} {b = b} {c = c} {r = r} {test = t} {body = x} {first = y} {more = ys} d f g) =
         same_line n (blanks n ++ (codes "if (" ++ a)) r (at_if Line Choice (stmt_node s) arm_node t x (y ∷ ys))
         (λ m i. goes_line i (codes "if (") a also expr_goes d also goes_over (codes ") begin\n") (blanks n ++ b) also stmts_go f (deeper m) (further i)
-            also (goes_line i (codes "end else begin\n") (blanks n ++ c) also stmts_go g (deeper m) (further i)) also goes_line i (codes "end\n") r)
+        also (goes_line i (codes "end else begin\n") (blanks n ++ c) also stmts_go g (deeper m) (further i)) also goes_line i (codes "end\n") r)
     stmt_goes (ReadsStmt.case {n = n} {a = a} {b = b} {r = r} {of = x} {arms = arms} d f) = same_line n (blanks n ++ (codes "case (" ++ a)) r (at_case Line Choice (stmt_node s) arm_node x arms)
         (λ m i. goes_line i (codes "case (") a also expr_goes d also goes_over (codes ")\n") (blanks n ++ b) also arms_go f (part_of s x).bits [] (deeper m) (further i) also goes_line i (codes "endcase\n") r)
 
@@ -106,7 +104,7 @@ module _ (s : Scope) where
         let P : Choice → Type 0 = λ x. Goes (choices bits before (x ∷ map (choice_of s) more) m) (blanks n ++ (codes "  " ++ a)) (blanks n ++ r) in
         subst P (sym (at_arm Line Choice (stmt_node s) arm_node label body))
         (goes_from (further_in n a) (goes_blanks i a) also goes_size (is_wrong_label bits before label) also literal_over a (codes ": begin\n") (blanks (n + 2) ++ b) label l
-            also stmts_go d (deeper m) (further i) also goes_line i (codes "end\n") (blanks n ++ c) also arms_go rest bits (with_label before label) m i)
+        also stmts_go d (deeper m) (further i) also goes_line i (codes "end\n") (blanks n ++ c) also arms_go rest bits (with_label before label) m i)
 
   -- ---- edges
 
@@ -134,7 +132,7 @@ module _ (s : Scope) where
   block_goes (ReadsBlock.edge_or_reset {a = a} {b = b} {d = x} {f = f} {r = r} {clock = clock} {signal = signal} {level = level} c {rising = rising} {up = up} {negated = negated} {values = values} h i l v d) =
       edge_over rising a also named a (codes " or " ++ (edge_word up ++ b)) clock h
       also (or_over up b also named b (codes ") begin\n    if (" ++ c) signal i also goes_over (codes ") begin\n    if (") c also level_goes negated c (blanks 4 ++ x) level l
-          also loads_go v 6 six also goes_over (codes "    end else begin\n") (blanks 4 ++ f) also sets_go d 6 six also goes_over (codes "    end\n  end\n") r)
+      also loads_go v 6 six also goes_over (codes "    end else begin\n") (blanks 4 ++ f) also sets_go d 6 six also goes_over (codes "    end\n  end\n") r)
 
 -- ---- declarations
 

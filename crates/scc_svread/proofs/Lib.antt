@@ -54,4 +54,3 @@ pub mod Linked
 pub mod Counted
 pub mod CountedSizes
 pub mod CountedNames
-
