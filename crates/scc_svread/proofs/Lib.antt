@@ -51,3 +51,6 @@ pub mod DrivenParts
 pub mod DrivenWalk
 pub mod DrivenModule
 pub mod Linked
+pub mod Counted
+pub mod CountedSizes
+pub mod CountedNames

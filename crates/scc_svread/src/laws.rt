@@ -1,5 +1,5 @@
 //! Laws of reading emitted texts, each the clause of a function that does nothing.
-ghost use Rattle.std.specs.Prelude.{◌≡◌, ℕ, Bool, List, None};
+ghost use Rattle.std.specs.Prelude.{◌≡◌, ℕ, ◌-◌, ◌^◌, min, Bool, List, length, None};
 ghost use Rattle.scc_svtree.specs.declared.module.SvModule.{SvModule};
 ghost use Rattle.scc_svtree.specs.Settled.{combs_of, Order};
 ghost use Rattle.scc_svtree.specs.Sound.{IsSound};
@@ -7,7 +7,9 @@ ghost use Rattle.scc_svtext.specs.ModuleText.{module_text};
 ghost use Rattle.scc_svtext.specs.Emitted.{SvReads};
 ghost use Rattle.scc_svraw.specs.declared.raw.RawModule.{RawModule};
 ghost use Rattle.scc_svraw.specs.Grammar.{Reads};
-ghost use Rattle.scc_svcheck.specs.First.{wrong_of};
+ghost use Rattle.scc_svcheck.specs.Walking.{start};
+ghost use Rattle.scc_svcheck.specs.Drivers.{names_of};
+ghost use Rattle.scc_svcheck.specs.First.{module_walk, wrong_of};
 ghost use Rattle.scc_svread.specs.Written.{raw_of};
 ghost use Rattle.scc_svread.specs.Resolved.{module_of};
 
@@ -35,4 +37,10 @@ pub fn a_text_with_nothing_wrong_is_sound()
 /// No bytes are the text of two modules without faults.
 pub fn a_text_is_one_module()
     ensures { (many : Bool) (bytes : List ℕ) (m n : SvModule) → SvReads many bytes m → SvReads many bytes n → m ≡ n }
+{}
+
+/// Where each of the two walks over a text ends, is where its last line begins: what they go over has as many bytes as it says.
+pub fn walks_count_the_bytes()
+    ensures sizes { (bytes : List ℕ) (raw : RawModule) → Reads bytes raw → (module_walk raw start).at ≡ min (length bytes - 10) (2 ^ 64 - 1) }
+    ensures names { (many : Bool) (bytes : List ℕ) (raw : RawModule) → Reads bytes raw → (names_of many raw start).at ≡ min (length bytes - 10) (2 ^ 64 - 1) }
 {}

@@ -9,7 +9,7 @@ mod tree;
 
 pub use laws::{
     a_module_is_read_as_it_is_written, a_text_is_one_module, a_text_with_nothing_wrong_is_sound,
-    nothing_is_wrong_in_a_sound_module, what_is_written_says_which_module,
+    nothing_is_wrong_in_a_sound_module, walks_count_the_bytes, what_is_written_says_which_module,
 };
 pub use module::module_of;
 pub use reading::{read, read_many};
