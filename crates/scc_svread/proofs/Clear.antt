@@ -93,9 +93,11 @@ pub keeps_size : (b : Bool) → Keeps (size_if b)
 keeps_size b = record { keeps = λ w c. ((asks_size b).told w c).0 }
 
 pub keeps_whole : (b : Bool) {p : Walking} → Keeps p → Keeps (size_of_whole b p)
-keeps_whole b {p} a = record { keeps = λ w c.
-    let rest = none_right w.size (mark b w.at orelse (p w).size) c.0 in
-    a.keeps w (none_right (mark b w.at) (p w).size rest, c.1) }
+keeps_whole b {p} a = record {
+  keeps = λ w c.
+      let rest = none_right w.size (mark b w.at orelse (p w).size) c.0 in
+      a.keeps w (none_right (mark b w.at) (p w).size rest, c.1);
+}
 
 pub same_walk : {p q : Walking} → p ≡ q → Keeps q → Keeps p
 same_walk e k = subst Keeps (sym e) k

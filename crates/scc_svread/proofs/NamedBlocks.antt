@@ -166,23 +166,23 @@ module _ (vars : List SvVar) (named : AreNamed vars) where
         let inside : u.0 < length vars = x u.0 (left_true (nat_eq u.0 u.0) (assigns rest u.0) (eq-eqb u.0 u.0 refl)) in
         whole_line whole r t u.0 e rest (of_first (reads (term_of e)) (code_reads rest) w)
         (asks_then
-          (statements.line_asks vars named (at whole) (is_wrong_left (at whole) true left) left e n)
-          (m (with_name whole (name_of vars u.0)) (λ v. r v || nat_eq u.0 v) (lists.with_tells vars named u.0 inside whole r t)
-            (of_second (reads (term_of e)) (code_reads rest) w) (of_second (nat_eq u.0) (assigns rest) x)))
+        (statements.line_asks vars named (at whole) (is_wrong_left (at whole) true left) left e n)
+        (m (with_name whole (name_of vars u.0)) (λ v. r v || nat_eq u.0 v) (lists.with_tells vars named u.0 inside whole r t)
+        (of_second (reads (term_of e)) (code_reads rest) w) (of_second (nat_eq u.0) (assigns rest) x)))
     assign_step (Bit u place) e whole r t rest w x n more m =
         let left : RawLeft = raw_left vars (Bit u place) in
         let inside : u.0 < length vars = x u.0 (left_true (nat_eq u.0 u.0) (assigns rest u.0) (eq-eqb u.0 u.0 refl)) in
         part_line whole r t u.0 inside e rest (of_first (reads (term_of e)) (code_reads rest) w)
         (asks_then
-          (statements.line_asks vars named (at whole) (is_wrong_left (at whole) true left) left e n)
-          (m whole r t (of_second (reads (term_of e)) (code_reads rest) w) (of_second (nat_eq u.0) (assigns rest) x)))
+        (statements.line_asks vars named (at whole) (is_wrong_left (at whole) true left) left e n)
+        (m whole r t (of_second (reads (term_of e)) (code_reads rest) w) (of_second (nat_eq u.0) (assigns rest) x)))
     assign_step (Range u high low) e whole r t rest w x n more m =
         let left : RawLeft = raw_left vars (Range u high low) in
         let inside : u.0 < length vars = x u.0 (left_true (nat_eq u.0 u.0) (assigns rest u.0) (eq-eqb u.0 u.0 refl)) in
         part_line whole r t u.0 inside e rest (of_first (reads (term_of e)) (code_reads rest) w)
         (asks_then
-          (statements.line_asks vars named (at whole) (is_wrong_left (at whole) true left) left e n)
-          (m whole r t (of_second (reads (term_of e)) (code_reads rest) w) (of_second (nat_eq u.0) (assigns rest) x)))
+        (statements.line_asks vars named (at whole) (is_wrong_left (at whole) true left) left e n)
+        (m whole r t (of_second (reads (term_of e)) (code_reads rest) w) (of_second (nat_eq u.0) (assigns rest) x)))
 
     abbrev owns_of : Names → List SvStmt → List Own
     owns_of whole xs = map (stmt_names (at whole)) (map (raw_stmt vars) xs)
@@ -197,14 +197,17 @@ module _ (vars : List SvVar) (named : AreNamed vars) where
         let read : ℕ → Bool = λ v. test v || branches v in
         let put : ℕ → Bool = λ v. assigns (code_of a) v || assigns (code_of b) v in
         asks_by
-        (λ u. (u.0, (
-          of_first test branches u.1,
-          of_first first second (of_second test branches u.1),
-          of_first (assigns (code_of a)) (assigns (code_of b)) u.2,
-          of_second first second (of_second test branches u.1),
-          of_second (assigns (code_of a)) (assigns (code_of b)) u.2,
-          u.3,
-        )))
+        (λ u. (
+          u.0,
+          (
+            of_first test branches u.1,
+            of_first first second (of_second test branches u.1),
+            of_first (assigns (code_of a)) (assigns (code_of b)) u.2,
+            of_second first second (of_second test branches u.1),
+            of_second (assigns (code_of a)) (assigns (code_of b)) u.2,
+            u.3,
+          ),
+        ))
         (λ u. (
           u.0,
           of_both test branches u.1.0 (of_both first second u.1.1 u.1.3),
@@ -212,7 +215,7 @@ module _ (vars : List SvVar) (named : AreNamed vars) where
           u.1.5,
         ))
         (quiet_line whole r t read put (of_first read (code_reads rest) w) (of_first put (assigns rest) x) rest
-          (asks_then (statements.if_asks vars named (at whole) c a b n) (m whole r t (of_second read (code_reads rest) w) (of_second put (assigns rest) x))))
+        (asks_then (statements.if_asks vars named (at whole) c a b n) (m whole r t (of_second read (code_reads rest) w) (of_second put (assigns rest) x))))
 
     case_step : (e : SvExpr) (arms : List SvArm)
         → Step (λ whole. case_names (expr_names (at whole) (raw_expr vars e)) (map (chosen_of (at whole)) (map (raw_arm vars) arms))) (λ whole. whole) (λ rest. Case (term_of e) (arms_code arms) rest)
@@ -223,7 +226,7 @@ module _ (vars : List SvVar) (named : AreNamed vars) where
         (λ u. (u.0, (of_first (reads (term_of e)) (arms_read choices) u.1, of_second (reads (term_of e)) (arms_read choices) u.1, u.2, u.3)))
         (λ u. (u.0, of_both (reads (term_of e)) (arms_read choices) u.1.0 u.1.1, u.1.2, u.1.3))
         (quiet_line whole r t read (arms_assign choices) (of_first read (code_reads rest) w) (of_first (arms_assign choices) (assigns rest) x) rest
-          (asks_then (statements.case_asks vars named (at whole) e arms n) (m whole r t (of_second read (code_reads rest) w) (of_second (arms_assign choices) (assigns rest) x))))
+        (asks_then (statements.case_asks vars named (at whole) e arms n) (m whole r t (of_second read (code_reads rest) w) (of_second (arms_assign choices) (assigns rest) x))))
 
     stmt_step : (x : SvStmt) → StepStmt x
     stmt_step = by_stmt StepStmt (λ a. Unit {0})
@@ -242,7 +245,7 @@ module _ (vars : List SvVar) (named : AreNamed vars) where
   pub comb_asks : (inputs taken assigned : Names) (p q : ℕ → Bool) → lists.Tells vars named inputs p → lists.Tells vars named taken q
       → (ss : List SvStmt) → lists.Tells vars named assigned (assigns (code_of ss)) → lists.Within vars named (mentions (code_of ss)) → (n : ℕ)
       → Asks (own_lines inputs taken assigned [] (map (raw_stmt vars) ss) n)
-          (lists.Apart vars named (assigns (code_of ss)) p × lists.Apart vars named (assigns (code_of ss)) q × IsFresh (code_of ss))
+      (lists.Apart vars named (assigns (code_of ss)) p × lists.Apart vars named (assigns (code_of ss)) q × IsFresh (code_of ss))
   comb_asks inputs taken assigned p q tp tq ss ta w n =
       let mine : ℕ → Bool = assigns (code_of ss) in
       let put : Within mine = of_second (code_reads (code_of ss)) mine w in

@@ -261,7 +261,7 @@ module _ (vars : List SvVar) (named : AreNamed vars) where
         → ((s : SvStmt) → Tied test (f (raw_stmt vars s)) (stmt_code s)) → test End ≡ false → Adds (each (map f (map (raw_stmt vars) ss))) (test (code_of ss))
     code_adds test f ss h e ns =
         let t : Tied test (each (map f (map (raw_stmt vars) ss))) (before (map stmt_code ss)) =
-            tied_all test f (raw_stmt vars) stmt_code ss (each_holds (λ s. Tied test (f (raw_stmt vars s)) (stmt_code s)) h ss) in
+        tied_all test f (raw_stmt vars) stmt_code ss (each_holds (λ s. Tied test (f (raw_stmt vars s)) (stmt_code s)) h ss) in
         t.adds ns ∙ ap (λ b. is_among ns (name_of vars v) || b) (or_none t.own ∙ ap (λ b. t.own || b) (sym e) ∙ sym (t.code End))
 
   -- what is added on top of names of which a test tells

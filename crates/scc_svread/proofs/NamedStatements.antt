@@ -127,19 +127,19 @@ module _ (vars : List SvVar) (named : AreNamed vars) (k : Known) where
 
   pub line_asks : (wrong : Bool) (l : RawLeft) (e : SvExpr) (n : ℕ)
       → Asks (pass n then left_mention wrong l then pass 3 then expr_names k (raw_expr vars e) then pass 2)
-          ((wrong ≡ false) × lists.Apart vars named (reads (term_of e)) (λ v. is_early k (name_of vars v)))
+      ((wrong ≡ false) × lists.Apart vars named (reads (term_of e)) (λ v. is_early k (name_of vars v)))
   line_asks wrong l e n = asks_then (ended 3 (led n (asks_mention wrong l))) (ended 2 (expressions.expr_asks vars named k e))
 
   if_quiet : (c : SvExpr) (a b : List SvStmt) → Each StmtInside a → Each StmtInside b → (own : Bool) (n : ℕ)
       → Asks (if_names (expr_names k (raw_expr vars c)) (owns_of a) (owns_of b) own n)
-          (Quiet (λ v. reads (term_of c) v || (code_reads (code_of a) v || code_reads (code_of b) v)) (λ v. assigns (code_of a) v || assigns (code_of b) v))
+      (Quiet (λ v. reads (term_of c) v || (code_reads (code_of a) v || code_reads (code_of b) v)) (λ v. assigns (code_of a) v || assigns (code_of b) v))
   if_quiet c a b h i own n = asks_both (reads (term_of c)) (λ v. code_reads (code_of a) v || code_reads (code_of b) v) none (λ v. assigns (code_of a) v || assigns (code_of b) v)
       (ended 8 (led (n + 4) (expr_quiet c)))
       (asks_both (code_reads (code_of a)) (code_reads (code_of b)) (assigns (code_of a)) (assigns (code_of b)) (inner_asks a h (deeper n)) (ended (n + 4) (other_asks b i n)))
 
   case_quiet : (e : SvExpr) (arms : List SvArm) → Each ArmInside arms → (own : Bool) (n : ℕ)
       → Asks (case_names (expr_names k (raw_expr vars e)) (chosens_of arms) own n)
-          (Quiet (λ v. reads (term_of e) v || arms_read (arms_code arms) v) (λ v. arms_assign (arms_code arms) v))
+      (Quiet (λ v. reads (term_of e) v || arms_read (arms_code arms) v) (λ v. arms_assign (arms_code arms) v))
   case_quiet e arms h own n = asks_both (reads (term_of e)) (arms_read (arms_code arms)) none (arms_assign (arms_code arms))
       (ended 2 (led (n + 6) (expr_quiet e)))
       (ended (n + 8) (arms_ask arms h (deeper n) None (λ w. w) (asks_nothing nothing_quiet)))
@@ -169,7 +169,7 @@ module _ (vars : List SvVar) (named : AreNamed vars) (k : Known) where
       choice : (c : SvExpr) (a b : List SvStmt) → Each StmtInside a → Each StmtInside b → StmtInside (roll-SvStmt (stmt.If c a b))
       choice c a b h i = moved_stmt (at_if vars (stmt_node_names k) arm_node_names c a b) (code_if c a b)
           (λ n rest more m. asks_both (λ v. reads (term_of c) v || (code_reads (code_of a) v || code_reads (code_of b) v)) (code_reads rest)
-              (λ v. assigns (code_of a) v || assigns (code_of b) v) (assigns rest) (if_quiet c a b h i false n) m)
+          (λ v. assigns (code_of a) v || assigns (code_of b) v) (assigns rest) (if_quiet c a b h i false n) m)
 
       case_of : (e : SvExpr) (arms : List SvArm) → Each ArmInside arms → StmtInside (roll-SvStmt (stmt.Case e arms))
       case_of e arms h = moved_stmt (at_case vars (stmt_node_names k) arm_node_names e arms) (code_case e arms)
@@ -178,7 +178,7 @@ module _ (vars : List SvVar) (named : AreNamed vars) (k : Known) where
       arm : (label : SvLiteral) (body : List SvStmt) → Each StmtInside body → ArmInside (arm_made label body)
       arm label body h = moved_arm (at_arm vars (stmt_node_names k) arm_node_names label body) (code_arm label body)
           (λ n rest more m. asks_both (code_reads (code_of body)) (arms_read rest) (assigns (code_of body)) (arms_assign rest)
-              (ended (n + 4) (led n (led (literal_bytes (raw_literal label.width label.value.bits) + 8) (inner_asks body h (deeper n))))) m)
+          (ended (n + 4) (led n (led (literal_bytes (raw_literal label.width label.value.bits) + 8) (inner_asks body h (deeper n))))) m)
 
   each_inside : (xs : List SvStmt) → Each StmtInside xs
   each_inside [] = tt
@@ -188,17 +188,17 @@ module _ (vars : List SvVar) (named : AreNamed vars) (k : Known) where
 
   pub if_asks : (c : SvExpr) (a b : List SvStmt) (n : ℕ)
       → Asks (if_names (expr_names k (raw_expr vars c)) (map (stmt_names k) (map (raw_stmt vars) a)) (map (stmt_names k) (map (raw_stmt vars) b)) true n)
-          (Quiet (λ v. reads (term_of c) v || (code_reads (code_of a) v || code_reads (code_of b) v)) (λ v. assigns (code_of a) v || assigns (code_of b) v))
+      (Quiet (λ v. reads (term_of c) v || (code_reads (code_of a) v || code_reads (code_of b) v)) (λ v. assigns (code_of a) v || assigns (code_of b) v))
   if_asks c a b n = if_quiet c a b (each_inside a) (each_inside b) true n
 
   -- the arms of a choice are those of the statement, which does as much at any level
   pub case_asks : (e : SvExpr) (arms : List SvArm) (n : ℕ)
       → Asks (case_names (expr_names k (raw_expr vars e)) (map (chosen_of k) (map (raw_arm vars) arms)) true n)
-          (Quiet (λ v. reads (term_of e) v || arms_read (arms_code arms) v) (arms_assign (arms_code arms)))
+      (Quiet (λ v. reads (term_of e) v || arms_read (arms_code arms) v) (arms_assign (arms_code arms)))
   case_asks e arms n =
       let x : SvStmt = roll-SvStmt (stmt.Case e arms) in
       let read : ℕ → Bool = λ v. reads (term_of e) v || arms_read (arms_code arms) v in
       let assigned : ℕ → Bool = arms_assign (arms_code arms) in
       let h : InsideStmt (case_names (expr_names k (raw_expr vars e)) (chosens_of arms)) (λ rest. Case (term_of e) (arms_code arms) rest) =
-          moved_stmt (sym (at_case vars (stmt_node_names k) arm_node_names e arms)) (sym (code_case e arms)) (stmt_inside x) in
+      moved_stmt (sym (at_case vars (stmt_node_names k) arm_node_names e arms)) (sym (code_case e arms)) (stmt_inside x) in
       asks_by (λ q. (halves read none assigned none q).0) (λ q. both read none assigned none (q, nothing_quiet)) (h n End (λ w. w) (asks_nothing nothing_quiet))
