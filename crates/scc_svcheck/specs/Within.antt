@@ -1,7 +1,5 @@
 -- Names of statements that stand where they may not, from the first byte of their line on.
 use Rattle.std.specs.Prelude.{ℕ, ◌+◌, Bool, true, false, not, ◌&&◌, ◌||◌, if◌then◌else◌, List, [], ◌∷◌, length}
-use Rattle.scc_svtree.specs.declared.expr.SvUnary.{SvUnary}
-use Rattle.scc_svtree.specs.declared.expr.SvBinary.{SvBinary}
 use Rattle.scc_svtext.specs.ExprText.{binary_text}
 use Rattle.scc_svtext.specs.Pieces.{spelled}
 use Rattle.scc_svraw.specs.declared.raw.RawLiteral.{RawLiteral}

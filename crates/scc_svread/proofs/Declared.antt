@@ -1,5 +1,5 @@
 -- Declarations: what the first walk asks of them, and that a scope then has each variable once.
-use Rattle.std.proofs.Common.{◌≡◌, ◌≢◌, ◌<◌, ◌+◌, ◌-◌, ◌^◌, inl, inr, ◌⊎◌, ℕ, zero, suc, min, nat_le, Bool, true, false, not, ◌&&◌, cond, List, [], ◌∷◌, ◌++◌, length, map, decimal, refl, sym, ap, subst, ◌∙◌, arith}
+use Rattle.std.proofs.Common.{◌≡◌, ◌<◌, ◌+◌, ◌-◌, inl, inr, ◌⊎◌, ℕ, zero, suc, nat_le, Bool, true, false, not, cond, List, [], ◌∷◌, ◌++◌, length, map, decimal, refl, sym, ap, subst, ◌∙◌, arith}
 use Rattle.std.specs.Prelude.{Option, Some, None, bytes_eq, if◌then◌else◌}
 use Rattle.std.proofs.lemmas.Slice.Eq.{bytes_eq-Decides}
 use Rattle.std.proofs.lemmas.Bool.{le-leb, leb-true, leb-false, both_ways}
@@ -7,18 +7,17 @@ use Rattle.scc_svtree.specs.declared.module.SvVar.{SvVar}
 use Rattle.scc_svtree.specs.Variables.{width_at, IsWidth}
 use Rattle.scc_svtree.specs.Sound.{Each, is_simple, IsNotNamed, AreNamed}
 use Rattle.scc_svraw.specs.declared.raw.RawVar.{RawVar}
-use Rattle.scc_svraw.specs.Lexical.{Bytes, number}
-use Rattle.scc_svraw.proofs.Runs.{and_left, and_right}
+use Rattle.scc_svraw.specs.Lexical.{Bytes}
+use Rattle.scc_svraw.proofs.Runs.{and_right}
 use Rattle.scc_svcheck.specs.Scope.{Scope, number_in, is_width, entry_of, put, high_in, high_of, once_more, declare, declare_all, is_named, is_declared}
-use Rattle.scc_svcheck.specs.Walking.{◌then◌, pass, size_if, name_if}
+use Rattle.scc_svcheck.specs.Walking.{◌then◌}
 use Rattle.scc_svcheck.specs.Blocks.{var_walk, range_bytes, dir_bytes}
 use Rattle.scc_svcheck.specs.First.{further_ports, ports_walk}
-use Rattle.scc_svread.specs.Resolved.{width_of, variable_of, named, with_names}
-use Rattle.scc_svread.specs.Written.{name_of, raw_high, raw_var}
+use Rattle.scc_svread.specs.Resolved.{width_of, variable_of, named}
+use Rattle.scc_svread.specs.Written.{name_of, raw_var}
 use Rattle.scc_svread.proofs.Clear.{Asks, asks_by, asks_pass, asks_then, asks_size, asks_name}
 use Rattle.scc_svread.proofs.Formed.{Declares}
 use Rattle.scc_svread.proofs.Decimals.{both, number_decimal}
-use Rattle.scc_svread.proofs.Distinct.{names_kept}
 use Rattle.scc_svread.proofs.Leaves.{bare_names, same_bytes, other_bytes}
 use Rattle.scc_svread.proofs.Variables.{back_variables}
 

@@ -1,7 +1,7 @@
 -- What `IsSound` says, in two parts: what one walk over the text asks, and what the other asks. With an order of the combinational
 -- blocks they are the whole.
 use Rattle.std.proofs.Common.{◌≡◌, ◌<◌, ◌-◌, ℕ, Bool, true, false, List, length}
-use Rattle.std.specs.Prelude.{Option, Some}
+use Rattle.std.specs.Prelude.{Some}
 use Rattle.scc_svtree.specs.declared.module.SvModule.{SvModule}
 use Rattle.scc_svtree.specs.declared.module.SvVar.{SvVar}
 use Rattle.scc_svtree.specs.Variables.{width_at, IsWidth}

@@ -1,13 +1,12 @@
 -- A text in which nothing is wrong is that of a module without faults, and in the text of such a module nothing is wrong.
-use Rattle.std.proofs.Common.{◌≡◌, ◌<◌, ◌-◌, inl, inr, ℕ, Bool, true, false, List, length, refl, sym, ap, subst, ◌∙◌, arith}
+use Rattle.std.proofs.Common.{◌≡◌, ◌<◌, inl, inr, ℕ, Bool, List, refl, sym, ap, subst, ◌∙◌, arith}
 use Rattle.std.specs.Prelude.{Option, Some, None, Result, Ok, Err, IfOk, IfErr}
 use Rattle.scc_base.specs.declared.refusal.Stop.{Stop}
 use Rattle.scc_base.specs.declared.refusal.Stop.TheVariants as stop
 use Rattle.scc_svtree.specs.declared.module.SvModule.{SvModule}
 use Rattle.scc_svtree.specs.Code.{Code}
 use Rattle.scc_svtree.specs.Settled.{combs_of, Order}
-use Rattle.scc_svtree.specs.Sound.{Each, IsSound}
-use Rattle.scc_svtext.specs.ModuleText.{module_text}
+use Rattle.scc_svtree.specs.Sound.{IsSound}
 use Rattle.scc_svtext.specs.Emitted.{SvReads}
 use Rattle.scc_svraw.specs.declared.halt.Halt.{Halt}
 use Rattle.scc_svraw.specs.declared.halt.Halt.TheVariants as halt
@@ -17,21 +16,20 @@ use Rattle.scc_svraw.specs.Grammar.{Reads}
 use Rattle.scc_svraw.specs.Levels.{deep}
 use Rattle.scc_svraw.specs.Claim.{Judged}
 use Rattle.scc_svraw.proofs.Whole as raw_whole
-use Rattle.scc_svcheck.specs.declared.walk.Walk.{Walk}
 use Rattle.scc_svcheck.specs.declared.wrong.Wrong.{Wrong}
 use Rattle.scc_svcheck.specs.Walking.{start}
 use Rattle.scc_svcheck.specs.First.{module_walk, first_in, wrong_of}
 use Rattle.scc_svcheck.specs.Drivers.{names_of, misplaced}
-use Rattle.scc_svorder.specs.Cycles.{Path, one, more, Feeds, Reaches, FirstCycle}
+use Rattle.scc_svorder.specs.Cycles.{one, more, Reaches, FirstCycle}
 use Rattle.scc_svread.specs.Written.{raw_of}
 use Rattle.scc_svread.specs.Resolved.{module_of}
 use Rattle.scc_svread.specs.Read.{stop_at, IsRight, IsFaulty, ReadAs, Answered, ReadBack}
 use Rattle.scc_svread.proofs.Clear.{IsClear}
-use Rattle.scc_svread.proofs.Formed.{Formed, Driven, formed_of, driven_of, sound_of}
+use Rattle.scc_svread.proofs.Formed.{formed_of, driven_of, sound_of}
 use Rattle.scc_svread.proofs.Noted.{no_size, levels_right}
 use Rattle.scc_svread.proofs.Modules.{reads_formed, back_module}
 use Rattle.scc_svread.proofs.RightModule.{module_quiet}
-use Rattle.scc_svread.proofs.MeantModule.{MeantModule, module_meant}
+use Rattle.scc_svread.proofs.MeantModule.{module_meant}
 use Rattle.scc_svread.proofs.DrivenModule.{driven_asks}
 
 -- ---- nothing is wrong

@@ -1,6 +1,6 @@
 -- Bytes that are read as a module, over which the walk over sizes and undeclared names notes nothing, are the text of the module that
 -- they say, whose names and sizes are right.
-use Rattle.std.proofs.Common.{◌≡◌, ◌<◌, ◌+◌, ◌-◌, ◌≤◌, ℕ, zero, suc, nat_le, Bool, true, false, List, [], ◌∷◌, ◌++◌, length, map, decimal, refl, sym, ap, subst, ◌∙◌, arith, append_assoc, append-nil}
+use Rattle.std.proofs.Common.{◌≡◌, ◌<◌, ◌+◌, ◌-◌, ◌≤◌, ℕ, zero, suc, nat_le, Bool, true, false, List, [], ◌∷◌, ◌++◌, length, map, decimal, refl, sym, ap, subst, ◌∙◌, arith}
 use Rattle.std.specs.Prelude.{codes, flat_map, Option, Some, None, if◌then◌else◌}
 use Rattle.std.proofs.lemmas.Bool.{leb-true, both_ways}
 use Rattle.scc_svtree.specs.declared.module.SvModule.{SvModule}
@@ -22,15 +22,15 @@ use Rattle.scc_svraw.specs.declared.raw.RawModule.{RawModule}
 use Rattle.scc_svraw.specs.Lexical.{Bytes, is_positive, ReadsName, ReadsRange}
 use Rattle.scc_svraw.proofs.Numbers.{positive_decimal}
 use Rattle.scc_svraw.proofs.Runs.{and_right}
-use Rattle.scc_svraw.specs.Grammar.{ReadsVar, ReadsPort, ReadsMorePorts, ReadsPorts, ReadsItems, ReadsModule, Reads, dir_of}
+use Rattle.scc_svraw.specs.Grammar.{ReadsVar, ReadsPort, ReadsMorePorts, ReadsPorts, ReadsItems, ReadsModule, Reads}
 use Rattle.scc_svcheck.specs.declared.walk.Walk.{Walk}
 use Rattle.scc_svcheck.specs.Numbers.{small_number}
-use Rattle.scc_svread.specs.Resolved.{width_of, variable_of, declared, blocks_in, variables_of, named, names_in, with_names, block_of, module_of}
+use Rattle.scc_svread.specs.Resolved.{width_of, variable_of, declared, blocks_in, named, names_in, with_names, block_of, module_of}
 use Rattle.scc_svcheck.specs.Scope.{Scope, number_in, is_width, high_in, high_of, declare, declare_all}
-use Rattle.scc_svcheck.specs.Walking.{Walking, ◌then◌, pass, start}
+use Rattle.scc_svcheck.specs.Walking.{◌then◌, pass, start}
 use Rattle.scc_svcheck.specs.Blocks.{var_walk, block_walk}
-use Rattle.scc_svcheck.specs.First.{ports_walk, items_walk, names_with, scope_of, module_walk}
-use Rattle.scc_svread.proofs.Clear.{IsClear, Asks, Keeps}
+use Rattle.scc_svcheck.specs.First.{ports_walk, items_walk, scope_of, module_walk}
+use Rattle.scc_svread.proofs.Clear.{IsClear}
 use Rattle.scc_svread.proofs.Formed.{Formed, Declares}
 use Rattle.scc_svread.proofs.Declared as decl
 use Rattle.scc_svread.proofs.Declared.{AreDeclared, var_asks, ports_asks}

@@ -1,16 +1,13 @@
 -- What the walk over drivers has noted, it keeps; so where it notes nothing, each reset's condition is that of its edge.
 use Rattle.std.proofs.Common.{◌≡◌, ℕ, Bool, true, false, ◌+◌, ◌||◌, List, [], ◌∷◌, length, map, refl, sym, subst, ◌∙◌}
-use Rattle.std.specs.Prelude.{Option, Some, None}
+use Rattle.std.specs.Prelude.{Some, None}
 use Rattle.scc_svtree.specs.Sound.{Each}
 use Rattle.scc_svtext.specs.ExprText.{binary_text}
 use Rattle.scc_svtext.specs.Pieces.{spelled}
 use Rattle.scc_svraw.specs.declared.raw.RawLiteral.{RawLiteral}
-use Rattle.scc_svraw.specs.declared.raw.RawLeft.{RawLeft}
 use Rattle.scc_svraw.specs.declared.raw.RawExpr.{RawExpr}
 use Rattle.scc_svraw.specs.declared.raw.RawExpr.TheVariants as e
-use Rattle.scc_svraw.specs.declared.raw.RawExpr.TheOpen as raw
 use Rattle.scc_svraw.specs.declared.raw.RawStmt.{RawStmt}
-use Rattle.scc_svraw.specs.declared.raw.RawStmt.TheOpen as raw_stmt
 use Rattle.scc_svraw.specs.declared.raw.RawArm.{RawArm}
 use Rattle.scc_svraw.specs.declared.raw.RawSet.{RawSet}
 use Rattle.scc_svraw.specs.declared.raw.RawLoad.{RawLoad}
@@ -19,7 +16,7 @@ use Rattle.scc_svraw.specs.declared.raw.RawBlock.{RawBlock}
 use Rattle.scc_svraw.specs.declared.raw.RawBlock.TheVariants.{Comb, Edge}
 use Rattle.scc_svraw.specs.declared.raw.RawVar.{RawVar}
 use Rattle.scc_svraw.specs.declared.raw.RawItem.{RawItem}
-use Rattle.scc_svraw.specs.declared.raw.RawItem.TheVariants.{Var, Block}
+use Rattle.scc_svraw.specs.declared.raw.RawItem.TheVariants.{Block}
 use Rattle.scc_svraw.specs.declared.raw.RawModule.{RawModule}
 use Rattle.scc_svraw.specs.Lexical.{Bytes}
 use Rattle.scc_svraw.specs.Grammar.{ReadsDivisor, ReadsExpr, ReadsParts, ReadsStmt, ReadsStmts, ReadsArms, ReadsSets, ReadsBlock, ReadsItems, ReadsModule, Reads}
@@ -32,9 +29,9 @@ use Rattle.scc_svread.specs.Resolved.{blocks_in}
 use Rattle.scc_svcheck.specs.Walking.{Walking, ◌then◌, mark, pass, name_if, deeper, start}
 use Rattle.scc_svcheck.specs.Parts.{literal_bytes, select_bytes, sign_bytes}
 use Rattle.scc_svcheck.specs.Mentioned.{Names, block_assigned}
-use Rattle.scc_svcheck.specs.Within.{Known, known, mention, left_mention, is_early, parts_names, expr_node_names, expr_names, Own, Chosen, inner, is_wrong_left, assign_names, other_names, arms_names, stmt_node_names, arm_node_names, stmt_names, chosen_of, whole_after, own_lines}
+use Rattle.scc_svcheck.specs.Within.{Known, known, mention, is_early, parts_names, expr_node_names, expr_names, Own, Chosen, inner, is_wrong_left, other_names, arms_names, stmt_node_names, arm_node_names, stmt_names, chosen_of, whole_after, own_lines}
 use Rattle.scc_svcheck.specs.Blocks.{dir_bytes}
-use Rattle.scc_svcheck.specs.Drivers.{anywhere, is_undriven, var_names, further_names, ports_names, is_wrong_target, set_names, sets_names, behind, is_out_of_order, left_over, load_names, loads_names, is_wrong_level, is_wrong_signal, is_wrong_clock, reset_names, edge_names, comb_names, block_names, taken_behind, item_walk, items_walk, nothing, facts_of, names_of}
+use Rattle.scc_svcheck.specs.Drivers.{anywhere, is_undriven, var_names, further_names, ports_names, is_wrong_target, sets_names, behind, is_out_of_order, left_over, loads_names, is_wrong_level, is_wrong_signal, is_wrong_clock, block_names, taken_behind, items_walk, nothing, facts_of, names_of}
 use Rattle.scc_svread.proofs.Clear.{none_left, none_right, unmarked}
 use Rattle.scc_svread.proofs.RawFolds.{at_literal, at_left, at_unary, at_binary, at_cond, at_concat, at_cast, at_sign, at_assign, at_if, at_case, at_arm}
 

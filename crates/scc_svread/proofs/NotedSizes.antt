@@ -1,12 +1,10 @@
 -- What the walk over sizes and undeclared names has noted, it keeps.
-use Rattle.std.proofs.Common.{◌≡◌, ℕ, Bool, true, false, not, ◌+◌, ◌&&◌, ◌||◌, List, [], ◌∷◌, length, map, sym, subst}
-use Rattle.std.specs.Prelude.{Option, Some, None}
+use Rattle.std.proofs.Common.{◌≡◌, ℕ, Bool, true, false, not, ◌+◌, ◌&&◌, List, [], ◌∷◌, length, map, sym, subst}
+use Rattle.std.specs.Prelude.{Option}
 use Rattle.scc_svtext.specs.ExprText.{binary_text}
-use Rattle.scc_svtext.specs.Pieces.{spelled}
 use Rattle.scc_svraw.specs.declared.raw.RawLiteral.{RawLiteral}
 use Rattle.scc_svraw.specs.declared.raw.RawExpr.{RawExpr}
 use Rattle.scc_svraw.specs.declared.raw.RawExpr.TheVariants as e
-use Rattle.scc_svraw.specs.declared.raw.RawExpr.TheOpen.{RawExpr-F}
 use Rattle.scc_svraw.specs.declared.raw.RawStmt.{RawStmt}
 use Rattle.scc_svraw.specs.declared.raw.RawArm.{RawArm}
 use Rattle.scc_svraw.specs.declared.raw.RawSet.{RawSet}
@@ -14,9 +12,9 @@ use Rattle.scc_svraw.specs.declared.raw.RawLoad.{RawLoad}
 use Rattle.scc_svraw.specs.declared.raw.RawBlock.{RawBlock}
 use Rattle.scc_svraw.specs.Lexical.{Bytes}
 use Rattle.scc_svraw.specs.Grammar.{is_division, ReadsDivisor, ReadsExpr, ReadsParts, ReadsStmt, ReadsStmts, ReadsArms, ReadsSets, ReadsBlock}
-use Rattle.scc_svcheck.specs.Walking.{Walking, ◌then◌, pass, deeper}
+use Rattle.scc_svcheck.specs.Walking.{deeper}
 use Rattle.scc_svcheck.specs.Scope.{Scope, number_in, is_width, is_wrong_literal, once}
-use Rattle.scc_svcheck.specs.Parts.{Part, is_wrong_length, literal_bytes, select_bytes, sign_bytes, is_wrong_part, is_missing, name_walk, left_walk, literal_walk, parts_walk, measured, literal_part, left_part, unary_part, binary_part, cond_part, concat_part, cast_part, sign_part, node_part, part_of}
+use Rattle.scc_svcheck.specs.Parts.{Part, is_wrong_length, literal_bytes, select_bytes, sign_bytes, is_wrong_part, is_missing, name_walk, parts_walk, measured, literal_part, left_part, unary_part, binary_part, cond_part, concat_part, cast_part, sign_part, node_part, part_of}
 use Rattle.scc_svcheck.specs.Lines.{Line, Choice, lines, other_line, is_wrong_label, with_label, choices, stmt_node, arm_node, line_of, choice_of}
 use Rattle.scc_svcheck.specs.Blocks.{set_line, is_wrong_load, load_line, level_walk, block_walk}
 use Rattle.scc_svread.proofs.Clear.{Keeps, keeps_pass, keeps_none, keeps_name, keeps_size, keeps_whole, ◌also◌}

@@ -1,5 +1,5 @@
 -- The walk over sizes and undeclared names notes nothing in a module as it is written, where its parts are right.
-use Rattle.std.proofs.Common.{◌≡◌, ◌<◌, ℕ, Bool, true, List, [], ◌∷◌, ◌++◌, length, map, sym, ap, subst, ◌∙◌, refl}
+use Rattle.std.proofs.Common.{◌≡◌, ◌<◌, ℕ, true, List, [], ◌∷◌, ◌++◌, length, map, sym, ap, subst, ◌∙◌, refl}
 use Rattle.scc_svtree.specs.declared.module.SvModule.{SvModule}
 use Rattle.scc_svtree.specs.declared.module.SvVar.{SvVar}
 use Rattle.scc_svtree.specs.declared.module.SvBlock.{SvBlock}
@@ -8,7 +8,6 @@ use Rattle.scc_svtree.specs.Concats.{block_concats}
 use Rattle.scc_svtree.specs.Sound.{Each, IsSizedBlock, block_names}
 use Rattle.scc_svtext.specs.Pieces.{spelled}
 use Rattle.scc_svraw.specs.declared.raw.RawVar.{RawVar}
-use Rattle.scc_svraw.specs.declared.raw.RawBlock.{RawBlock}
 use Rattle.scc_svraw.specs.declared.raw.RawItem.{RawItem}
 use Rattle.scc_svraw.specs.declared.raw.RawItem.TheVariants.{Var, Block}
 use Rattle.scc_svcheck.specs.declared.walk.Walk.{Walk}
@@ -18,7 +17,7 @@ use Rattle.scc_svcheck.specs.Walking.{Walking, pass, start}
 use Rattle.scc_svcheck.specs.Blocks.{var_walk, block_walk}
 use Rattle.scc_svcheck.specs.First.{ports_walk, items_walk, names_with, scope_of, module_walk}
 use Rattle.scc_svread.specs.Written.{raw_var, raw_block, raw_of}
-use Rattle.scc_svread.proofs.Clear.{IsClear, Asks}
+use Rattle.scc_svread.proofs.Clear.{IsClear}
 use Rattle.scc_svread.proofs.Formed.{Formed, Declares}
 use Rattle.scc_svread.proofs.Declared.{AreDeclared, var_asks, ports_asks, split, declare_append, declared_written, declares_written}
 use Rattle.scc_svread.proofs.Variables.{variables_all, blocks_all}
