@@ -46,7 +46,7 @@ ReadsDecimal ts r n = (ts ≡ n ++ r) × (is_decimal n ≡ true)
 abbrev pub digits_of : Bytes → ℕ
 digits_of width = (number width + 3) / 4
 
--- A literal: its width, and as many digits of base 16 as that has (IEEE 1800-2017, 5.7.1).
+-- A literal (IEEE 1800-2017, 5.7.1): its width, and as many digits of base 16 as that has, of which the standard lets some be left out.
 abbrev pub ReadsLiteral : Bytes → Bytes → RawLiteral → Type 0
 ReadsLiteral ts r l = (ts ≡ l.width ++ (codes "'h" ++ (l.digits ++ r))) × (is_decimal l.width ≡ true) × (all_pass is_hex_digit l.digits ≡ true) × (length l.digits ≡ digits_of l.width)
 

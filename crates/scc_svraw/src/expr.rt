@@ -1,16 +1,21 @@
-//! Reads expressions.
-ghost use Rattle.std.specs.Prelude.{◌≡◌, ◌∷◌, [], IfOk};
+//! Reads expressions. What an arm does beside its recursion stands in functions of their own, which are `#[inline(never)]` for the
+//! sake of small frames, as the arms are themselves.
+ghost use Rattle.std.specs.Prelude.{◌≡◌, IfOk};
+ghost use Rattle.scc_reading.specs.Reading.{◌>>=◌ as followed_by, pure};
 ghost use Rattle.scc_svraw.specs.Answer.{Gives};
+ghost use Rattle.scc_svraw.specs.Leaves as leaves;
 ghost use Rattle.scc_svraw.specs.Reader as reader;
+ghost use Rattle.scc_svraw.specs.declared.raw.RawExpr.TheVariants as node;
 
 use crate::bytes;
 use crate::bytes::{begins_digit, begins_divisor, begins_expr, text};
 use crate::halt::Halt;
+use crate::held::{Node, Nodes};
 use crate::lexical::{decimal, digits_behind, left, literal};
 use crate::operator::{begins_unary, is_division, operator, unary};
-use crate::raw::RawExpr;
-use scc_base::{Boxed, List, NoMemory, Text};
-use scc_svtree::SvBinary;
+use crate::raw::{RawExpr, RawLeft, RawLiteral};
+use scc_base::{Boxed, NoMemory, Text};
+use scc_svtree::{SvBinary, SvUnary};
 use std::alloc::Global;
 
 #[tactic(auto, unfolding(crate::specs::Reader::number_at))]
@@ -69,19 +74,99 @@ fn open_divisor(alloc: Global, levels: u32, ts: &[u8]) -> Result<(RawExpr, &[u8]
 }
 
 // The right operand of a division and the bracket behind it.
+#[inline(never)]
 #[tactic(auto, unfolding(crate::specs::Reader::closed_divisor))]
-fn closed_divisor(alloc: Global, levels: u32, ts: &[u8]) -> Result<(Boxed<RawExpr>, &[u8]), Halt>
+fn closed_divisor(alloc: Global, levels: u32, ts: &[u8]) -> Result<(Node<RawExpr>, &[u8]), Halt>
     ensures { Gives (λ x. (x.0, x.1.now)) result (reader.closed_divisor (reader.inner levels) ts.now) }
 {
     let (right, rest) = open_divisor(alloc, levels, ts)?;
-    let right = Boxed::new(alloc, right)?;
+    let right = Node::new(alloc, right)?;
     let (_, rest) = text(b")", rest)?;
     Ok((right, rest))
 }
 
+#[inline(never)]
+fn literal_node(alloc: Global, l: RawLiteral) -> Result<Node<RawExpr>, NoMemory>
+    ensures { IfOk result (λ e. e ≡ node.Literal l) }
+{
+    Node::new(alloc, RawExpr::Literal(l))
+}
+
+#[inline(never)]
+fn left_node(alloc: Global, l: RawLeft) -> Result<Node<RawExpr>, NoMemory>
+    ensures { IfOk result (λ e. e ≡ node.Left l) }
+{
+    Node::new(alloc, RawExpr::Left(l))
+}
+
+#[inline(never)]
+fn unary_node(alloc: Global, op: SvUnary, of: Node<RawExpr>) -> Result<Node<RawExpr>, NoMemory>
+    ensures { IfOk result (λ e. e ≡ node.Unary op of) }
+{
+    let of = of.into_boxed();
+    Node::new(alloc, RawExpr::Unary { op, of })
+}
+
+#[inline(never)]
+fn binary_node(
+    alloc: Global,
+    op: SvBinary,
+    left: Node<RawExpr>,
+    right: Node<RawExpr>,
+) -> Result<Node<RawExpr>, NoMemory>
+    ensures { IfOk result (λ e. e ≡ node.Binary op left right) }
+{
+    let (left, right) = (left.into_boxed(), right.into_boxed());
+    Node::new(alloc, RawExpr::Binary { op, left, right })
+}
+
+#[inline(never)]
+fn cond_node(
+    alloc: Global,
+    test: Node<RawExpr>,
+    yes: Node<RawExpr>,
+    no: Node<RawExpr>,
+) -> Result<Node<RawExpr>, NoMemory>
+    ensures { IfOk result (λ e. e ≡ node.Cond test yes no) }
+{
+    let (test, yes, no) = (test.into_boxed(), yes.into_boxed(), no.into_boxed());
+    Node::new(alloc, RawExpr::Cond { test, yes, no })
+}
+
+#[inline(never)]
+fn concat_node(alloc: Global, all: Nodes<RawExpr>) -> Result<Node<RawExpr>, NoMemory>
+    ensures { IfOk result (λ e. e ≡ node.Concat all) }
+{
+    Node::new(alloc, RawExpr::Concat(all.into_list()))
+}
+
+#[inline(never)]
+fn cast_node(alloc: Global, width: Text, of: Node<RawExpr>) -> Result<Node<RawExpr>, NoMemory>
+    ensures { IfOk result (λ e. e ≡ node.Cast width of) }
+{
+    let of = of.into_boxed();
+    Node::new(alloc, RawExpr::Cast { width, of })
+}
+
+#[inline(never)]
+fn sign_node(alloc: Global, signed: bool, of: Node<RawExpr>) -> Result<Node<RawExpr>, NoMemory>
+    ensures { IfOk result (λ e. e ≡ node.Sign signed of) }
+{
+    let of = of.into_boxed();
+    Node::new(alloc, RawExpr::Sign { signed, of })
+}
+
 /// An expression, which opens a level, of which so many are left.
-#[cycle(reading)]
 pub fn open_expr(alloc: Global, levels: u32, ts: &[u8]) -> Result<(RawExpr, &[u8]), Halt>
+    ensures { Gives (λ x. (x.0, x.1.now)) result ((reader.inner levels).expr ts.now) }
+{
+    let (of, rest) = open_node(alloc, levels, ts)?;
+    Ok((of.into_inner(), rest))
+}
+
+/// An expression on the heap, which opens a level.
+#[cycle(reading)]
+pub fn open_node(alloc: Global, levels: u32, ts: &[u8]) -> Result<(Node<RawExpr>, &[u8]), Halt>
     ensures { Gives (λ x. (x.0, x.1.now)) result ((reader.inner levels).expr ts.now) }
 {
     if levels > 0 {
@@ -93,23 +178,24 @@ pub fn open_expr(alloc: Global, levels: u32, ts: &[u8]) -> Result<(RawExpr, &[u8
     Err(Halt::Unexpected(ts.len()))
 }
 
-#[cycle(reading)]
-fn open_boxed(alloc: Global, levels: u32, ts: &[u8]) -> Result<(Boxed<RawExpr>, &[u8]), Halt>
-    ensures { Gives (λ x. (x.0, x.1.now)) result ((reader.inner levels).expr ts.now) }
-{
-    let (of, rest) = open_expr(alloc, levels, ts)?;
-    Ok((Boxed::new(alloc, of)?, rest))
-}
-
 // An expression and the bracket that closes it.
 #[tactic(auto, unfolding(crate::specs::Reader::closed_expr))]
 #[cycle(reading)]
-fn closed_expr(alloc: Global, levels: u32, ts: &[u8]) -> Result<(Boxed<RawExpr>, &[u8]), Halt>
+fn closed_expr(alloc: Global, levels: u32, ts: &[u8]) -> Result<(Node<RawExpr>, &[u8]), Halt>
     ensures { Gives (λ x. (x.0, x.1.now)) result (reader.closed_expr (reader.inner levels) ts.now) }
 {
-    let (of, rest) = open_boxed(alloc, levels, ts)?;
+    let (of, rest) = open_node(alloc, levels, ts)?;
     let (_, rest) = text(b")", rest)?;
     Ok((of, rest))
+}
+
+// The literal of a width, from behind the `'h`.
+#[inline(never)]
+fn hex_behind(alloc: Global, width: Text, ts: &[u8]) -> Result<(Node<RawExpr>, &[u8]), Halt>
+    ensures { Gives (λ x. (x.0, x.1.now)) result (followed_by (leaves.digits_behind width) (λ l. pure (node.Literal l)) ts.now) }
+{
+    let (l, rest) = digits_behind(alloc, width, ts)?;
+    Ok((literal_node(alloc, l)?, rest))
 }
 
 // A literal or a cast, from behind its width.
@@ -120,52 +206,53 @@ fn behind_width(
     levels: u32,
     width: Text,
     ts: &[u8],
-) -> Result<(RawExpr, &[u8]), Halt>
+) -> Result<(Node<RawExpr>, &[u8]), Halt>
     ensures { Gives (λ x. (x.0, x.1.now)) result (reader.behind_width (reader.inner levels) width ts.now) }
 {
     let (_, rest) = text(b"'", ts)?;
     if bytes::is_next(104, rest) {
         let (_, rest) = text(b"h", rest)?;
-        let (l, rest) = digits_behind(alloc, width, rest)?;
-        return Ok((RawExpr::Literal(l), rest));
+        return hex_behind(alloc, width, rest);
     }
     let (_, rest) = text(b"(", rest)?;
     let (of, rest) = closed_expr(alloc, levels, rest)?;
-    Ok((RawExpr::Cast { width, of }, rest))
+    Ok((cast_node(alloc, width, of)?, rest))
 }
 
+#[inline(never)]
 #[tactic(auto, unfolding(crate::specs::Reader::sized))]
 #[cycle(reading)]
-fn sized(alloc: Global, levels: u32, ts: &[u8]) -> Result<(RawExpr, &[u8]), Halt>
+fn sized(alloc: Global, levels: u32, ts: &[u8]) -> Result<(Node<RawExpr>, &[u8]), Halt>
     ensures { Gives (λ x. (x.0, x.1.now)) result (reader.sized (reader.inner levels) ts.now) }
 {
     let (width, rest) = decimal(alloc, ts)?;
     behind_width(alloc, levels, width, rest)
 }
 
+#[inline(never)]
 #[tactic(auto, unfolding(crate::specs::Reader::sign))]
 #[cycle(reading)]
-fn sign(alloc: Global, levels: u32, ts: &[u8]) -> Result<(RawExpr, &[u8]), Halt>
+fn sign(alloc: Global, levels: u32, ts: &[u8]) -> Result<(Node<RawExpr>, &[u8]), Halt>
     ensures { Gives (λ x. (x.0, x.1.now)) result (reader.sign (reader.inner levels) ts.now) }
 {
     let (_, rest) = text(b"$", ts)?;
     if bytes::is_next(115, rest) {
         let (_, rest) = text(b"signed(", rest)?;
         let (of, rest) = closed_expr(alloc, levels, rest)?;
-        return Ok((RawExpr::Sign { signed: true, of }, rest));
+        return Ok((sign_node(alloc, true, of)?, rest));
     }
     let (_, rest) = text(b"unsigned(", rest)?;
     let (of, rest) = closed_expr(alloc, levels, rest)?;
-    Ok((RawExpr::Sign { signed: false, of }, rest))
+    Ok((sign_node(alloc, false, of)?, rest))
 }
 
 // A further part of a concatenation.
 #[cycle(reading)]
-fn further(alloc: Global, levels: u32, ts: &[u8]) -> Result<(RawExpr, &[u8]), Halt>
+fn further(alloc: Global, levels: u32, ts: &[u8]) -> Result<(Node<RawExpr>, &[u8]), Halt>
     ensures { Gives (λ x. (x.0, x.1.now)) result (reader.further (reader.inner levels) ts.now) }
 {
     let (_, rest) = text(b", ", ts)?;
-    open_expr(alloc, levels, rest)
+    open_node(alloc, levels, rest)
 }
 
 // Further parts of a concatenation, behind those before them.
@@ -173,9 +260,9 @@ fn further(alloc: Global, levels: u32, ts: &[u8]) -> Result<(RawExpr, &[u8]), Ha
 fn parts(
     alloc: Global,
     levels: u32,
-    front: List<RawExpr>,
+    front: Nodes<RawExpr>,
     ts: &[u8],
-) -> Result<(List<RawExpr>, &[u8]), Halt>
+) -> Result<(Nodes<RawExpr>, &[u8]), Halt>
     ensures { Gives (λ x. (x.0, x.1.now)) result (reader.onto front (reader.parts (reader.inner levels)) ts.now) }
 {
     let mut found = front;
@@ -188,24 +275,15 @@ fn parts(
     Ok((found, rest))
 }
 
-// A list of one part.
-fn alone(alloc: Global, first: RawExpr) -> Result<List<RawExpr>, NoMemory>
-    ensures { IfOk result (λ l. l ≡ first ∷ []) }
-{
-    let mut list = List::new(alloc);
-    list.push(first)?;
-    Ok(list)
-}
-
 // The second part and the others.
 #[tactic(auto, unfolding(crate::specs::Reader::parts_behind))]
 #[cycle(reading)]
 fn parts_behind(
     alloc: Global,
     levels: u32,
-    front: List<RawExpr>,
+    front: Nodes<RawExpr>,
     ts: &[u8],
-) -> Result<(List<RawExpr>, &[u8]), Halt>
+) -> Result<(Nodes<RawExpr>, &[u8]), Halt>
     ensures { Gives (λ x. (x.0, x.1.now)) result (reader.parts_behind (reader.inner levels) front ts.now) }
 {
     let mut list = front;
@@ -214,16 +292,17 @@ fn parts_behind(
     parts(alloc, levels, list, rest)
 }
 
+#[inline(never)]
 #[tactic(auto, unfolding(crate::specs::Reader::concat))]
 #[cycle(reading)]
-fn concat(alloc: Global, levels: u32, ts: &[u8]) -> Result<(RawExpr, &[u8]), Halt>
+fn concat(alloc: Global, levels: u32, ts: &[u8]) -> Result<(Node<RawExpr>, &[u8]), Halt>
     ensures { Gives (λ x. (x.0, x.1.now)) result (reader.concat (reader.inner levels) ts.now) }
 {
     let (_, rest) = text(b"{", ts)?;
-    let (first, rest) = open_expr(alloc, levels, rest)?;
-    let (all, rest) = parts_behind(alloc, levels, alone(alloc, first)?, rest)?;
+    let (first, rest) = open_node(alloc, levels, rest)?;
+    let (all, rest) = parts_behind(alloc, levels, Nodes::alone(alloc, first)?, rest)?;
     let (_, rest) = text(b"}", rest)?;
-    Ok((RawExpr::Concat(all), rest))
+    Ok((concat_node(alloc, all)?, rest))
 }
 
 // The last part of a `?:`.
@@ -232,29 +311,30 @@ fn concat(alloc: Global, levels: u32, ts: &[u8]) -> Result<(RawExpr, &[u8]), Hal
 fn cond_last(
     alloc: Global,
     levels: u32,
-    test: Boxed<RawExpr>,
-    yes: Boxed<RawExpr>,
+    test: Node<RawExpr>,
+    yes: Node<RawExpr>,
     ts: &[u8],
-) -> Result<(RawExpr, &[u8]), Halt>
+) -> Result<(Node<RawExpr>, &[u8]), Halt>
     ensures { Gives (λ x. (x.0, x.1.now)) result (reader.cond_last (reader.inner levels) test yes ts.now) }
 {
     let (_, rest) = text(b" : ", ts)?;
     let (no, rest) = closed_expr(alloc, levels, rest)?;
-    Ok((RawExpr::Cond { test, yes, no }, rest))
+    Ok((cond_node(alloc, test, yes, no)?, rest))
 }
 
+#[inline(never)]
 #[tactic(auto, unfolding(crate::specs::Reader::cond_behind))]
 #[cycle(reading)]
 fn cond_behind(
     alloc: Global,
     levels: u32,
-    test: Boxed<RawExpr>,
+    test: Node<RawExpr>,
     ts: &[u8],
-) -> Result<(RawExpr, &[u8]), Halt>
+) -> Result<(Node<RawExpr>, &[u8]), Halt>
     ensures { Gives (λ x. (x.0, x.1.now)) result (reader.cond_behind (reader.inner levels) test ts.now) }
 {
     let (_, rest) = text(b"? ", ts)?;
-    let (yes, rest) = open_boxed(alloc, levels, rest)?;
+    let (yes, rest) = open_node(alloc, levels, rest)?;
     cond_last(alloc, levels, test, yes, rest)
 }
 
@@ -266,7 +346,7 @@ fn right_of(
     levels: u32,
     op: SvBinary,
     ts: &[u8],
-) -> Result<(Boxed<RawExpr>, &[u8]), Halt>
+) -> Result<(Node<RawExpr>, &[u8]), Halt>
     ensures { Gives (λ x. (x.0, x.1.now)) result (reader.right_of (reader.inner levels) op ts.now) }
 {
     if is_division(op) {
@@ -275,20 +355,21 @@ fn right_of(
     closed_expr(alloc, levels, ts)
 }
 
+#[inline(never)]
 #[tactic(auto, unfolding(crate::specs::Reader::binary_behind))]
 #[cycle(reading)]
 fn binary_behind(
     alloc: Global,
     levels: u32,
-    left: Boxed<RawExpr>,
+    left: Node<RawExpr>,
     ts: &[u8],
-) -> Result<(RawExpr, &[u8]), Halt>
+) -> Result<(Node<RawExpr>, &[u8]), Halt>
     ensures { Gives (λ x. (x.0, x.1.now)) result (reader.binary_behind (reader.inner levels) left ts.now) }
 {
     let (op, rest) = operator(ts)?;
     let (_, rest) = text(b" ", rest)?;
     let (right, rest) = right_of(alloc, levels, op, rest)?;
-    Ok((RawExpr::Binary { op, left, right }, rest))
+    Ok((binary_node(alloc, op, left, right)?, rest))
 }
 
 #[tactic(auto, unfolding(crate::specs::Reader::behind_first))]
@@ -296,9 +377,9 @@ fn binary_behind(
 fn behind_first(
     alloc: Global,
     levels: u32,
-    left: Boxed<RawExpr>,
+    left: Node<RawExpr>,
     ts: &[u8],
-) -> Result<(RawExpr, &[u8]), Halt>
+) -> Result<(Node<RawExpr>, &[u8]), Halt>
     ensures { Gives (λ x. (x.0, x.1.now)) result (reader.behind_first (reader.inner levels) left ts.now) }
 {
     if bytes::is_next(63, ts) {
@@ -309,27 +390,28 @@ fn behind_first(
 
 #[tactic(auto, unfolding(crate::specs::Reader::operated))]
 #[cycle(reading)]
-fn operated(alloc: Global, levels: u32, ts: &[u8]) -> Result<(RawExpr, &[u8]), Halt>
+fn operated(alloc: Global, levels: u32, ts: &[u8]) -> Result<(Node<RawExpr>, &[u8]), Halt>
     ensures { Gives (λ x. (x.0, x.1.now)) result (reader.operated (reader.inner levels) ts.now) }
 {
-    let (left, rest) = open_boxed(alloc, levels, ts)?;
+    let (left, rest) = open_node(alloc, levels, ts)?;
     let (_, rest) = text(b" ", rest)?;
     behind_first(alloc, levels, left, rest)
 }
 
 #[tactic(auto, unfolding(crate::specs::Reader::unary_at))]
 #[cycle(reading)]
-fn unary_at(alloc: Global, levels: u32, ts: &[u8]) -> Result<(RawExpr, &[u8]), Halt>
+fn unary_at(alloc: Global, levels: u32, ts: &[u8]) -> Result<(Node<RawExpr>, &[u8]), Halt>
     ensures { Gives (λ x. (x.0, x.1.now)) result (reader.unary_at (reader.inner levels) ts.now) }
 {
     let (op, rest) = unary(ts)?;
     let (of, rest) = closed_expr(alloc, levels, rest)?;
-    Ok((RawExpr::Unary { op, of }, rest))
+    Ok((unary_node(alloc, op, of)?, rest))
 }
 
+#[inline(never)]
 #[tactic(auto, unfolding(crate::specs::Reader::bracketed))]
 #[cycle(reading)]
-fn bracketed(alloc: Global, levels: u32, ts: &[u8]) -> Result<(RawExpr, &[u8]), Halt>
+fn bracketed(alloc: Global, levels: u32, ts: &[u8]) -> Result<(Node<RawExpr>, &[u8]), Halt>
     ensures { Gives (λ x. (x.0, x.1.now)) result (reader.bracketed (reader.inner levels) ts.now) }
 {
     let (_, rest) = text(b"(", ts)?;
@@ -339,17 +421,18 @@ fn bracketed(alloc: Global, levels: u32, ts: &[u8]) -> Result<(RawExpr, &[u8]), 
     operated(alloc, levels, rest)
 }
 
+#[inline(never)]
 #[tactic(auto, unfolding(crate::specs::Reader::left_expr))]
-fn left_expr(alloc: Global, ts: &[u8]) -> Result<(RawExpr, &[u8]), Halt>
+fn left_expr(alloc: Global, ts: &[u8]) -> Result<(Node<RawExpr>, &[u8]), Halt>
     ensures { Gives (λ x. (x.0, x.1.now)) result (reader.left_expr ts.now) }
 {
     let (l, rest) = left(alloc, ts)?;
-    Ok((RawExpr::Left(l), rest))
+    Ok((left_node(alloc, l)?, rest))
 }
 
 #[tactic(auto, unfolding(crate::specs::Reader::expr))]
 #[cycle(reading)]
-fn expr(alloc: Global, levels: u32, ts: &[u8]) -> Result<(RawExpr, &[u8]), Halt>
+fn expr(alloc: Global, levels: u32, ts: &[u8]) -> Result<(Node<RawExpr>, &[u8]), Halt>
     ensures { Gives (λ x. (x.0, x.1.now)) result (reader.expr (reader.inner levels) ts.now) }
 {
     if begins_digit(ts) {

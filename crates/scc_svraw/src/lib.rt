@@ -5,6 +5,7 @@ mod block;
 mod bytes;
 mod expr;
 mod halt;
+mod held;
 mod laws;
 mod lexical;
 mod module;

@@ -1,21 +1,26 @@
-//! Reads statements.
-ghost use Rattle.std.specs.Prelude.{◌≡◌, ◌∷◌, [], ◌+◌, ◌*◌, ◌<◌, ◌^◌, IfOk};
+//! Reads statements. What an arm does beside its recursion stands in functions of their own, which are `#[inline(never)]` for the
+//! sake of small frames, as the arms are themselves.
+ghost use Rattle.std.specs.Prelude.{◌≡◌, ◌+◌, ◌*◌, ◌<◌, ◌^◌, IfOk};
+ghost use Rattle.scc_reading.specs.Reading.{◌>>=◌ as followed_by, pure};
 ghost use Rattle.scc_svraw.specs.Answer.{Gives};
 ghost use Rattle.scc_svraw.specs.Grammar as grammar;
 ghost use Rattle.scc_svraw.specs.Leaves as leaves;
 ghost use Rattle.scc_svraw.specs.Reader as reader;
+ghost use Rattle.scc_svraw.specs.declared.raw.RawStmt.TheVariants as node;
 ghost use Rattle.scc_svtext.specs.Pieces as pieces;
 
 use crate::bytes;
 use crate::bytes::{begins_name, text};
-use crate::expr::open_expr;
+use crate::expr::open_node;
 use crate::halt::Halt;
+use crate::held::{Node, Nodes};
 use crate::lexical::{left, left_behind, literal, named, plain_word};
-use crate::raw::{RawArm, RawExpr, RawLeft, RawStmt};
+use crate::raw::{RawArm, RawExpr, RawLeft, RawLiteral, RawStmt};
 use scc_base::{List, NoMemory, Text};
 use std::alloc::Global;
 
 /// So many blanks.
+#[inline(never)]
 pub fn blanks(n: u32, ts: &[u8]) -> Result<((), &[u8]), Halt>
     ensures { Gives (λ x. (x.0, x.1.now)) result (leaves.text (pieces.blanks n) ts.now) }
 {
@@ -29,30 +34,83 @@ pub fn blanks(n: u32, ts: &[u8]) -> Result<((), &[u8]), Halt>
     Ok(((), rest))
 }
 
+#[inline(never)]
+fn assign_node(
+    alloc: Global,
+    left: RawLeft,
+    value: Node<RawExpr>,
+) -> Result<Node<RawStmt>, NoMemory>
+    ensures { IfOk result (λ s. s ≡ node.Assign left value) }
+{
+    let value = value.into_inner();
+    Node::new(alloc, RawStmt::Assign { left, value })
+}
+
+#[inline(never)]
+fn if_node(
+    alloc: Global,
+    test: Node<RawExpr>,
+    yes: Nodes<RawStmt>,
+    no: Nodes<RawStmt>,
+) -> Result<Node<RawStmt>, NoMemory>
+    ensures { IfOk result (λ s. s ≡ node.If test yes no) }
+{
+    let test = test.into_inner();
+    let (yes, no) = (yes.into_list(), no.into_list());
+    Node::new(alloc, RawStmt::If { test, yes, no })
+}
+
+#[inline(never)]
+fn case_node(
+    alloc: Global,
+    of: Node<RawExpr>,
+    arms: Nodes<RawArm>,
+) -> Result<Node<RawStmt>, NoMemory>
+    ensures { IfOk result (λ s. s ≡ node.Case of arms) }
+{
+    let of = of.into_inner();
+    let arms = arms.into_list();
+    Node::new(alloc, RawStmt::Case { of, arms })
+}
+
+#[inline(never)]
+fn arm_node(
+    alloc: Global,
+    label: RawLiteral,
+    body: Nodes<RawStmt>,
+) -> Result<Node<RawArm>, NoMemory>
+    ensures { IfOk result (λ a. a ≡ grammar.arm label body) }
+{
+    let body = body.into_list();
+    Node::new(alloc, RawArm { label, body })
+}
+
 // The end of an assignment.
+#[inline(never)]
 #[tactic(auto, unfolding(crate::specs::Reader::value_behind))]
 fn value_behind(
     alloc: Global,
     levels: u32,
     left: RawLeft,
     ts: &[u8],
-) -> Result<(RawStmt, &[u8]), Halt>
+) -> Result<(Node<RawStmt>, &[u8]), Halt>
     ensures { Gives (λ x. (x.0, x.1.now)) result (reader.value_behind (reader.inner levels) left ts.now) }
 {
     let (_, rest) = text(b" = ", ts)?;
-    let (value, rest) = open_expr(alloc, levels, rest)?;
+    let (value, rest) = open_node(alloc, levels, rest)?;
     let (_, rest) = text(b";\n", rest)?;
-    Ok((RawStmt::Assign { left, value }, rest))
+    Ok((assign_node(alloc, left, value)?, rest))
 }
 
 // An assignment from behind its first word.
+#[inline(never)]
 #[tactic(auto, unfolding(crate::specs::Reader::assign_behind))]
 fn assign_behind(
     alloc: Global,
     levels: u32,
     word: Text,
     ts: &[u8],
-) -> Result<(RawStmt, &[u8]), Halt>
+) -> Result<(Node<RawStmt>, &[u8]), Halt>
     ensures { Gives (λ x. (x.0, x.1.now)) result (reader.assign_behind (reader.inner levels) word ts.now) }
 {
     let (w, rest) = named(word, ts)?;
@@ -60,18 +118,33 @@ fn assign_behind(
     value_behind(alloc, levels, l, rest)
 }
 
+// An assignment to an escaped name.
+#[inline(never)]
+fn escaped_assign(alloc: Global, levels: u32, ts: &[u8]) -> Result<(Node<RawStmt>, &[u8]), Halt>
+    ensures { Gives (λ x. (x.0, x.1.now)) result (followed_by leaves.left (reader.value_behind (reader.inner levels)) ts.now) }
+{
+    let (l, rest) = left(alloc, ts)?;
+    value_behind(alloc, levels, l, rest)
+}
+
 // The test of an `if` or what a `case` selects, from behind the word.
+#[inline(never)]
 #[tactic(auto, unfolding(crate::specs::Reader::test_at))]
-fn test_at(alloc: Global, levels: u32, ts: &[u8]) -> Result<(RawExpr, &[u8]), Halt>
+fn test_at(alloc: Global, levels: u32, ts: &[u8]) -> Result<(Node<RawExpr>, &[u8]), Halt>
     ensures { Gives (λ x. (x.0, x.1.now)) result (reader.test_at (reader.inner levels) ts.now) }
 {
     let (_, rest) = text(b" (", ts)?;
-    open_expr(alloc, levels, rest)
+    open_node(alloc, levels, rest)
 }
 
 /// A statement behind so many blanks, which opens a level.
 #[cycle(reading_stmt)]
-fn open_stmt(alloc: Global, levels: u32, indent: u32, ts: &[u8]) -> Result<(RawStmt, &[u8]), Halt>
+fn open_stmt(
+    alloc: Global,
+    levels: u32,
+    indent: u32,
+    ts: &[u8],
+) -> Result<(Node<RawStmt>, &[u8]), Halt>
     requires room { indent + 4 * levels < 2 ^ 20 }
     ensures { Gives (λ x. (x.0, x.1.now)) result ((reader.inner levels).stmt indent ts.now) }
 {
@@ -87,7 +160,7 @@ fn open_stmt(alloc: Global, levels: u32, indent: u32, ts: &[u8]) -> Result<(RawS
 // A statement and the blanks before the next line.
 #[tactic(auto, unfolding(crate::specs::Reader::line))]
 #[cycle(reading_stmt)]
-fn line(alloc: Global, levels: u32, outer: u32, ts: &[u8]) -> Result<(RawStmt, &[u8]), Halt>
+fn line(alloc: Global, levels: u32, outer: u32, ts: &[u8]) -> Result<(Node<RawStmt>, &[u8]), Halt>
     requires room { outer + 2 + 4 * levels < 2 ^ 20 }
     ensures { Gives (λ x. (x.0, x.1.now)) result (reader.line (reader.inner levels) outer ts.now) }
 {
@@ -103,9 +176,9 @@ fn more_stmts(
     alloc: Global,
     levels: u32,
     outer: u32,
-    front: List<RawStmt>,
+    front: Nodes<RawStmt>,
     ts: &[u8],
-) -> Result<(List<RawStmt>, &[u8]), Halt>
+) -> Result<(Nodes<RawStmt>, &[u8]), Halt>
     requires room { outer + 2 + 4 * levels < 2 ^ 20 }
     ensures { Gives (λ x. (x.0, x.1.now)) result (reader.onto front (reader.stmts (reader.inner levels) outer) ts.now) }
 {
@@ -120,8 +193,6 @@ fn more_stmts(
 }
 
 /// Statements.
-#[tactic(auto, using(crate::proofs::Turns::nothing_onto))]
-#[cycle(reading_stmt)]
 pub fn stmts(
     alloc: Global,
     levels: u32,
@@ -131,16 +202,18 @@ pub fn stmts(
     requires room { outer + 2 + 4 * levels < 2 ^ 20 }
     ensures { Gives (λ x. (x.0, x.1.now)) result (reader.stmts (reader.inner levels) outer ts.now) }
 {
-    more_stmts(alloc, levels, outer, List::new(alloc), ts)
+    let (all, rest) = body(alloc, levels, outer, ts)?;
+    Ok((all.into_list(), rest))
 }
 
-// A list of one statement.
-fn alone(alloc: Global, first: RawStmt) -> Result<List<RawStmt>, NoMemory>
-    ensures { IfOk result (λ l. l ≡ first ∷ []) }
+// The same, as they are held.
+#[tactic(auto, using(crate::proofs::Turns::nothing_onto))]
+#[cycle(reading_stmt)]
+fn body(alloc: Global, levels: u32, outer: u32, ts: &[u8]) -> Result<(Nodes<RawStmt>, &[u8]), Halt>
+    requires room { outer + 2 + 4 * levels < 2 ^ 20 }
+    ensures { Gives (λ x. (x.0, x.1.now)) result (reader.stmts (reader.inner levels) outer ts.now) }
 {
-    let mut list = List::new(alloc);
-    list.push(first)?;
-    Ok(list)
+    more_stmts(alloc, levels, outer, Nodes::new(alloc), ts)
 }
 
 // The statements behind a first one, and their end.
@@ -150,13 +223,13 @@ fn stmts_behind(
     alloc: Global,
     levels: u32,
     outer: u32,
-    first: RawStmt,
+    first: Node<RawStmt>,
     ts: &[u8],
-) -> Result<(List<RawStmt>, &[u8]), Halt>
+) -> Result<(Nodes<RawStmt>, &[u8]), Halt>
     requires room { outer + 2 + 4 * levels < 2 ^ 20 }
     ensures { Gives (λ x. (x.0, x.1.now)) result (reader.stmts_behind (reader.inner levels) outer first ts.now) }
 {
-    let (all, rest) = more_stmts(alloc, levels, outer, alone(alloc, first)?, ts)?;
+    let (all, rest) = more_stmts(alloc, levels, outer, Nodes::alone(alloc, first)?, ts)?;
     let (_, rest) = text(b"end\n", rest)?;
     Ok((all, rest))
 }
@@ -164,7 +237,7 @@ fn stmts_behind(
 // The other branch of an `if`, from behind the `end` of the first.
 #[tactic(auto, unfolding(crate::specs::Reader::other))]
 #[cycle(reading_stmt)]
-fn other(alloc: Global, levels: u32, outer: u32, ts: &[u8]) -> Result<(List<RawStmt>, &[u8]), Halt>
+fn other(alloc: Global, levels: u32, outer: u32, ts: &[u8]) -> Result<(Nodes<RawStmt>, &[u8]), Halt>
     requires room { outer + 2 + 4 * levels < 2 ^ 20 }
     ensures { Gives (λ x. (x.0, x.1.now)) result (reader.other (reader.inner levels) outer ts.now) }
 {
@@ -182,36 +255,37 @@ fn behind_end(
     levels: u32,
     outer: u32,
     ts: &[u8],
-) -> Result<(List<RawStmt>, &[u8]), Halt>
+) -> Result<(Nodes<RawStmt>, &[u8]), Halt>
     requires room { outer + 2 + 4 * levels < 2 ^ 20 }
     ensures { Gives (λ x. (x.0, x.1.now)) result (reader.behind_end (reader.inner levels) outer ts.now) }
 {
     if bytes::is_next(10, ts) {
         let (_, rest) = text(b"\n", ts)?;
-        return Ok((List::new(alloc), rest));
+        return Ok((Nodes::new(alloc), rest));
     }
     other(alloc, levels, outer, ts)
 }
 
 // The branches of an `if`.
+#[inline(never)]
 #[tactic(auto, unfolding(crate::specs::Reader::branches))]
 #[cycle(reading_stmt)]
 fn branches(
     alloc: Global,
     levels: u32,
     outer: u32,
-    test: RawExpr,
+    test: Node<RawExpr>,
     ts: &[u8],
-) -> Result<(RawStmt, &[u8]), Halt>
+) -> Result<(Node<RawStmt>, &[u8]), Halt>
     requires room { outer + 2 + 4 * levels < 2 ^ 20 }
     ensures { Gives (λ x. (x.0, x.1.now)) result (reader.branches (reader.inner levels) outer test ts.now) }
 {
     let (_, rest) = text(b") begin\n", ts)?;
     let (_, rest) = blanks(outer, rest)?;
-    let (yes, rest) = stmts(alloc, levels, outer, rest)?;
+    let (yes, rest) = body(alloc, levels, outer, rest)?;
     let (_, rest) = text(b"end", rest)?;
     let (no, rest) = behind_end(alloc, levels, outer, rest)?;
-    Ok((RawStmt::If { test, yes, no }, rest))
+    Ok((if_node(alloc, test, yes, no)?, rest))
 }
 
 // The body of an arm, from behind its label.
@@ -222,36 +296,41 @@ fn arm_body(
     levels: u32,
     outer: u32,
     ts: &[u8],
-) -> Result<(List<RawStmt>, &[u8]), Halt>
+) -> Result<(Nodes<RawStmt>, &[u8]), Halt>
     requires room { outer + 4 + 4 * levels < 2 ^ 20 }
     ensures { Gives (λ x. (x.0, x.1.now)) result (reader.arm_body (reader.inner levels) outer ts.now) }
 {
     let (_, rest) = text(b": begin\n", ts)?;
     let (_, rest) = blanks(outer + 2, rest)?;
-    let (body, rest) = stmts(alloc, levels, outer + 2, rest)?;
+    let (body, rest) = body(alloc, levels, outer + 2, rest)?;
     let (_, rest) = text(b"end\n", rest)?;
     let (_, rest) = blanks(outer, rest)?;
     Ok((body, rest))
 }
 
 #[cycle(reading_stmt)]
-fn arm_line(alloc: Global, levels: u32, outer: u32, ts: &[u8]) -> Result<(RawArm, &[u8]), Halt>
+fn arm_line(
+    alloc: Global,
+    levels: u32,
+    outer: u32,
+    ts: &[u8],
+) -> Result<(Node<RawArm>, &[u8]), Halt>
     requires room { outer + 4 + 4 * levels < 2 ^ 20 }
     ensures { Gives (λ x. (x.0, x.1.now)) result (reader.arm_line (reader.inner levels) outer ts.now) }
 {
     let (_, rest) = text(b"  ", ts)?;
     let (label, rest) = literal(alloc, rest)?;
     let (body, rest) = arm_body(alloc, levels, outer, rest)?;
-    Ok((RawArm { label, body }, rest))
+    Ok((arm_node(alloc, label, body)?, rest))
 }
 
 #[tactic(auto, unfolding(crate::specs::Reader::arms))]
 #[cycle(reading_stmt)]
-fn arms(alloc: Global, levels: u32, outer: u32, ts: &[u8]) -> Result<(List<RawArm>, &[u8]), Halt>
+fn arms(alloc: Global, levels: u32, outer: u32, ts: &[u8]) -> Result<(Nodes<RawArm>, &[u8]), Halt>
     requires room { outer + 4 + 4 * levels < 2 ^ 20 }
     ensures { Gives (λ x. (x.0, x.1.now)) result (reader.arms (reader.inner levels) outer ts.now) }
 {
-    let mut found = List::new(alloc);
+    let mut found = Nodes::new(alloc);
     let mut rest = ts;
     while bytes::is_next(32, rest) {
         let (next, after) = arm_line(alloc, levels, outer, rest)?;
@@ -261,15 +340,16 @@ fn arms(alloc: Global, levels: u32, outer: u32, ts: &[u8]) -> Result<(List<RawAr
     Ok((found, rest))
 }
 
+#[inline(never)]
 #[tactic(auto, unfolding(crate::specs::Reader::case_behind))]
 #[cycle(reading_stmt)]
 fn case_behind(
     alloc: Global,
     levels: u32,
     outer: u32,
-    of: RawExpr,
+    of: Node<RawExpr>,
     ts: &[u8],
-) -> Result<(RawStmt, &[u8]), Halt>
+) -> Result<(Node<RawStmt>, &[u8]), Halt>
     requires room { outer + 4 + 4 * levels < 2 ^ 20 }
     ensures { Gives (λ x. (x.0, x.1.now)) result (reader.case_behind (reader.inner levels) outer of ts.now) }
 {
@@ -277,7 +357,7 @@ fn case_behind(
     let (_, rest) = blanks(outer, rest)?;
     let (arms, rest) = arms(alloc, levels, outer, rest)?;
     let (_, rest) = text(b"endcase\n", rest)?;
-    Ok((RawStmt::Case { of, arms }, rest))
+    Ok((case_node(alloc, of, arms)?, rest))
 }
 
 // A statement from behind its first word.
@@ -289,7 +369,7 @@ fn behind_word(
     indent: u32,
     word: Text,
     ts: &[u8],
-) -> Result<(RawStmt, &[u8]), Halt>
+) -> Result<(Node<RawStmt>, &[u8]), Halt>
     requires room { indent + 4 + 4 * levels < 2 ^ 20 }
     ensures { Gives (λ x. (x.0, x.1.now)) result (reader.behind_word (reader.inner levels) indent word ts.now) }
 {
@@ -306,13 +386,12 @@ fn behind_word(
 
 #[tactic(auto, unfolding(crate::specs::Reader::stmt))]
 #[cycle(reading_stmt)]
-fn stmt(alloc: Global, levels: u32, indent: u32, ts: &[u8]) -> Result<(RawStmt, &[u8]), Halt>
+fn stmt(alloc: Global, levels: u32, indent: u32, ts: &[u8]) -> Result<(Node<RawStmt>, &[u8]), Halt>
     requires room { indent + 4 + 4 * levels < 2 ^ 20 }
     ensures { Gives (λ x. (x.0, x.1.now)) result (reader.stmt (reader.inner levels) indent ts.now) }
 {
     if bytes::is_next(92, ts) {
-        let (l, rest) = left(alloc, ts)?;
-        return value_behind(alloc, levels, l, rest);
+        return escaped_assign(alloc, levels, ts);
     }
     let (w, rest) = plain_word(alloc, ts)?;
     behind_word(alloc, levels, indent, w, rest)

@@ -5,16 +5,16 @@ use Rattle.scc_svraw.specs.Reader.{inner, begins_expr, onto, parts}
 use Rattle.scc_svraw.proofs.Turns.{turns_parts, left_expr, none_left}
 use Rattle.scc_svraw.proofs.expr.+reading.Goals as goal
 
-pub open_expr-returns-then-levels-gt0 : goal.open_expr-returns-then-levels-gt0
-open_expr-returns-then-levels-gt0 t c = rw (left_expr c.args.levels c.args.ts.now c.if-levels-gt0.true) c.expr.ensures
+pub open_node-returns-then-levels-gt0 : goal.open_node-returns-then-levels-gt0
+open_node-returns-then-levels-gt0 t c = rw (left_expr c.args.levels c.args.ts.now c.if-levels-gt0.true) c.expr.ensures
 
-pub open_expr-returns-then-begins_expr : goal.open_expr-returns-then-begins_expr
+pub open_node-returns-then-begins_expr : goal.open_node-returns-then-begins_expr
 unfolding inner
-open_expr-returns-then-begins_expr t c = (c.args.ts.now, rw (none_left c.args.levels c.if-levels-gt0.false) (is_deep begins_expr c.args.ts.now (sym c.begins_expr.ensures ∙ c.if-begins_expr.true)), refl)
+open_node-returns-then-begins_expr t c = (c.args.ts.now, rw (none_left c.args.levels c.if-levels-gt0.false) (is_deep begins_expr c.args.ts.now (sym c.begins_expr.ensures ∙ c.if-begins_expr.true)), refl)
 
-pub open_expr-returns : goal.open_expr-returns
+pub open_node-returns : goal.open_node-returns
 unfolding inner
-open_expr-returns t c = (c.args.ts.now, rw (none_left c.args.levels c.if-levels-gt0.false) (is_stuck begins_expr c.args.ts.now (sym c.begins_expr.ensures ∙ c.if-begins_expr.false)), refl)
+open_node-returns t c = (c.args.ts.now, rw (none_left c.args.levels c.if-levels-gt0.false) (is_stuck begins_expr c.args.ts.now (sym c.begins_expr.ensures ∙ c.if-begins_expr.false)), refl)
 
 pub parts-returns-in_err-next : goal.parts-returns-in_err-next
 unfolding parts onto

@@ -4,11 +4,8 @@ use Rattle.scc_reading.proofs.Loop.{before}
 use Rattle.scc_svraw.specs.Reader as p
 use Rattle.scc_svraw.proofs.expr.+reading.Given as goal
 
-abbrev pub decreases-open_expr : goal.decreases-open_expr
-decreases-open_expr l = 64 * l.levels + 0
-
-abbrev pub decreases-open_boxed : goal.decreases-open_boxed
-decreases-open_boxed l = 64 * l.levels + 1
+abbrev pub decreases-open_node : goal.decreases-open_node
+decreases-open_node l = 64 * l.levels + 0
 
 abbrev pub decreases-closed_expr : goal.decreases-closed_expr
 decreases-closed_expr l = 64 * l.levels + 2

@@ -13,8 +13,8 @@ decreases-line l = 64 * l.levels + 1
 abbrev pub decreases-more_stmts : goal.decreases-more_stmts
 decreases-more_stmts l = 64 * l.levels + 2
 
-abbrev pub decreases-stmts : goal.decreases-stmts
-decreases-stmts l = 64 * l.levels + 3
+abbrev pub decreases-body : goal.decreases-body
+decreases-body l = 64 * l.levels + 3
 
 abbrev pub decreases-other : goal.decreases-other
 decreases-other l = 64 * l.levels + 5
