@@ -1,11 +1,11 @@
-ghost use Rattle.std.specs.Prelude.{◌≡◌};
+ghost use Rattle.std.specs.Prelude.{◌≡◌, None, Some};
 ghost use Rattle.scc_base.specs.declared.refusal.Stop.TheVariants as stop;
 
 use crate::{Code, NoMemory};
 use thiserror::Error;
 
 /// A place in a file: one of its bytes, or its end.
-#[derive(Clone, Copy, Debug, PartialEq, Eq)]
+#[derive(Clone, Copy, Debug, PartialEq, Eq, Hash)]
 pub struct Place {
     /// The file, counted from 0 in the order in which files were first asked for.
     pub file: u32,
@@ -32,6 +32,30 @@ pub enum Stop {
     /// Memory ran out.
     #[error("no memory")]
     NoMemory,
+}
+
+impl Stop {
+    /// The refusal of what stands at a place.
+    pub fn refused(code: Code, place: Place) -> Stop
+        ensures { result ≡ stop.Refused (record { code = code; place = place; other = None }) }
+    {
+        Stop::Refused(Refusal {
+            code,
+            place,
+            other: None,
+        })
+    }
+
+    /// The refusal of what stands at a place because of what stands at another.
+    pub fn refused_beside(code: Code, place: Place, other: Place) -> Stop
+        ensures { result ≡ stop.Refused (record { code = code; place = place; other = Some other }) }
+    {
+        Stop::Refused(Refusal {
+            code,
+            place,
+            other: Some(other),
+        })
+    }
 }
 
 impl From<NoMemory> for Stop {

@@ -1,4 +1,4 @@
-ghost use Rattle.std.specs.Prelude.{◌≡◌, [], ◌++◌, OnOk, OnErr};
+ghost use Rattle.std.specs.Prelude.{◌≡◌, [], ◌++◌, OnOk, OnErr, IfOk};
 
 use crate::NoMemory;
 use std::alloc::Global;
@@ -26,6 +26,15 @@ impl Text {
         Text {
             bytes: Vec::new(alloc),
         }
+    }
+
+    /// The text of some bytes.
+    pub fn from_bytes(alloc: Global, bytes: &[u8]) -> Result<Text, NoMemory>
+        ensures bytes { IfOk result (λ t. t ≡ bytes.now) }
+    {
+        Ok(Text {
+            bytes: Vec::from_slice(alloc, bytes)?,
+        })
     }
 
     /// Appends bytes. Where memory runs out, the text is as it was.
