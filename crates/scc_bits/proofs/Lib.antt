@@ -15,3 +15,4 @@ pub mod Fewest
 pub mod Lowered
 pub mod Standing
 pub mod Applied
+pub mod Valued

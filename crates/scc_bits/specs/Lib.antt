@@ -5,6 +5,7 @@ pub mod Groups
 pub mod Table
 pub mod Rows
 pub mod Counts
+pub mod Value
 pub mod Values
 pub mod Placed
 pub mod Standing

@@ -2,7 +2,7 @@ ghost use Rattle.std.specs.Prelude.{◌≡◌, ◌<◌, ◌^◌, ◌↔◌, IsTr
 ghost use Rattle.scc_bits.specs.Kinds.{IsValid, width_of, is_signed, Fits};
 
 /// The kind of a number (IEEE 1666-2011, section 7: data types).
-#[derive(Clone, Copy, Debug, PartialEq, Eq)]
+#[derive(Clone, Copy, Debug, PartialEq, Eq, Hash)]
 pub enum Kind {
     /// `bool`.
     Bool,
@@ -23,7 +23,7 @@ pub enum Kind {
 }
 
 /// The bits of a number, in the low bits of 128.
-#[derive(Clone, Copy, Debug, PartialEq, Eq)]
+#[derive(Clone, Copy, Debug, PartialEq, Eq, Hash)]
 pub struct Word {
     pub bits: u128,
 }

@@ -23,6 +23,7 @@ mod table;
 mod taken;
 #[cfg(test)]
 mod tests;
+mod value;
 #[cfg(test)]
 mod vectors;
 mod word;
@@ -44,3 +45,4 @@ pub use operation::{operate, takes_right};
 pub use result::{operand_kinds, result_kind, too_wide};
 pub use rule::{Rule, rule_of};
 pub use table::{Row, Table, find_rule, operators};
+pub use value::{Fault, JoinFault, Value};
