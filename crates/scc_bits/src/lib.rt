@@ -21,10 +21,6 @@ mod rows;
 mod rule;
 mod table;
 mod taken;
-#[cfg(test)]
-mod tests;
-#[cfg(test)]
-mod vectors;
 mod word;
 
 pub use application::apply;
