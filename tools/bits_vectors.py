@@ -1,10 +1,10 @@
 #!/usr/bin/env python3
-"""Writes the test vectors of the operator table, crates/scc_bits/src/vectors.rt.
+"""Writes the test vectors of the operator table, crates/scc_bits_tests/src/vectors.rt.
 
 Each vector is an operator, two kinds with a word of each, and the kind and word of the answer. The words are
 computed here on exact whole numbers, from the rules in docs/DEFINITIONS.md, and share nothing with the crate.
 
-    python3 tools/bits_vectors.py > crates/scc_bits/src/vectors.rt
+    python3 tools/bits_vectors.py > crates/scc_bits_tests/src/vectors.rt
 """
 from dataclasses import dataclass
 from fractions import Fraction
@@ -225,8 +225,7 @@ def main():
             kind, word = answer_kind(op, a, b), answer(op, a, x, b, y)
             rows.append(f"    {op}: {a.rust()}, {x:#x}, {b.rust()}, {y:#x} => {kind.rust()}, {word:#x};")
     print(f"""//! Vectors of the operator table. Written by tools/bits_vectors.py; don't edit.
-use crate::kind::Kind;
-use crate::op::Op;
+use scc_bits::{{Kind, Op}};
 
 /// An operator's operands and its answer.
 #[derive(Clone, Copy, Debug)]

@@ -21,11 +21,7 @@ mod rows;
 mod rule;
 mod table;
 mod taken;
-#[cfg(test)]
-mod tests;
 mod value;
-#[cfg(test)]
-mod vectors;
 mod word;
 
 pub use application::apply;

@@ -7,8 +7,6 @@ mod groups;
 mod ranks;
 mod reached;
 mod rows;
-#[cfg(test)]
-mod tests;
 mod var_lists;
 
 pub use cycles::{first_cycle, first_of};

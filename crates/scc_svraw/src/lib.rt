@@ -12,8 +12,6 @@ mod module;
 mod operator;
 mod raw;
 mod stmt;
-#[cfg(test)]
-mod tests;
 
 pub use halt::Halt;
 pub use laws::a_text_is_one_module;

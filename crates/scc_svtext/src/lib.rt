@@ -14,8 +14,6 @@ mod spelling;
 mod split;
 mod stmt;
 mod task;
-#[cfg(test)]
-mod tests;
 
 pub use keyword::{begins_reserved_word, is_reserved_word};
 pub use laws::a_module_has_one_text;

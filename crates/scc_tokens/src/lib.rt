@@ -22,8 +22,6 @@ mod piece;
 mod read;
 mod sides;
 mod slots;
-#[cfg(test)]
-mod tests;
 mod token;
 mod walk;
 mod words;
@@ -33,3 +31,4 @@ pub use joining::{JoinFault, Joined, join};
 pub use laws::{macros_are_expanded, parts_are_joined, text_has_one_reading};
 pub use lexer::lex;
 pub use token::{Token, TokenKind, Tokens};
+pub use words::{MARKS, WORDS};
