@@ -8,7 +8,8 @@ top=$(cd "$(dirname "$0")/.." && pwd)
 work=$(mktemp -d)
 trap 'rm -rf "$work"' EXIT
 mkdir -p "$work/crates/bench/src"
-for crate in scc_base scc_bits scc_reading scc_svtree scc_svtext scc_svraw scc_svorder scc_svcheck scc_svread; do
+for crate in scc_base scc_bits scc_reading scc_svtree scc_svtext scc_svgrammar scc_svraw scc_svorder scc_svcheck \
+  scc_svwritten scc_svsizes scc_svdrivers scc_svread; do
   cp -r "$top/crates/$crate" "$work/crates"
   grep "^$crate:" "$top/crates.txt" >>"$work/crates.txt"
 done

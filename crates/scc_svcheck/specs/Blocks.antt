@@ -3,14 +3,14 @@ use Rattle.std.specs.Prelude.{ℕ, ◌+◌, Bool, true, false, not, ◌||◌, Li
 use Rattle.scc_svtree.specs.declared.module.Dir.{Dir}
 use Rattle.scc_svtree.specs.declared.module.Dir.TheVariants.{Input, Output, Inner}
 use Rattle.scc_svtext.specs.Pieces.{spelled}
-use Rattle.scc_svraw.specs.declared.raw.RawSet.{RawSet}
-use Rattle.scc_svraw.specs.declared.raw.RawStmt.{RawStmt}
-use Rattle.scc_svraw.specs.declared.raw.RawLoad.{RawLoad}
-use Rattle.scc_svraw.specs.declared.raw.RawReset.{RawReset}
-use Rattle.scc_svraw.specs.declared.raw.RawBlock.{RawBlock}
-use Rattle.scc_svraw.specs.declared.raw.RawBlock.TheVariants.{Comb, Edge}
-use Rattle.scc_svraw.specs.declared.raw.RawVar.{RawVar}
-use Rattle.scc_svraw.specs.Lexical.{Bytes}
+use Rattle.scc_svgrammar.specs.declared.raw.RawSet.{RawSet}
+use Rattle.scc_svgrammar.specs.declared.raw.RawStmt.{RawStmt}
+use Rattle.scc_svgrammar.specs.declared.raw.RawLoad.{RawLoad}
+use Rattle.scc_svgrammar.specs.declared.raw.RawReset.{RawReset}
+use Rattle.scc_svgrammar.specs.declared.raw.RawBlock.{RawBlock}
+use Rattle.scc_svgrammar.specs.declared.raw.RawBlock.TheVariants.{Comb, Edge}
+use Rattle.scc_svgrammar.specs.declared.raw.RawVar.{RawVar}
+use Rattle.scc_svgrammar.specs.Lexical.{Bytes}
 use Rattle.scc_svcheck.specs.Scope.{Scope, high_of, is_width, is_wrong_literal, is_declared, once}
 use Rattle.scc_svcheck.specs.Walking.{Walking, ◌then◌, pass, size_if, name_if}
 use Rattle.scc_svcheck.specs.Parts.{cut, with_one, literal_bytes, name_walk, part_of}

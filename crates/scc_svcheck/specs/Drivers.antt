@@ -5,17 +5,17 @@ use Rattle.std.specs.Prelude.{ℕ, ◌+◌, nat_eq, Bool, true, false, not, ◌&
 use Rattle.scc_svtree.specs.declared.module.Dir.{Dir}
 use Rattle.scc_svtree.specs.declared.module.Dir.TheVariants.{Input, Output, Inner}
 use Rattle.scc_svtext.specs.Pieces.{spelled}
-use Rattle.scc_svraw.specs.declared.raw.RawSet.{RawSet}
-use Rattle.scc_svraw.specs.declared.raw.RawStmt.{RawStmt}
-use Rattle.scc_svraw.specs.declared.raw.RawLoad.{RawLoad}
-use Rattle.scc_svraw.specs.declared.raw.RawReset.{RawReset}
-use Rattle.scc_svraw.specs.declared.raw.RawBlock.{RawBlock}
-use Rattle.scc_svraw.specs.declared.raw.RawBlock.TheVariants.{Comb, Edge}
-use Rattle.scc_svraw.specs.declared.raw.RawVar.{RawVar}
-use Rattle.scc_svraw.specs.declared.raw.RawItem.{RawItem}
-use Rattle.scc_svraw.specs.declared.raw.RawItem.TheVariants.{Var, Block}
-use Rattle.scc_svraw.specs.declared.raw.RawModule.{RawModule}
-use Rattle.scc_svraw.specs.Lexical.{Bytes}
+use Rattle.scc_svgrammar.specs.declared.raw.RawSet.{RawSet}
+use Rattle.scc_svgrammar.specs.declared.raw.RawStmt.{RawStmt}
+use Rattle.scc_svgrammar.specs.declared.raw.RawLoad.{RawLoad}
+use Rattle.scc_svgrammar.specs.declared.raw.RawReset.{RawReset}
+use Rattle.scc_svgrammar.specs.declared.raw.RawBlock.{RawBlock}
+use Rattle.scc_svgrammar.specs.declared.raw.RawBlock.TheVariants.{Comb, Edge}
+use Rattle.scc_svgrammar.specs.declared.raw.RawVar.{RawVar}
+use Rattle.scc_svgrammar.specs.declared.raw.RawItem.{RawItem}
+use Rattle.scc_svgrammar.specs.declared.raw.RawItem.TheVariants.{Var, Block}
+use Rattle.scc_svgrammar.specs.declared.raw.RawModule.{RawModule}
+use Rattle.scc_svgrammar.specs.Lexical.{Bytes}
 use Rattle.scc_svcheck.specs.declared.facts.Facts.{Facts}
 use Rattle.scc_svcheck.specs.declared.facts.Taken.{Taken}
 use Rattle.scc_svcheck.specs.Scope.{high_of}

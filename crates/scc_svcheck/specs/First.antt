@@ -1,11 +1,11 @@
 -- What is wrong first in a module as it is written: a size, a name that is undeclared or declared twice, or a driver.
 use Rattle.std.specs.Prelude.{ℕ, ◌+◌, Bool, List, [], ◌∷◌, ◌++◌, length, Option, Some, None}
 use Rattle.scc_svtext.specs.Pieces.{spelled}
-use Rattle.scc_svraw.specs.declared.raw.RawVar.{RawVar}
-use Rattle.scc_svraw.specs.declared.raw.RawBlock.TheVariants.{Comb, Edge}
-use Rattle.scc_svraw.specs.declared.raw.RawItem.{RawItem}
-use Rattle.scc_svraw.specs.declared.raw.RawItem.TheVariants.{Var, Block}
-use Rattle.scc_svraw.specs.declared.raw.RawModule.{RawModule}
+use Rattle.scc_svgrammar.specs.declared.raw.RawVar.{RawVar}
+use Rattle.scc_svgrammar.specs.declared.raw.RawBlock.TheVariants.{Comb, Edge}
+use Rattle.scc_svgrammar.specs.declared.raw.RawItem.{RawItem}
+use Rattle.scc_svgrammar.specs.declared.raw.RawItem.TheVariants.{Var, Block}
+use Rattle.scc_svgrammar.specs.declared.raw.RawModule.{RawModule}
 use Rattle.scc_svcheck.specs.declared.walk.Walk.{Walk}
 use Rattle.scc_svcheck.specs.declared.wrong.Wrong.{Wrong}
 use Rattle.scc_svcheck.specs.declared.wrong.Wrong.TheVariants.{Size, Name, Driver}

@@ -1,12 +1,12 @@
 -- Wrong sizes and undeclared names of statements as they are written, from the first byte of their line on.
 use Rattle.std.specs.Prelude.{ℕ, ◌+◌, nat_eq, Bool, false, not, ◌||◌, if◌then◌else◌, List, [], ◌∷◌, ◌++◌, codes, bytes_eq, Option, Some, None}
 use Rattle.std.specs.List.{list_any}
-use Rattle.scc_svraw.specs.declared.raw.RawLiteral.{RawLiteral}
-use Rattle.scc_svraw.specs.declared.raw.RawStmt.{RawStmt, fold-RawStmt}
-use Rattle.scc_svraw.specs.declared.raw.RawArm.{RawArm, fold-RawArm}
-use Rattle.scc_svraw.specs.declared.raw.RawStmt.TheOpen.{RawStmt-F, RawArm-F}
-use Rattle.scc_svraw.specs.declared.raw.RawStmt.TheOpen as s
-use Rattle.scc_svraw.specs.Lexical.{Bytes}
+use Rattle.scc_svgrammar.specs.declared.raw.RawLiteral.{RawLiteral}
+use Rattle.scc_svgrammar.specs.declared.raw.RawStmt.{RawStmt, fold-RawStmt}
+use Rattle.scc_svgrammar.specs.declared.raw.RawArm.{RawArm, fold-RawArm}
+use Rattle.scc_svgrammar.specs.declared.raw.RawStmt.TheOpen.{RawStmt-F, RawArm-F}
+use Rattle.scc_svgrammar.specs.declared.raw.RawStmt.TheOpen as s
+use Rattle.scc_svgrammar.specs.Lexical.{Bytes}
 use Rattle.scc_svcheck.specs.Scope.{Scope, number_in, is_wrong_literal}
 use Rattle.scc_svcheck.specs.Walking.{Walking, ◌then◌, pass, size_if, deeper}
 use Rattle.scc_svcheck.specs.Parts.{Part, cut, literal_bytes, left_walk, part_of}

@@ -1,21 +1,21 @@
 -- Names that expressions read and statements assign, each once, behind those of a list.
 use Rattle.std.specs.Prelude.{Bool, if◌then◌else◌, List, [], ◌∷◌, ◌++◌, map, bytes_eq, Option, Some, None}
 use Rattle.std.specs.List.{list_any}
-use Rattle.scc_svraw.specs.declared.raw.RawExpr.{RawExpr, fold-RawExpr}
-use Rattle.scc_svraw.specs.declared.raw.RawExpr.TheOpen.{RawExpr-F}
-use Rattle.scc_svraw.specs.declared.raw.RawExpr.TheOpen as e
-use Rattle.scc_svraw.specs.declared.raw.RawStmt.{RawStmt, fold-RawStmt}
-use Rattle.scc_svraw.specs.declared.raw.RawArm.{RawArm, fold-RawArm}
-use Rattle.scc_svraw.specs.declared.raw.RawStmt.TheOpen.{RawStmt-F, RawArm-F}
-use Rattle.scc_svraw.specs.declared.raw.RawStmt.TheOpen as s
-use Rattle.scc_svraw.specs.declared.raw.RawSet.{RawSet}
-use Rattle.scc_svraw.specs.declared.raw.RawLoad.{RawLoad}
-use Rattle.scc_svraw.specs.declared.raw.RawReset.{RawReset}
-use Rattle.scc_svraw.specs.declared.raw.RawBlock.{RawBlock}
-use Rattle.scc_svraw.specs.declared.raw.RawBlock.TheVariants.{Comb, Edge}
-use Rattle.scc_svraw.specs.declared.raw.RawItem.{RawItem}
-use Rattle.scc_svraw.specs.declared.raw.RawItem.TheVariants.{Var, Block}
-use Rattle.scc_svraw.specs.Lexical.{Bytes}
+use Rattle.scc_svgrammar.specs.declared.raw.RawExpr.{RawExpr, fold-RawExpr}
+use Rattle.scc_svgrammar.specs.declared.raw.RawExpr.TheOpen.{RawExpr-F}
+use Rattle.scc_svgrammar.specs.declared.raw.RawExpr.TheOpen as e
+use Rattle.scc_svgrammar.specs.declared.raw.RawStmt.{RawStmt, fold-RawStmt}
+use Rattle.scc_svgrammar.specs.declared.raw.RawArm.{RawArm, fold-RawArm}
+use Rattle.scc_svgrammar.specs.declared.raw.RawStmt.TheOpen.{RawStmt-F, RawArm-F}
+use Rattle.scc_svgrammar.specs.declared.raw.RawStmt.TheOpen as s
+use Rattle.scc_svgrammar.specs.declared.raw.RawSet.{RawSet}
+use Rattle.scc_svgrammar.specs.declared.raw.RawLoad.{RawLoad}
+use Rattle.scc_svgrammar.specs.declared.raw.RawReset.{RawReset}
+use Rattle.scc_svgrammar.specs.declared.raw.RawBlock.{RawBlock}
+use Rattle.scc_svgrammar.specs.declared.raw.RawBlock.TheVariants.{Comb, Edge}
+use Rattle.scc_svgrammar.specs.declared.raw.RawItem.{RawItem}
+use Rattle.scc_svgrammar.specs.declared.raw.RawItem.TheVariants.{Var, Block}
+use Rattle.scc_svgrammar.specs.Lexical.{Bytes}
 
 abbrev pub Names : Type 0
 Names = List Bytes

@@ -1,6 +1,6 @@
 -- The numbers that digits stand for.
 use Rattle.std.specs.Prelude.{ℕ, ◌+◌, ◌-◌, ◌*◌, ◌^◌, min, nat_le, [], ◌∷◌, if◌then◌else◌}
-use Rattle.scc_svraw.specs.Lexical.{Bytes, number}
+use Rattle.scc_svgrammar.specs.Lexical.{Bytes, number}
 
 -- `0` to `9` and `a` to `f` (IEEE 1800-2017, 5.7.1)
 abbrev pub digit_value : ℕ → ℕ

@@ -8,15 +8,15 @@ use Rattle.scc_svtree.specs.declared.class.Class.TheVariants.{Context, Shift, Co
 use Rattle.scc_svtree.specs.Classes.{class_of}
 use Rattle.scc_svtext.specs.ExprText.{binary_text}
 use Rattle.scc_svtext.specs.Pieces.{spelled}
-use Rattle.scc_svraw.specs.declared.raw.RawLiteral.{RawLiteral}
-use Rattle.scc_svraw.specs.declared.raw.RawSelect.{RawSelect}
-use Rattle.scc_svraw.specs.declared.raw.RawSelect.TheVariants.{Whole, Bit, Range}
-use Rattle.scc_svraw.specs.declared.raw.RawLeft.{RawLeft}
-use Rattle.scc_svraw.specs.declared.raw.RawExpr.{RawExpr, fold-RawExpr}
-use Rattle.scc_svraw.specs.declared.raw.RawExpr.TheOpen.{RawExpr-F}
-use Rattle.scc_svraw.specs.declared.raw.RawExpr.TheOpen as e
-use Rattle.scc_svraw.specs.Grammar.{is_division}
-use Rattle.scc_svraw.specs.Lexical.{Bytes}
+use Rattle.scc_svgrammar.specs.declared.raw.RawLiteral.{RawLiteral}
+use Rattle.scc_svgrammar.specs.declared.raw.RawSelect.{RawSelect}
+use Rattle.scc_svgrammar.specs.declared.raw.RawSelect.TheVariants.{Whole, Bit, Range}
+use Rattle.scc_svgrammar.specs.declared.raw.RawLeft.{RawLeft}
+use Rattle.scc_svgrammar.specs.declared.raw.RawExpr.{RawExpr, fold-RawExpr}
+use Rattle.scc_svgrammar.specs.declared.raw.RawExpr.TheOpen.{RawExpr-F}
+use Rattle.scc_svgrammar.specs.declared.raw.RawExpr.TheOpen as e
+use Rattle.scc_svgrammar.specs.Grammar.{is_division}
+use Rattle.scc_svgrammar.specs.Lexical.{Bytes}
 use Rattle.scc_svcheck.specs.Walking.{Walking, ◌then◌, pass, size_if, name_if, size_of_whole}
 use Rattle.scc_svcheck.specs.Scope.{Scope, number_in, hex_in, is_width, is_wrong_literal, is_declared, once}
 

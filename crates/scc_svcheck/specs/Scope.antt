@@ -1,8 +1,8 @@
 -- The names of a module as it is written, and its numbers.
 use Rattle.std.specs.Prelude.{ℕ, ◌-◌, ◌^◌, min, nat_le, nat_lt, Bool, true, false, not, ◌&&◌, ◌||◌, if◌then◌else◌, List, [], ◌∷◌, bytes_eq, Option, Some, None}
-use Rattle.scc_svraw.specs.declared.raw.RawVar.{RawVar}
-use Rattle.scc_svraw.specs.declared.raw.RawLiteral.{RawLiteral}
-use Rattle.scc_svraw.specs.Lexical.{Bytes, number}
+use Rattle.scc_svgrammar.specs.declared.raw.RawVar.{RawVar}
+use Rattle.scc_svgrammar.specs.declared.raw.RawLiteral.{RawLiteral}
+use Rattle.scc_svgrammar.specs.Lexical.{Bytes, number}
 use Rattle.scc_svcheck.specs.Numbers.{word_number}
 
 -- ---- numbers

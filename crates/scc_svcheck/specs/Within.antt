@@ -2,18 +2,18 @@
 use Rattle.std.specs.Prelude.{ℕ, ◌+◌, Bool, true, false, not, ◌&&◌, ◌||◌, if◌then◌else◌, List, [], ◌∷◌, length}
 use Rattle.scc_svtext.specs.ExprText.{binary_text}
 use Rattle.scc_svtext.specs.Pieces.{spelled}
-use Rattle.scc_svraw.specs.declared.raw.RawLiteral.{RawLiteral}
-use Rattle.scc_svraw.specs.declared.raw.RawSelect.{RawSelect}
-use Rattle.scc_svraw.specs.declared.raw.RawSelect.TheVariants.{Whole, Bit, Range}
-use Rattle.scc_svraw.specs.declared.raw.RawLeft.{RawLeft}
-use Rattle.scc_svraw.specs.declared.raw.RawExpr.{RawExpr, fold-RawExpr}
-use Rattle.scc_svraw.specs.declared.raw.RawExpr.TheOpen.{RawExpr-F}
-use Rattle.scc_svraw.specs.declared.raw.RawExpr.TheOpen as e
-use Rattle.scc_svraw.specs.declared.raw.RawStmt.{RawStmt, fold-RawStmt}
-use Rattle.scc_svraw.specs.declared.raw.RawArm.{RawArm, fold-RawArm}
-use Rattle.scc_svraw.specs.declared.raw.RawStmt.TheOpen.{RawStmt-F, RawArm-F}
-use Rattle.scc_svraw.specs.declared.raw.RawStmt.TheOpen as s
-use Rattle.scc_svraw.specs.Lexical.{Bytes}
+use Rattle.scc_svgrammar.specs.declared.raw.RawLiteral.{RawLiteral}
+use Rattle.scc_svgrammar.specs.declared.raw.RawSelect.{RawSelect}
+use Rattle.scc_svgrammar.specs.declared.raw.RawSelect.TheVariants.{Whole, Bit, Range}
+use Rattle.scc_svgrammar.specs.declared.raw.RawLeft.{RawLeft}
+use Rattle.scc_svgrammar.specs.declared.raw.RawExpr.{RawExpr, fold-RawExpr}
+use Rattle.scc_svgrammar.specs.declared.raw.RawExpr.TheOpen.{RawExpr-F}
+use Rattle.scc_svgrammar.specs.declared.raw.RawExpr.TheOpen as e
+use Rattle.scc_svgrammar.specs.declared.raw.RawStmt.{RawStmt, fold-RawStmt}
+use Rattle.scc_svgrammar.specs.declared.raw.RawArm.{RawArm, fold-RawArm}
+use Rattle.scc_svgrammar.specs.declared.raw.RawStmt.TheOpen.{RawStmt-F, RawArm-F}
+use Rattle.scc_svgrammar.specs.declared.raw.RawStmt.TheOpen as s
+use Rattle.scc_svgrammar.specs.Lexical.{Bytes}
 use Rattle.scc_svcheck.specs.Walking.{Walking, ◌then◌, pass, name_if, deeper}
 use Rattle.scc_svcheck.specs.Parts.{literal_bytes, select_bytes, sign_bytes}
 use Rattle.scc_svcheck.specs.Lines.{Line}

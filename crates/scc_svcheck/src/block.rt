@@ -13,7 +13,7 @@ use crate::scope::Scope;
 use crate::stmt::stmts;
 use crate::walk::Walk;
 use scc_base::{List, NoMemory, Text};
-use scc_svraw::{RawBlock, RawLoad, RawReset, RawSet, RawStmt, RawVar};
+use scc_svgrammar::{RawBlock, RawLoad, RawReset, RawSet, RawStmt, RawVar};
 use scc_svtree::Dir;
 use std::alloc::Global;
 

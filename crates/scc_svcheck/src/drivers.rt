@@ -11,7 +11,7 @@ use crate::text_set::TextSet;
 use crate::walk::{START, Walk};
 use crate::within::{mention, own_level};
 use scc_base::{List, NoMemory};
-use scc_svraw::{RawBlock, RawItem, RawModule, RawStmt, RawVar};
+use scc_svgrammar::{RawBlock, RawItem, RawModule, RawStmt, RawVar};
 use std::alloc::Global;
 
 // Whether nothing drives a variable.

@@ -11,7 +11,7 @@ use crate::text_set::TextSet;
 use crate::walk::Walk;
 use crate::within::{Within, expr, mention};
 use scc_base::{NoMemory, Text};
-use scc_svraw::{RawLoad, RawReset, RawSet};
+use scc_svgrammar::{RawLoad, RawReset, RawSet};
 use std::alloc::Global;
 
 // Whether a target is an input, or is assigned elsewhere or before.

@@ -2,7 +2,7 @@
 ghost use Rattle.std.specs.Prelude.{◌≡◌, ◌+◌, ◌&&◌, false, not, max, map, length};
 ghost use Rattle.scc_svtree.specs.Classes.{class_of};
 ghost use Rattle.scc_svtext.specs.ExprText.{binary_text};
-ghost use Rattle.scc_svraw.specs.Grammar as grammar;
+ghost use Rattle.scc_svgrammar.specs.Grammar as grammar;
 ghost use Rattle.scc_svcheck.specs.Parts as parts;
 ghost use Rattle.scc_svcheck.specs.Scope as scopes;
 ghost use Rattle.scc_svcheck.specs.Seen.{measured_from, seen, whole_behind};
@@ -13,7 +13,7 @@ use crate::number::{decimal, hexadecimal, is_width};
 use crate::scope::Scope;
 use crate::walk::{Walk, first, mark};
 use scc_base::Text;
-use scc_svraw::{RawExpr, RawLeft, RawLiteral};
+use scc_svgrammar::{RawExpr, RawLeft, RawLiteral, is_division};
 use scc_svtree::{SvBinary, SvUnary};
 
 /// What is seen of an expression.
@@ -61,12 +61,6 @@ fn operator_bits(op: SvBinary, a: u32, b: u32) -> u32
         SvBinary::Eq | SvBinary::Ne | SvBinary::Lt | SvBinary::Le => 1,
         SvBinary::Gt | SvBinary::Ge | SvBinary::LogAnd | SvBinary::LogOr => 1,
     }
-}
-
-fn is_division(op: SvBinary) -> bool
-    ensures { result ≡ grammar.is_division op }
-{
-    matches!(op, SvBinary::Div | SvBinary::Rem)
 }
 
 fn unary_bits(op: SvUnary, a: Option<u32>) -> Option<u32>

@@ -7,7 +7,7 @@ use crate::mentioned::{items_assign, items_read};
 use crate::number::high_of;
 use crate::text_set::TextSet;
 use scc_base::NoMemory;
-use scc_svraw::{RawBlock, RawItem, RawModule, RawVar};
+use scc_svgrammar::{RawBlock, RawItem, RawModule, RawVar};
 use scc_svtree::Dir;
 use std::alloc::Global;
 

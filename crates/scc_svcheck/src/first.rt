@@ -13,7 +13,7 @@ use crate::scope::Scope;
 use crate::walk::{START, Walk};
 use crate::wrong::Wrong;
 use scc_base::{List, NoMemory};
-use scc_svraw::{RawBlock, RawItem, RawModule, RawVar};
+use scc_svgrammar::{RawBlock, RawItem, RawModule, RawVar};
 use std::alloc::Global;
 
 // A variable, which is declared then.

@@ -8,7 +8,7 @@ use crate::leaf::cut;
 use crate::number::{decimal, is_wrong_literal};
 use crate::text_set::TextSet;
 use scc_base::NoMemory;
-use scc_svraw::RawLiteral;
+use scc_svgrammar::RawLiteral;
 use std::alloc::Global;
 
 fn label_text(alloc: Global, l: &RawLiteral) -> Result<Vec<u8>, NoMemory>

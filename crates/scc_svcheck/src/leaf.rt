@@ -8,7 +8,7 @@ use crate::number::{decimal, is_wrong_literal};
 use crate::scope::Scope;
 use crate::walk::Walk;
 use scc_base::Text;
-use scc_svraw::{RawLeft, RawLiteral, RawSelect};
+use scc_svgrammar::{RawLeft, RawLiteral, RawSelect};
 use scc_svtext::is_reserved_word;
 
 /// A length, of which those past 128 are all alike.

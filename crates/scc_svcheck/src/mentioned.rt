@@ -4,7 +4,7 @@ ghost use Rattle.scc_svcheck.specs.Mentioned as names;
 
 use crate::text_set::TextSet;
 use scc_base::NoMemory;
-use scc_svraw::{RawArm, RawBlock, RawExpr, RawItem, RawLoad, RawReset, RawSet, RawStmt};
+use scc_svgrammar::{RawArm, RawBlock, RawExpr, RawItem, RawLoad, RawReset, RawSet, RawStmt};
 
 /// Adds what an expression reads.
 #[cycle(reads)]

@@ -3,7 +3,7 @@ ghost use Rattle.std.specs.Prelude.{◌≡◌, ◌≤◌, ◌^◌, ◌*◌, ◌+
 ghost use Rattle.scc_svcheck.specs.Numbers.{digit_value};
 ghost use Rattle.scc_svcheck.specs.Scope as scopes;
 
-use scc_svraw::{RawLiteral, RawVar};
+use scc_svgrammar::{RawLiteral, RawVar};
 
 // A number with one decimal digit more, cut at the greatest that is told from others.
 fn with_digit(n: u128, b: u8) -> u128

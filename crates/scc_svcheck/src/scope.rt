@@ -5,7 +5,7 @@ ghost use Rattle.scc_svcheck.specs.Scope.{declare, entry_of, is_declared, once, 
 use crate::number::high_of;
 use indexmap::IndexMap;
 use scc_base::NoMemory;
-use scc_svraw::RawVar;
+use scc_svgrammar::RawVar;
 use std::alloc::Global;
 use std::marker::Model;
 

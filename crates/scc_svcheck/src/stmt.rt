@@ -10,7 +10,7 @@ use crate::scope::Scope;
 use crate::text_set::TextSet;
 use crate::walk::Walk;
 use scc_base::NoMemory;
-use scc_svraw::{RawArm, RawStmt};
+use scc_svgrammar::{RawArm, RawStmt};
 use std::alloc::Global;
 
 /// The blanks before a line that stands further in.

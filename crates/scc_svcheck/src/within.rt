@@ -10,7 +10,7 @@ use crate::stmt::deeper;
 use crate::text_set::TextSet;
 use crate::walk::Walk;
 use scc_base::{NoMemory, Text};
-use scc_svraw::{RawArm, RawExpr, RawLeft, RawSelect, RawStmt};
+use scc_svgrammar::{RawArm, RawExpr, RawLeft, RawSelect, RawStmt};
 
 /// What is known of names at a place in a block: the inputs, what blocks before this one assign, what this block assigns, and
 /// what it has given a whole value at its own level.

@@ -1,4 +1,3 @@
-pub mod Trees
 pub mod Grown
 pub mod Mentioning
 pub mod Searching

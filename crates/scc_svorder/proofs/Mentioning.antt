@@ -18,7 +18,7 @@ use Rattle.scc_svtree.specs.Mentions.{reads, code_reads, arms_read, assigns, arm
 use Rattle.scc_svtree.specs.Sound.{Each}
 use Rattle.scc_svorder.specs.VarLists.{Further, each, read_by, read_node, read_in, read_in_arm, stmt_node_read, assigned_in, assigned_in_arm, stmt_node_assigned, arm_node, all_read, all_assigned}
 use Rattle.scc_svorder.specs.Fed.{has}
-use Rattle.scc_svorder.proofs.Trees.{made, expr_made, by_expr, arm_made, by_stmt}
+use Rattle.scc_svtree.proofs.Induction.{made, expr_made, by_expr, arm_made, by_stmt}
 
 pub or_none : (b : Bool) → b ≡ (b || false)
 or_none true = refl

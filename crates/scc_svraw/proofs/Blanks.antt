@@ -1,18 +1,19 @@
 -- Blanks, one by one.
-use Rattle.std.specs.Prelude.{◌≡◌, ℕ, zero, suc, ◌-◌, ◌<◌, ◌≤◌, [], ◌∷◌, replicate, Ok, Err, refl}
+use Rattle.std.specs.Prelude.{◌≡◌, ℕ, zero, suc, ◌-◌, ◌<◌, ◌≤◌, List, [], ◌∷◌, replicate, Ok, Err, refl}
 use Rattle.std.proofs.Common.{sym, ◌∙◌, ap, arith}
 use Rattle.scc_reading.specs.Reading.{Outcome, and_then, token}
-use Rattle.scc_svraw.specs.declared.halt.Halt.{Halt}
-use Rattle.scc_svraw.specs.declared.halt.Halt.TheVariants as halt
-use Rattle.scc_svraw.specs.Answer.{Fails}
-use Rattle.scc_svraw.specs.Lexical.{Bytes}
-use Rattle.scc_svraw.specs.Leaves.{is_byte, text}
+use Rattle.scc_svgrammar.specs.declared.halt.Halt.{Halt}
+use Rattle.scc_svgrammar.specs.declared.halt.Halt.TheVariants as halt
+use Rattle.scc_svgrammar.specs.Answer.{Fails}
+use Rattle.scc_svgrammar.specs.Lexical.{Bytes}
+use Rattle.scc_svgrammar.specs.Leaves.{is_byte, text}
 use Rattle.std.specs.Prelude.{codes}
-use Rattle.scc_reading.specs.Reading.{◌>>=◌, ◌>>◌}
+use Rattle.scc_reading.specs.Reading.{Parser, pure, ◌>>=◌, ◌>>◌}
 use Rattle.scc_svtext.specs.Pieces.{blanks}
-use Rattle.scc_svraw.specs.declared.raw.RawStmt.{RawStmt}
-use Rattle.scc_svraw.specs.Reader.{inner}
-use Rattle.scc_svraw.specs.Reader as p
+use Rattle.scc_svgrammar.specs.declared.raw.RawStmt.{RawStmt}
+use Rattle.scc_svgrammar.specs.declared.raw.RawBlock.TheVariants.{Comb}
+use Rattle.scc_svgrammar.specs.Reader.{inner}
+use Rattle.scc_svgrammar.specs.Reader as p
 
 more_blanks : (n : ℕ) → 0 < n → replicate {A = ℕ} n 32 ≡ 32 ∷ replicate (n - 1) 32
 more_blanks zero h = absurd (omega arith)
@@ -48,3 +49,17 @@ unfolding p.other
 other_steps n k u v ts a b r first e f g =
     ap (λ o. and_then o (λ _. text (blanks k) >> (p.line (inner n) k >>= p.stmts_behind (inner n) k))) e
     ∙ ap (λ o. and_then o (λ _. p.line (inner n) k >>= p.stmts_behind (inner n) k)) f ∙ ap (λ o. and_then o (p.stmts_behind (inner n) k)) g
+
+-- the steps up to the end of a combinational block
+pub comb_steps : (n : ℕ) (u : Unit {0}) (ts a b : Bytes) (body : List RawStmt) → text (codes "comb begin\n  ") ts ≡ Ok (u, a) → p.stmts (inner n) 2 a ≡ Ok (body, b)
+    → p.comb (inner n) ts ≡ and_then (text (codes "end\n") b) (λ _. pure (Comb body))
+unfolding p.comb
+comb_steps n u ts a b body e f =
+    ap (λ o. and_then o (λ _. p.stmts (inner n) 2 >>= λ found. text (codes "end\n") >>= λ _. pure (Comb found))) e
+    ∙ ap (λ o. and_then o (λ found. text (codes "end\n") >>= λ _. pure (Comb found))) f
+
+-- what fails first fails with what is behind it
+pub fails_then : {A B : Type 0} (e : Halt) (o : Outcome ℕ A) (f : A → Parser ℕ B) → Fails e o → Fails e (and_then o f)
+fails_then halt.NoMemory o f h = tt
+fails_then (halt.Unexpected left) o f h = (h.0, ap (λ x. and_then x f) h.1, h.2)
+fails_then (halt.TooDeep left) o f h = (h.0, ap (λ x. and_then x f) h.1, h.2)

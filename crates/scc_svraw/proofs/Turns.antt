@@ -5,16 +5,16 @@ use Rattle.scc_reading.specs.Reading.{unexpected, too_deep, Outcome, Parser, is_
 use Rattle.scc_reading.proofs.Answer.{Rule, Answers}
 use Rattle.scc_reading.proofs.Loop.{before, before_in, nothing_before, turns_of, turns_in_of}
 use Rattle.scc_reading.proofs.Loop as loops
-use Rattle.scc_svraw.specs.declared.halt.Halt.{Halt}
-use Rattle.scc_svraw.specs.declared.halt.Halt.TheVariants as halt
-use Rattle.scc_svraw.specs.Lexical.{Bytes}
-use Rattle.scc_svraw.specs.Answer.{Fails}
-use Rattle.scc_svraw.specs.Reader.{inner, is_blank, is_comma}
-use Rattle.scc_svraw.specs.Reader as p
-use Rattle.scc_svraw.proofs.Closed.{sound}
-use Rattle.scc_svraw.proofs.SoundExpr.{sound_further}
-use Rattle.scc_svraw.proofs.SoundStmt.{sound_line, sound_arm}
-use Rattle.scc_svraw.proofs.SoundModule.{sound_load, sound_set, sound_further_port, sound_item}
+use Rattle.scc_svgrammar.specs.declared.halt.Halt.{Halt}
+use Rattle.scc_svgrammar.specs.declared.halt.Halt.TheVariants as halt
+use Rattle.scc_svgrammar.specs.Lexical.{Bytes}
+use Rattle.scc_svgrammar.specs.Answer.{Fails}
+use Rattle.scc_svgrammar.specs.Reader.{inner, is_blank, is_comma}
+use Rattle.scc_svgrammar.specs.Reader as p
+use Rattle.scc_svgrammar.proofs.Closed.{sound}
+use Rattle.scc_svgrammar.proofs.SoundExpr.{sound_further}
+use Rattle.scc_svgrammar.proofs.SoundStmt.{sound_line, sound_arm}
+use Rattle.scc_svgrammar.proofs.SoundModule.{sound_load, sound_set, sound_further_port, sound_item}
 
 pub record Turns {A : Type 0} (test : ℕ → Bool) (q : Parser ℕ A) : Type 0 where
   pub turn : (front : List A) (ts : Bytes) (a : A) (r : Bytes) (whole : Outcome ℕ (List A)) → is_next test ts ≡ true → q ts ≡ Ok (a, r) → before front (repeat test q ts) ≡ whole → before (front ++ a ∷ []) (repeat test q r) ≡ whole

@@ -1,7 +1,7 @@
-pub mod Lexical
-pub mod Grammar
-pub mod Levels
-pub mod Claim
-pub mod Answer
-pub mod Leaves
-pub mod Reader
+pub use Rattle.scc_svgrammar.specs.Lexical
+pub use Rattle.scc_svgrammar.specs.Grammar
+pub use Rattle.scc_svgrammar.specs.Levels
+pub use Rattle.scc_svgrammar.specs.Claim
+pub use Rattle.scc_svgrammar.specs.Answer
+pub use Rattle.scc_svgrammar.specs.Leaves
+pub use Rattle.scc_svgrammar.specs.Reader

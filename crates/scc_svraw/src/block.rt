@@ -1,20 +1,19 @@
 //! Reads blocks.
 ghost use Rattle.std.specs.Prelude.{◌≡◌, ◌≤◌};
-ghost use Rattle.scc_svraw.specs.Answer.{Gives};
-ghost use Rattle.scc_svraw.specs.Reader as reader;
+ghost use Rattle.scc_svgrammar.specs.Answer.{Gives};
+ghost use Rattle.scc_svgrammar.specs.Reader as reader;
 
 use crate::bytes;
 use crate::bytes::text;
 use crate::expr::open_expr;
-use crate::halt::Halt;
 use crate::lexical::{literal, name};
-use crate::raw::{RawBlock, RawLoad, RawReset, RawSet};
 use crate::stmt::{blanks, stmts};
 use scc_base::{List, Text};
+use scc_svgrammar::{Halt, RawBlock, RawLoad, RawReset, RawSet};
 use std::alloc::Global;
 
 // The end of a line of an edge, from behind its target.
-#[tactic(auto, unfolding(crate::specs::Reader::set_behind))]
+#[tactic(auto, unfolding(scc_svgrammar::specs::Reader::set_behind))]
 fn set_behind(
     alloc: Global,
     levels: u32,
@@ -39,7 +38,7 @@ fn set_line(alloc: Global, levels: u32, outer: u32, ts: &[u8]) -> Result<(RawSet
     set_behind(alloc, levels, outer, target, rest)
 }
 
-#[tactic(auto, unfolding(crate::specs::Reader::sets))]
+#[tactic(auto, unfolding(scc_svgrammar::specs::Reader::sets))]
 fn sets(alloc: Global, levels: u32, outer: u32, ts: &[u8]) -> Result<(List<RawSet>, &[u8]), Halt>
     ensures { Gives (λ x. (x.0, x.1.now)) result (reader.sets (reader.inner levels) outer ts.now) }
 {
@@ -54,7 +53,7 @@ fn sets(alloc: Global, levels: u32, outer: u32, ts: &[u8]) -> Result<(List<RawSe
 }
 
 // The end of a line of a reset, from behind its target.
-#[tactic(auto, unfolding(crate::specs::Reader::load_behind))]
+#[tactic(auto, unfolding(scc_svgrammar::specs::Reader::load_behind))]
 fn load_behind(alloc: Global, target: Text, ts: &[u8]) -> Result<(RawLoad, &[u8]), Halt>
     ensures { Gives (λ x. (x.0, x.1.now)) result (reader.load_behind target ts.now) }
 {
@@ -73,7 +72,7 @@ fn load_line(alloc: Global, ts: &[u8]) -> Result<(RawLoad, &[u8]), Halt>
     load_behind(alloc, target, rest)
 }
 
-#[tactic(auto, unfolding(crate::specs::Reader::loads))]
+#[tactic(auto, unfolding(scc_svgrammar::specs::Reader::loads))]
 fn loads(alloc: Global, ts: &[u8]) -> Result<(List<RawLoad>, &[u8]), Halt>
     ensures { Gives (λ x. (x.0, x.1.now)) result (reader.loads ts.now) }
 {
@@ -87,7 +86,7 @@ fn loads(alloc: Global, ts: &[u8]) -> Result<(List<RawLoad>, &[u8]), Halt>
     Ok((found, rest))
 }
 
-#[tactic(auto, unfolding(crate::specs::Reader::edge_at))]
+#[tactic(auto, unfolding(scc_svgrammar::specs::Reader::edge_at))]
 fn edge_at(ts: &[u8]) -> Result<(bool, &[u8]), Halt>
     ensures { Gives (λ x. (x.0, x.1.now)) result (reader.edge_at ts.now) }
 {
@@ -100,7 +99,7 @@ fn edge_at(ts: &[u8]) -> Result<(bool, &[u8]), Halt>
 }
 
 // The condition under which a reset stands, and whether it is negated.
-#[tactic(auto, unfolding(crate::specs::Reader::level))]
+#[tactic(auto, unfolding(scc_svgrammar::specs::Reader::level))]
 fn level(alloc: Global, ts: &[u8]) -> Result<((bool, Text), &[u8]), Halt>
     ensures { Gives (λ x. (x.0, x.1.now)) result (reader.level ts.now) }
 {
@@ -114,7 +113,7 @@ fn level(alloc: Global, ts: &[u8]) -> Result<((bool, Text), &[u8]), Halt>
     Ok(((false, w), rest))
 }
 
-#[tactic(auto, unfolding(crate::specs::Reader::reset_values))]
+#[tactic(auto, unfolding(scc_svgrammar::specs::Reader::reset_values))]
 fn reset_values(
     alloc: Global,
     rising: bool,
@@ -139,7 +138,7 @@ fn reset_values(
     ))
 }
 
-#[tactic(auto, unfolding(crate::specs::Reader::reset_level))]
+#[tactic(auto, unfolding(scc_svgrammar::specs::Reader::reset_level))]
 fn reset_level(
     alloc: Global,
     rising: bool,
@@ -154,7 +153,7 @@ fn reset_level(
 }
 
 // An asynchronous reset and its branch, from behind the clock.
-#[tactic(auto, unfolding(crate::specs::Reader::reset_at))]
+#[tactic(auto, unfolding(scc_svgrammar::specs::Reader::reset_at))]
 fn reset_at(alloc: Global, ts: &[u8]) -> Result<(RawReset, &[u8]), Halt>
     ensures { Gives (λ x. (x.0, x.1.now)) result (reader.reset_at ts.now) }
 {
@@ -164,7 +163,7 @@ fn reset_at(alloc: Global, ts: &[u8]) -> Result<(RawReset, &[u8]), Halt>
     reset_level(alloc, rising, signal, rest)
 }
 
-#[tactic(auto, unfolding(crate::specs::Reader::edge_behind))]
+#[tactic(auto, unfolding(scc_svgrammar::specs::Reader::edge_behind))]
 fn edge_behind(
     alloc: Global,
     levels: u32,
@@ -190,7 +189,7 @@ fn edge_behind(
 }
 
 // The other branch beside a reset's.
-#[tactic(auto, unfolding(crate::specs::Reader::set_branch))]
+#[tactic(auto, unfolding(scc_svgrammar::specs::Reader::set_branch))]
 fn set_branch(alloc: Global, levels: u32, ts: &[u8]) -> Result<(List<RawSet>, &[u8]), Halt>
     ensures { Gives (λ x. (x.0, x.1.now)) result (reader.set_branch (reader.inner levels) ts.now) }
 {
@@ -200,7 +199,7 @@ fn set_branch(alloc: Global, levels: u32, ts: &[u8]) -> Result<(List<RawSet>, &[
     Ok((found, rest))
 }
 
-#[tactic(auto, unfolding(crate::specs::Reader::reset_behind))]
+#[tactic(auto, unfolding(scc_svgrammar::specs::Reader::reset_behind))]
 fn reset_behind(
     alloc: Global,
     levels: u32,
@@ -224,7 +223,7 @@ fn reset_behind(
     ))
 }
 
-#[tactic(auto, unfolding(crate::specs::Reader::edge_block))]
+#[tactic(auto, unfolding(scc_svgrammar::specs::Reader::edge_block))]
 fn edge_block(alloc: Global, levels: u32, ts: &[u8]) -> Result<(RawBlock, &[u8]), Halt>
     ensures { Gives (λ x. (x.0, x.1.now)) result (reader.edge_block (reader.inner levels) ts.now) }
 {
@@ -237,7 +236,7 @@ fn edge_block(alloc: Global, levels: u32, ts: &[u8]) -> Result<(RawBlock, &[u8])
     reset_behind(alloc, levels, rising, clock, rest)
 }
 
-#[tactic(auto, unfolding(crate::specs::Reader::comb))]
+#[tactic(auto, unfolding(scc_svgrammar::specs::Reader::comb))]
 fn comb(alloc: Global, levels: u32, ts: &[u8]) -> Result<(RawBlock, &[u8]), Halt>
     requires { levels ≤ 8192 }
     ensures { Gives (λ x. (x.0, x.1.now)) result (reader.comb (reader.inner levels) ts.now) }
@@ -249,7 +248,7 @@ fn comb(alloc: Global, levels: u32, ts: &[u8]) -> Result<(RawBlock, &[u8]), Halt
 }
 
 /// A block from behind its blanks.
-#[tactic(auto, unfolding(crate::specs::Reader::block))]
+#[tactic(auto, unfolding(scc_svgrammar::specs::Reader::block))]
 pub fn block(alloc: Global, levels: u32, ts: &[u8]) -> Result<(RawBlock, &[u8]), Halt>
     requires { levels ≤ 8192 }
     ensures { Gives (λ x. (x.0, x.1.now)) result (reader.block (reader.inner levels) ts.now) }

@@ -2,21 +2,21 @@
 ghost use Rattle.std.specs.Prelude.{◌≡◌, ◌∷◌, IfOk, Ok, nat_eq};
 ghost use Rattle.std.specs.List.{prefix_len};
 ghost use Rattle.scc_reading.specs.Reading.{is_next};
-ghost use Rattle.scc_svraw.specs.Answer.{Gives};
+ghost use Rattle.scc_svgrammar.specs.Answer.{Gives};
 ghost use Rattle.scc_svtree.specs.Sound.{is_letter, is_word_byte};
-ghost use Rattle.scc_svraw.specs.Lexical.{is_digit, is_hex_digit};
-ghost use Rattle.scc_svraw.specs.Leaves.{is_positive_digit, run, text};
-ghost use Rattle.scc_svraw.specs.Reader.{begins_divisor, begins_expr, begins_name};
-ghost use Rattle.scc_svraw.specs.Leaves as leaves;
-ghost use Rattle.scc_svraw.specs.Reader as reader;
+ghost use Rattle.scc_svgrammar.specs.Lexical.{is_digit, is_hex_digit};
+ghost use Rattle.scc_svgrammar.specs.Leaves.{is_positive_digit, run, text};
+ghost use Rattle.scc_svgrammar.specs.Reader.{begins_divisor, begins_expr, begins_name};
+ghost use Rattle.scc_svgrammar.specs.Leaves as leaves;
+ghost use Rattle.scc_svgrammar.specs.Reader as reader;
 ghost use Rattle.scc_svtree.specs.Sound as sound;
 
-use crate::halt::Halt;
 use scc_base::{NoMemory, Text};
+use scc_svgrammar::Halt;
 use std::alloc::Global;
 
 /// Passes these bytes.
-#[tactic(auto, unfolding(crate::specs::Leaves::text))]
+#[tactic(auto, unfolding(scc_svgrammar::specs::Leaves::text))]
 pub fn text<'a>(word: &[u8], ts: &'a [u8]) -> Result<((), &'a [u8]), Halt>
     ensures { Gives (λ x. (x.0, x.1.now)) result (leaves.text word.now ts.now) }
 {
@@ -37,13 +37,13 @@ pub fn is_next(b: u8, ts: &[u8]) -> bool
 }
 
 pub fn is_digit(b: u8) -> bool
-    ensures { result ≡ Rattle.scc_svraw.specs.Lexical.is_digit b }
+    ensures { result ≡ Rattle.scc_svgrammar.specs.Lexical.is_digit b }
 {
     48 <= b && b <= 57
 }
 
 fn is_hex_digit(b: u8) -> bool
-    ensures { result ≡ Rattle.scc_svraw.specs.Lexical.is_hex_digit b }
+    ensures { result ≡ Rattle.scc_svgrammar.specs.Lexical.is_hex_digit b }
 {
     is_digit(b) || (97 <= b && b <= 102)
 }
@@ -67,7 +67,7 @@ fn is_word_byte(b: u8) -> bool
 }
 
 pub fn begins_digit(ts: &[u8]) -> bool
-    ensures { result ≡ Rattle.scc_reading.specs.Reading.is_next Rattle.scc_svraw.specs.Lexical.is_digit ts.now }
+    ensures { result ≡ Rattle.scc_reading.specs.Reading.is_next Rattle.scc_svgrammar.specs.Lexical.is_digit ts.now }
 {
     match ts {
         [b, ..] => is_digit(*b),
@@ -105,7 +105,7 @@ pub fn begins_divisor(ts: &[u8]) -> bool
 }
 
 fn digits_len(ts: &[u8]) -> usize
-    ensures { result ≡ prefix_len Rattle.scc_svraw.specs.Lexical.is_digit ts.now }
+    ensures { result ≡ prefix_len Rattle.scc_svgrammar.specs.Lexical.is_digit ts.now }
 {
     ts.iter().take_while(|b| is_digit(**b)).count()
 }
@@ -118,21 +118,21 @@ fn word_len(ts: &[u8]) -> usize
 
 /// How many digits of base 16 there are from here on.
 pub fn hex_len(ts: &[u8]) -> usize
-    ensures { result ≡ prefix_len Rattle.scc_svraw.specs.Lexical.is_hex_digit ts.now }
+    ensures { result ≡ prefix_len Rattle.scc_svgrammar.specs.Lexical.is_hex_digit ts.now }
 {
     ts.iter().take_while(|b| is_hex_digit(**b)).count()
 }
 
 /// The digits from here on, and what is behind them.
-#[tactic(auto, using(crate::proofs::Lengths::run_split, crate::proofs::Lengths::run_bound))]
+#[tactic(auto, using(scc_svgrammar::proofs::Lengths::run_split, scc_svgrammar::proofs::Lengths::run_bound))]
 pub fn digits(ts: &[u8]) -> (&[u8], &[u8])
-    ensures { leaves.run Rattle.scc_svraw.specs.Lexical.is_digit ts.now ≡ Ok (result.0.now, result.1.now) }
+    ensures { leaves.run Rattle.scc_svgrammar.specs.Lexical.is_digit ts.now ≡ Ok (result.0.now, result.1.now) }
 {
     ts.split_at(digits_len(ts))
 }
 
 /// The bytes of a name from here on, and what is behind them.
-#[tactic(auto, using(crate::proofs::Lengths::run_split, crate::proofs::Lengths::run_bound))]
+#[tactic(auto, using(scc_svgrammar::proofs::Lengths::run_split, scc_svgrammar::proofs::Lengths::run_bound))]
 pub fn word_bytes(ts: &[u8]) -> (&[u8], &[u8])
     ensures { leaves.run sound.is_word_byte ts.now ≡ Ok (result.0.now, result.1.now) }
 {

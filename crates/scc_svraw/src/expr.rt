@@ -2,23 +2,22 @@
 //! sake of small frames, as the arms are themselves.
 ghost use Rattle.std.specs.Prelude.{◌≡◌, IfOk};
 ghost use Rattle.scc_reading.specs.Reading.{◌>>=◌ as followed_by, pure};
-ghost use Rattle.scc_svraw.specs.Answer.{Gives};
-ghost use Rattle.scc_svraw.specs.Leaves as leaves;
-ghost use Rattle.scc_svraw.specs.Reader as reader;
-ghost use Rattle.scc_svraw.specs.declared.raw.RawExpr.TheVariants as node;
+ghost use Rattle.scc_svgrammar.specs.Answer.{Gives};
+ghost use Rattle.scc_svgrammar.specs.Leaves as leaves;
+ghost use Rattle.scc_svgrammar.specs.Reader as reader;
+ghost use Rattle.scc_svgrammar.specs.declared.raw.RawExpr.TheVariants as node;
 
 use crate::bytes;
 use crate::bytes::{begins_digit, begins_divisor, begins_expr, text};
-use crate::halt::Halt;
 use crate::held::{Node, Nodes};
 use crate::lexical::{decimal, digits_behind, left, literal};
-use crate::operator::{begins_unary, is_division, operator, unary};
-use crate::raw::{RawExpr, RawLeft, RawLiteral};
+use crate::operator::{begins_unary, operator, unary};
 use scc_base::{Boxed, NoMemory, Text};
+use scc_svgrammar::{Halt, RawExpr, RawLeft, RawLiteral, is_division};
 use scc_svtree::{SvBinary, SvUnary};
 use std::alloc::Global;
 
-#[tactic(auto, unfolding(crate::specs::Reader::number_at))]
+#[tactic(auto, unfolding(scc_svgrammar::specs::Reader::number_at))]
 fn number_at(alloc: Global, ts: &[u8]) -> Result<(RawExpr, &[u8]), Halt>
     ensures { Gives (λ x. (x.0, x.1.now)) result (reader.number_at ts.now) }
 {
@@ -39,7 +38,7 @@ fn open_number(alloc: Global, levels: u32, ts: &[u8]) -> Result<(RawExpr, &[u8])
     Err(Halt::Unexpected(ts.len()))
 }
 
-#[tactic(auto, unfolding(crate::specs::Reader::signed_number))]
+#[tactic(auto, unfolding(scc_svgrammar::specs::Reader::signed_number))]
 fn signed_number(alloc: Global, levels: u32, ts: &[u8]) -> Result<(RawExpr, &[u8]), Halt>
     ensures { Gives (λ x. (x.0, x.1.now)) result (reader.signed_number (reader.inner levels) ts.now) }
 {
@@ -50,7 +49,7 @@ fn signed_number(alloc: Global, levels: u32, ts: &[u8]) -> Result<(RawExpr, &[u8
     Ok((RawExpr::Sign { signed: true, of }, rest))
 }
 
-#[tactic(auto, unfolding(crate::specs::Reader::divisor_at))]
+#[tactic(auto, unfolding(scc_svgrammar::specs::Reader::divisor_at))]
 fn divisor_at(alloc: Global, levels: u32, ts: &[u8]) -> Result<(RawExpr, &[u8]), Halt>
     ensures { Gives (λ x. (x.0, x.1.now)) result (reader.divisor_at (reader.inner levels) ts.now) }
 {
@@ -75,7 +74,7 @@ fn open_divisor(alloc: Global, levels: u32, ts: &[u8]) -> Result<(RawExpr, &[u8]
 
 // The right operand of a division and the bracket behind it.
 #[inline(never)]
-#[tactic(auto, unfolding(crate::specs::Reader::closed_divisor))]
+#[tactic(auto, unfolding(scc_svgrammar::specs::Reader::closed_divisor))]
 fn closed_divisor(alloc: Global, levels: u32, ts: &[u8]) -> Result<(Node<RawExpr>, &[u8]), Halt>
     ensures { Gives (λ x. (x.0, x.1.now)) result (reader.closed_divisor (reader.inner levels) ts.now) }
 {
@@ -179,7 +178,7 @@ pub fn open_node(alloc: Global, levels: u32, ts: &[u8]) -> Result<(Node<RawExpr>
 }
 
 // An expression and the bracket that closes it.
-#[tactic(auto, unfolding(crate::specs::Reader::closed_expr))]
+#[tactic(auto, unfolding(scc_svgrammar::specs::Reader::closed_expr))]
 #[cycle(reading)]
 fn closed_expr(alloc: Global, levels: u32, ts: &[u8]) -> Result<(Node<RawExpr>, &[u8]), Halt>
     ensures { Gives (λ x. (x.0, x.1.now)) result (reader.closed_expr (reader.inner levels) ts.now) }
@@ -199,7 +198,7 @@ fn hex_behind(alloc: Global, width: Text, ts: &[u8]) -> Result<(Node<RawExpr>, &
 }
 
 // A literal or a cast, from behind its width.
-#[tactic(auto, unfolding(crate::specs::Reader::behind_width))]
+#[tactic(auto, unfolding(scc_svgrammar::specs::Reader::behind_width))]
 #[cycle(reading)]
 fn behind_width(
     alloc: Global,
@@ -220,7 +219,7 @@ fn behind_width(
 }
 
 #[inline(never)]
-#[tactic(auto, unfolding(crate::specs::Reader::sized))]
+#[tactic(auto, unfolding(scc_svgrammar::specs::Reader::sized))]
 #[cycle(reading)]
 fn sized(alloc: Global, levels: u32, ts: &[u8]) -> Result<(Node<RawExpr>, &[u8]), Halt>
     ensures { Gives (λ x. (x.0, x.1.now)) result (reader.sized (reader.inner levels) ts.now) }
@@ -230,7 +229,7 @@ fn sized(alloc: Global, levels: u32, ts: &[u8]) -> Result<(Node<RawExpr>, &[u8])
 }
 
 #[inline(never)]
-#[tactic(auto, unfolding(crate::specs::Reader::sign))]
+#[tactic(auto, unfolding(scc_svgrammar::specs::Reader::sign))]
 #[cycle(reading)]
 fn sign(alloc: Global, levels: u32, ts: &[u8]) -> Result<(Node<RawExpr>, &[u8]), Halt>
     ensures { Gives (λ x. (x.0, x.1.now)) result (reader.sign (reader.inner levels) ts.now) }
@@ -276,7 +275,7 @@ fn parts(
 }
 
 // The second part and the others.
-#[tactic(auto, unfolding(crate::specs::Reader::parts_behind))]
+#[tactic(auto, unfolding(scc_svgrammar::specs::Reader::parts_behind))]
 #[cycle(reading)]
 fn parts_behind(
     alloc: Global,
@@ -293,7 +292,7 @@ fn parts_behind(
 }
 
 #[inline(never)]
-#[tactic(auto, unfolding(crate::specs::Reader::concat))]
+#[tactic(auto, unfolding(scc_svgrammar::specs::Reader::concat))]
 #[cycle(reading)]
 fn concat(alloc: Global, levels: u32, ts: &[u8]) -> Result<(Node<RawExpr>, &[u8]), Halt>
     ensures { Gives (λ x. (x.0, x.1.now)) result (reader.concat (reader.inner levels) ts.now) }
@@ -306,7 +305,7 @@ fn concat(alloc: Global, levels: u32, ts: &[u8]) -> Result<(Node<RawExpr>, &[u8]
 }
 
 // The last part of a `?:`.
-#[tactic(auto, unfolding(crate::specs::Reader::cond_last))]
+#[tactic(auto, unfolding(scc_svgrammar::specs::Reader::cond_last))]
 #[cycle(reading)]
 fn cond_last(
     alloc: Global,
@@ -323,7 +322,7 @@ fn cond_last(
 }
 
 #[inline(never)]
-#[tactic(auto, unfolding(crate::specs::Reader::cond_behind))]
+#[tactic(auto, unfolding(scc_svgrammar::specs::Reader::cond_behind))]
 #[cycle(reading)]
 fn cond_behind(
     alloc: Global,
@@ -339,7 +338,7 @@ fn cond_behind(
 }
 
 // The right operand and the bracket behind it.
-#[tactic(auto, unfolding(crate::specs::Reader::right_of))]
+#[tactic(auto, unfolding(scc_svgrammar::specs::Reader::right_of))]
 #[cycle(reading)]
 fn right_of(
     alloc: Global,
@@ -356,7 +355,7 @@ fn right_of(
 }
 
 #[inline(never)]
-#[tactic(auto, unfolding(crate::specs::Reader::binary_behind))]
+#[tactic(auto, unfolding(scc_svgrammar::specs::Reader::binary_behind))]
 #[cycle(reading)]
 fn binary_behind(
     alloc: Global,
@@ -372,7 +371,7 @@ fn binary_behind(
     Ok((binary_node(alloc, op, left, right)?, rest))
 }
 
-#[tactic(auto, unfolding(crate::specs::Reader::behind_first))]
+#[tactic(auto, unfolding(scc_svgrammar::specs::Reader::behind_first))]
 #[cycle(reading)]
 fn behind_first(
     alloc: Global,
@@ -388,7 +387,7 @@ fn behind_first(
     binary_behind(alloc, levels, left, ts)
 }
 
-#[tactic(auto, unfolding(crate::specs::Reader::operated))]
+#[tactic(auto, unfolding(scc_svgrammar::specs::Reader::operated))]
 #[cycle(reading)]
 fn operated(alloc: Global, levels: u32, ts: &[u8]) -> Result<(Node<RawExpr>, &[u8]), Halt>
     ensures { Gives (λ x. (x.0, x.1.now)) result (reader.operated (reader.inner levels) ts.now) }
@@ -398,7 +397,7 @@ fn operated(alloc: Global, levels: u32, ts: &[u8]) -> Result<(Node<RawExpr>, &[u
     behind_first(alloc, levels, left, rest)
 }
 
-#[tactic(auto, unfolding(crate::specs::Reader::unary_at))]
+#[tactic(auto, unfolding(scc_svgrammar::specs::Reader::unary_at))]
 #[cycle(reading)]
 fn unary_at(alloc: Global, levels: u32, ts: &[u8]) -> Result<(Node<RawExpr>, &[u8]), Halt>
     ensures { Gives (λ x. (x.0, x.1.now)) result (reader.unary_at (reader.inner levels) ts.now) }
@@ -409,7 +408,7 @@ fn unary_at(alloc: Global, levels: u32, ts: &[u8]) -> Result<(Node<RawExpr>, &[u
 }
 
 #[inline(never)]
-#[tactic(auto, unfolding(crate::specs::Reader::bracketed))]
+#[tactic(auto, unfolding(scc_svgrammar::specs::Reader::bracketed))]
 #[cycle(reading)]
 fn bracketed(alloc: Global, levels: u32, ts: &[u8]) -> Result<(Node<RawExpr>, &[u8]), Halt>
     ensures { Gives (λ x. (x.0, x.1.now)) result (reader.bracketed (reader.inner levels) ts.now) }
@@ -422,7 +421,7 @@ fn bracketed(alloc: Global, levels: u32, ts: &[u8]) -> Result<(Node<RawExpr>, &[
 }
 
 #[inline(never)]
-#[tactic(auto, unfolding(crate::specs::Reader::left_expr))]
+#[tactic(auto, unfolding(scc_svgrammar::specs::Reader::left_expr))]
 fn left_expr(alloc: Global, ts: &[u8]) -> Result<(Node<RawExpr>, &[u8]), Halt>
     ensures { Gives (λ x. (x.0, x.1.now)) result (reader.left_expr ts.now) }
 {
@@ -430,7 +429,7 @@ fn left_expr(alloc: Global, ts: &[u8]) -> Result<(Node<RawExpr>, &[u8]), Halt>
     Ok((left_node(alloc, l)?, rest))
 }
 
-#[tactic(auto, unfolding(crate::specs::Reader::expr))]
+#[tactic(auto, unfolding(scc_svgrammar::specs::Reader::expr))]
 #[cycle(reading)]
 fn expr(alloc: Global, levels: u32, ts: &[u8]) -> Result<(Node<RawExpr>, &[u8]), Halt>
     ensures { Gives (λ x. (x.0, x.1.now)) result (reader.expr (reader.inner levels) ts.now) }

@@ -1,21 +1,20 @@
 //! Reads numbers, literals, names and selects.
 ghost use Rattle.std.specs.Prelude.{◌≡◌, ◌++◌, [], Some, None, Ok, min, take, drop, length, nat_le, if◌then◌else◌, ◌-◌, ◌^◌, ◌≤◌, ◌+◌, ◌*◌};
 ghost use Rattle.std.specs.List.{prefix_len};
-ghost use Rattle.scc_svraw.specs.Answer.{Gives};
-ghost use Rattle.scc_svraw.specs.Lexical as lexical;
-ghost use Rattle.scc_svraw.specs.Leaves as leaves;
+ghost use Rattle.scc_svgrammar.specs.Answer.{Gives};
+ghost use Rattle.scc_svgrammar.specs.Lexical as lexical;
+ghost use Rattle.scc_svgrammar.specs.Leaves as leaves;
 
 use crate::bytes::{
     copied, digits, hex_len, is_letter, is_next, is_positive_digit, joined, text, word_bytes,
 };
-use crate::halt::Halt;
-use crate::raw::{RawLeft, RawLiteral, RawSelect};
 use scc_base::Text;
+use scc_svgrammar::{Halt, RawLeft, RawLiteral, RawSelect};
 use scc_svtext::{begins_reserved_word, is_reserved_word};
 use std::alloc::Global;
 
 /// A number above 0.
-#[tactic(auto, unfolding(crate::specs::Leaves::positive))]
+#[tactic(auto, unfolding(scc_svgrammar::specs::Leaves::positive))]
 pub fn positive(alloc: Global, ts: &[u8]) -> Result<(Text, &[u8]), Halt>
     ensures { Gives (λ x. (x.0, x.1.now)) result (leaves.positive ts.now) }
 {
@@ -29,7 +28,7 @@ pub fn positive(alloc: Global, ts: &[u8]) -> Result<(Text, &[u8]), Halt>
 }
 
 /// A number.
-#[tactic(auto, unfolding(crate::specs::Leaves::decimal))]
+#[tactic(auto, unfolding(scc_svgrammar::specs::Leaves::decimal))]
 pub fn decimal(alloc: Global, ts: &[u8]) -> Result<(Text, &[u8]), Halt>
     ensures { Gives (λ x. (x.0, x.1.now)) result (leaves.decimal ts.now) }
 {
@@ -72,7 +71,7 @@ fn enough(width: &[u8], run: usize) -> Option<usize>
 }
 
 /// A literal from behind the `'h` after its width.
-#[tactic(auto, unfolding(crate::specs::Leaves::digits_behind))]
+#[tactic(auto, unfolding(scc_svgrammar::specs::Leaves::digits_behind))]
 pub fn digits_behind(alloc: Global, width: Text, ts: &[u8]) -> Result<(RawLiteral, &[u8]), Halt>
     ensures { Gives (λ x. (x.0, x.1.now)) result (leaves.digits_behind width ts.now) }
 {
@@ -88,7 +87,7 @@ pub fn digits_behind(alloc: Global, width: Text, ts: &[u8]) -> Result<(RawLitera
 }
 
 /// A literal.
-#[tactic(auto, unfolding(crate::specs::Leaves::literal))]
+#[tactic(auto, unfolding(scc_svgrammar::specs::Leaves::literal))]
 pub fn literal(alloc: Global, ts: &[u8]) -> Result<(RawLiteral, &[u8]), Halt>
     ensures { Gives (λ x. (x.0, x.1.now)) result (leaves.literal ts.now) }
 {
@@ -98,7 +97,7 @@ pub fn literal(alloc: Global, ts: &[u8]) -> Result<(RawLiteral, &[u8]), Halt>
 }
 
 // How many bytes from here on begin a reserved word.
-#[tactic(auto, using(crate::proofs::Escapes::escape_goes_on, crate::proofs::Escapes::escape_stops, crate::proofs::Escapes::escape_ends))]
+#[tactic(auto, using(scc_svgrammar::proofs::Escapes::escape_goes_on, scc_svgrammar::proofs::Escapes::escape_stops, scc_svgrammar::proofs::Escapes::escape_ends))]
 fn keyword_len(ts: &[u8]) -> usize
     ensures bound { result ≤ length ts.now }
     ensures word { leaves.keyword_word [] ts.now ≡ take result ts.now }
@@ -114,7 +113,7 @@ fn keyword_len(ts: &[u8]) -> usize
     n
 }
 
-#[tactic(auto, unfolding(crate::specs::Leaves::closed_word))]
+#[tactic(auto, unfolding(scc_svgrammar::specs::Leaves::closed_word))]
 fn closed_word<'a>(alloc: Global, w: &[u8], ts: &'a [u8]) -> Result<(Text, &'a [u8]), Halt>
     ensures { Gives (λ x. (x.0, x.1.now)) result (leaves.closed_word w.now ts.now) }
 {
@@ -126,7 +125,7 @@ fn closed_word<'a>(alloc: Global, w: &[u8], ts: &'a [u8]) -> Result<(Text, &'a [
 }
 
 // A reserved word and a blank.
-#[tactic(auto, unfolding(crate::specs::Leaves::escaped))]
+#[tactic(auto, unfolding(scc_svgrammar::specs::Leaves::escaped))]
 fn escaped(alloc: Global, ts: &[u8]) -> Result<(Text, &[u8]), Halt>
     ensures { Gives (λ x. (x.0, x.1.now)) result (leaves.escaped ts.now) }
 {
@@ -135,7 +134,7 @@ fn escaped(alloc: Global, ts: &[u8]) -> Result<(Text, &[u8]), Halt>
 }
 
 /// The first letter of a word and the others.
-#[tactic(auto, unfolding(crate::specs::Leaves::plain_word))]
+#[tactic(auto, unfolding(scc_svgrammar::specs::Leaves::plain_word))]
 pub fn plain_word(alloc: Global, ts: &[u8]) -> Result<(Text, &[u8]), Halt>
     ensures { Gives (λ x. (x.0, x.1.now)) result (leaves.plain_word ts.now) }
 {
@@ -149,7 +148,7 @@ pub fn plain_word(alloc: Global, ts: &[u8]) -> Result<(Text, &[u8]), Halt>
 }
 
 /// A word that is to be no reserved one.
-#[tactic(auto, unfolding(crate::specs::Leaves::named))]
+#[tactic(auto, unfolding(scc_svgrammar::specs::Leaves::named))]
 pub fn named(w: Text, ts: &[u8]) -> Result<(Text, &[u8]), Halt>
     ensures { Gives (λ x. (x.0, x.1.now)) result (leaves.named w ts.now) }
 {
@@ -159,7 +158,7 @@ pub fn named(w: Text, ts: &[u8]) -> Result<(Text, &[u8]), Halt>
     Ok((w, ts))
 }
 
-#[tactic(auto, unfolding(crate::specs::Leaves::plain_name))]
+#[tactic(auto, unfolding(scc_svgrammar::specs::Leaves::plain_name))]
 fn plain_name(alloc: Global, ts: &[u8]) -> Result<(Text, &[u8]), Halt>
     ensures { Gives (λ x. (x.0, x.1.now)) result (leaves.plain_name ts.now) }
 {
@@ -168,7 +167,7 @@ fn plain_name(alloc: Global, ts: &[u8]) -> Result<(Text, &[u8]), Halt>
 }
 
 /// A name.
-#[tactic(auto, unfolding(crate::specs::Leaves::name))]
+#[tactic(auto, unfolding(scc_svgrammar::specs::Leaves::name))]
 pub fn name(alloc: Global, ts: &[u8]) -> Result<(Text, &[u8]), Halt>
     ensures { Gives (λ x. (x.0, x.1.now)) result (leaves.name ts.now) }
 {
@@ -179,7 +178,7 @@ pub fn name(alloc: Global, ts: &[u8]) -> Result<(Text, &[u8]), Halt>
     plain_name(alloc, ts)
 }
 
-#[tactic(auto, unfolding(crate::specs::Leaves::select_behind))]
+#[tactic(auto, unfolding(scc_svgrammar::specs::Leaves::select_behind))]
 fn select_behind(alloc: Global, h: Text, ts: &[u8]) -> Result<(RawSelect, &[u8]), Halt>
     ensures { Gives (λ x. (x.0, x.1.now)) result (leaves.select_behind h ts.now) }
 {
@@ -193,7 +192,7 @@ fn select_behind(alloc: Global, h: Text, ts: &[u8]) -> Result<(RawSelect, &[u8])
     Ok((RawSelect::Bit(h), rest))
 }
 
-#[tactic(auto, unfolding(crate::specs::Leaves::select))]
+#[tactic(auto, unfolding(scc_svgrammar::specs::Leaves::select))]
 fn select(alloc: Global, ts: &[u8]) -> Result<(RawSelect, &[u8]), Halt>
     ensures { Gives (λ x. (x.0, x.1.now)) result (leaves.select ts.now) }
 {
@@ -206,7 +205,7 @@ fn select(alloc: Global, ts: &[u8]) -> Result<(RawSelect, &[u8]), Halt>
 }
 
 /// A variable or a part of it, from behind its name.
-#[tactic(auto, unfolding(crate::specs::Leaves::left_behind))]
+#[tactic(auto, unfolding(scc_svgrammar::specs::Leaves::left_behind))]
 pub fn left_behind(alloc: Global, name: Text, ts: &[u8]) -> Result<(RawLeft, &[u8]), Halt>
     ensures { Gives (λ x. (x.0, x.1.now)) result (leaves.left_behind name ts.now) }
 {
@@ -215,7 +214,7 @@ pub fn left_behind(alloc: Global, name: Text, ts: &[u8]) -> Result<(RawLeft, &[u
 }
 
 /// A variable or a part of it.
-#[tactic(auto, unfolding(crate::specs::Leaves::left))]
+#[tactic(auto, unfolding(scc_svgrammar::specs::Leaves::left))]
 pub fn left(alloc: Global, ts: &[u8]) -> Result<(RawLeft, &[u8]), Halt>
     ensures { Gives (λ x. (x.0, x.1.now)) result (leaves.left ts.now) }
 {
@@ -224,7 +223,7 @@ pub fn left(alloc: Global, ts: &[u8]) -> Result<(RawLeft, &[u8]), Halt>
 }
 
 /// The range of a declaration.
-#[tactic(auto, unfolding(crate::specs::Leaves::range))]
+#[tactic(auto, unfolding(scc_svgrammar::specs::Leaves::range))]
 pub fn range(alloc: Global, ts: &[u8]) -> Result<(Option<Text>, &[u8]), Halt>
     ensures { Gives (λ x. (x.0, x.1.now)) result (leaves.range ts.now) }
 {

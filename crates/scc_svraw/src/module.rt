@@ -1,25 +1,24 @@
 //! Reads modules as they are written.
 ghost use Rattle.std.specs.Prelude.{◌≡◌, ◌∷◌, [], ◌≤◌, ◌&&◌, not, IfOk, IfErr};
 ghost use Rattle.scc_reading.specs.Reading.{is_next};
-ghost use Rattle.scc_svraw.specs.Answer.{Gives};
-ghost use Rattle.scc_svraw.specs.Claim.{FaultAt, IsAnswer, IsRead};
-ghost use Rattle.scc_svraw.specs.Grammar.{Reads};
-ghost use Rattle.scc_svraw.specs.Reader as reader;
-ghost use Rattle.scc_svraw.specs.declared.raw.RawModule.{RawModule};
+ghost use Rattle.scc_svgrammar.specs.Answer.{Gives};
+ghost use Rattle.scc_svgrammar.specs.Claim.{FaultAt, IsAnswer, IsRead};
+ghost use Rattle.scc_svgrammar.specs.Grammar.{Reads};
+ghost use Rattle.scc_svgrammar.specs.Reader as reader;
+ghost use Rattle.scc_svgrammar.specs.declared.raw.RawModule.{RawModule};
 
 use crate::block::block;
 use crate::bytes;
 use crate::bytes::text;
-use crate::halt::Halt;
 use crate::lexical::{name, range};
-use crate::raw::{RawItem, RawModule, RawVar};
 use scc_base::{List, NoMemory, Text};
+use scc_svgrammar::{Halt, RawItem, RawModule, RawVar};
 use scc_svtree::Dir;
 use std::alloc::Global;
 
 const LEVELS: u32 = 8192;
 
-#[tactic(auto, unfolding(crate::specs::Reader::var))]
+#[tactic(auto, unfolding(scc_svgrammar::specs::Reader::var))]
 fn var(alloc: Global, dir: Dir, ts: &[u8]) -> Result<(RawVar, &[u8]), Halt>
     ensures { Gives (λ x. (x.0, x.1.now)) result (reader.var dir ts.now) }
 {
@@ -28,7 +27,7 @@ fn var(alloc: Global, dir: Dir, ts: &[u8]) -> Result<(RawVar, &[u8]), Halt>
     Ok((RawVar { name, dir, high }, rest))
 }
 
-#[tactic(auto, unfolding(crate::specs::Reader::input_at))]
+#[tactic(auto, unfolding(scc_svgrammar::specs::Reader::input_at))]
 fn input_at(alloc: Global, ts: &[u8]) -> Result<(RawVar, &[u8]), Halt>
     ensures { Gives (λ x. (x.0, x.1.now)) result (reader.input_at ts.now) }
 {
@@ -36,7 +35,7 @@ fn input_at(alloc: Global, ts: &[u8]) -> Result<(RawVar, &[u8]), Halt>
     var(alloc, Dir::Input, rest)
 }
 
-#[tactic(auto, unfolding(crate::specs::Reader::output_at))]
+#[tactic(auto, unfolding(scc_svgrammar::specs::Reader::output_at))]
 fn output_at(alloc: Global, ts: &[u8]) -> Result<(RawVar, &[u8]), Halt>
     ensures { Gives (λ x. (x.0, x.1.now)) result (reader.output_at ts.now) }
 {
@@ -44,7 +43,7 @@ fn output_at(alloc: Global, ts: &[u8]) -> Result<(RawVar, &[u8]), Halt>
     var(alloc, Dir::Output, rest)
 }
 
-#[tactic(auto, unfolding(crate::specs::Reader::port))]
+#[tactic(auto, unfolding(scc_svgrammar::specs::Reader::port))]
 fn port(alloc: Global, ts: &[u8]) -> Result<(RawVar, &[u8]), Halt>
     ensures { Gives (λ x. (x.0, x.1.now)) result (reader.port ts.now) }
 {
@@ -86,7 +85,7 @@ fn alone(alloc: Global, first: RawVar) -> Result<List<RawVar>, NoMemory>
 }
 
 // The ports behind a first one, and their end.
-#[tactic(auto, unfolding(crate::specs::Reader::ports_after))]
+#[tactic(auto, unfolding(scc_svgrammar::specs::Reader::ports_after))]
 fn ports_after(alloc: Global, first: RawVar, ts: &[u8]) -> Result<(List<RawVar>, &[u8]), Halt>
     ensures { Gives (λ x. (x.0, x.1.now)) result (reader.ports_after first ts.now) }
 {
@@ -95,7 +94,7 @@ fn ports_after(alloc: Global, first: RawVar, ts: &[u8]) -> Result<(List<RawVar>,
     Ok((all, rest))
 }
 
-#[tactic(auto, unfolding(crate::specs::Reader::ports))]
+#[tactic(auto, unfolding(scc_svgrammar::specs::Reader::ports))]
 fn ports(alloc: Global, ts: &[u8]) -> Result<(List<RawVar>, &[u8]), Halt>
     ensures { Gives (λ x. (x.0, x.1.now)) result (reader.ports ts.now) }
 {
@@ -106,7 +105,7 @@ fn ports(alloc: Global, ts: &[u8]) -> Result<(List<RawVar>, &[u8]), Halt>
     ports_after(alloc, first, rest)
 }
 
-#[tactic(auto, unfolding(crate::specs::Reader::declaration))]
+#[tactic(auto, unfolding(scc_svgrammar::specs::Reader::declaration))]
 fn declaration(alloc: Global, ts: &[u8]) -> Result<((RawItem, bool), &[u8]), Halt>
     ensures { Gives (λ x. (x.0, x.1.now)) result (reader.declaration ts.now) }
 {
@@ -116,7 +115,7 @@ fn declaration(alloc: Global, ts: &[u8]) -> Result<((RawItem, bool), &[u8]), Hal
     Ok(((RawItem::Var(v), false), rest))
 }
 
-#[tactic(auto, unfolding(crate::specs::Reader::item))]
+#[tactic(auto, unfolding(scc_svgrammar::specs::Reader::item))]
 fn item(
     alloc: Global,
     levels: u32,
@@ -140,7 +139,7 @@ fn begins_declaration(begun: bool, ts: &[u8]) -> bool
     !begun && bytes::is_next(108, ts)
 }
 
-#[tactic(auto, unfolding(crate::specs::Reader::items))]
+#[tactic(auto, unfolding(scc_svgrammar::specs::Reader::items))]
 fn items(alloc: Global, levels: u32, ts: &[u8]) -> Result<((List<RawItem>, bool), &[u8]), Halt>
     requires { levels ≤ 8192 }
     ensures { Gives (λ x. (x.0, x.1.now)) result (reader.items (reader.inner levels) ts.now) }
@@ -157,7 +156,7 @@ fn items(alloc: Global, levels: u32, ts: &[u8]) -> Result<((List<RawItem>, bool)
     Ok(((found, begun), rest))
 }
 
-#[tactic(auto, unfolding(crate::specs::Reader::items_behind))]
+#[tactic(auto, unfolding(scc_svgrammar::specs::Reader::items_behind))]
 fn items_behind(
     alloc: Global,
     levels: u32,
@@ -174,7 +173,7 @@ fn items_behind(
     Ok((RawModule { name, ports, items }, rest))
 }
 
-#[tactic(auto, unfolding(crate::specs::Reader::ports_behind))]
+#[tactic(auto, unfolding(scc_svgrammar::specs::Reader::ports_behind))]
 fn ports_behind(
     alloc: Global,
     levels: u32,
@@ -189,7 +188,7 @@ fn ports_behind(
     items_behind(alloc, levels, name, ports, rest)
 }
 
-#[tactic(auto, unfolding(crate::specs::Reader::module_at))]
+#[tactic(auto, unfolding(scc_svgrammar::specs::Reader::module_at))]
 fn module_at(alloc: Global, levels: u32, ts: &[u8]) -> Result<(RawModule, &[u8]), Halt>
     requires { levels ≤ 8192 }
     ensures { Gives (λ x. (x.0, x.1.now)) result (reader.module_at (reader.inner levels) ts.now) }
@@ -199,7 +198,7 @@ fn module_at(alloc: Global, levels: u32, ts: &[u8]) -> Result<(RawModule, &[u8])
     ports_behind(alloc, levels, w, rest)
 }
 
-#[tactic(auto, unfolding(crate::specs::Reader::reading))]
+#[tactic(auto, unfolding(scc_svgrammar::specs::Reader::reading))]
 fn reading(alloc: Global, ts: &[u8]) -> Result<RawModule, Halt>
     ensures { Gives (λ m. (m, [])) result (reader.reading 8192 ts.now) }
 {

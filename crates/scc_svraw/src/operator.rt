@@ -1,13 +1,13 @@
 //! Reads operators.
 ghost use Rattle.std.specs.Prelude.{◌≡◌, ◌∷◌, [], is_some, nat_eq};
 ghost use Rattle.scc_reading.specs.Reading.{is_next, pure, token};
-ghost use Rattle.scc_svraw.specs.Answer.{Gives};
-ghost use Rattle.scc_svraw.specs.Grammar as grammar;
-ghost use Rattle.scc_svraw.specs.Reader as reader;
+ghost use Rattle.scc_svgrammar.specs.Answer.{Gives};
+ghost use Rattle.scc_svgrammar.specs.Grammar as grammar;
+ghost use Rattle.scc_svgrammar.specs.Reader as reader;
 
 use crate::bytes;
 use crate::bytes::text;
-use crate::halt::Halt;
+use scc_svgrammar::Halt;
 use scc_svtree::{SvBinary, SvUnary};
 
 // The operator of one operand that a byte stands for.
@@ -64,7 +64,7 @@ fn longer<'a>(
     Ok((short, ts))
 }
 
-#[tactic(auto, unfolding(crate::specs::Reader::greater_behind))]
+#[tactic(auto, unfolding(scc_svgrammar::specs::Reader::greater_behind))]
 fn greater_behind(ts: &[u8]) -> Result<(SvBinary, &[u8]), Halt>
     ensures { Gives (λ x. (x.0, x.1.now)) result (reader.greater_behind ts.now) }
 {
@@ -79,7 +79,7 @@ fn greater_behind(ts: &[u8]) -> Result<(SvBinary, &[u8]), Halt>
     Ok((SvBinary::Gt, ts))
 }
 
-#[tactic(auto, unfolding(crate::specs::Reader::operator_behind))]
+#[tactic(auto, unfolding(scc_svgrammar::specs::Reader::operator_behind))]
 fn less_behind(ts: &[u8]) -> Result<(SvBinary, &[u8]), Halt>
     ensures { Gives (λ x. (x.0, x.1.now)) result (reader.operator_behind reader.less_start ts.now) }
 {
@@ -99,7 +99,7 @@ fn equal_behind<'a>(op: SvBinary, ts: &'a [u8]) -> Result<(SvBinary, &'a [u8]), 
 }
 
 /// An operator of two operands.
-#[tactic(auto, unfolding(crate::specs::Reader::operator, crate::specs::Reader::operator_behind))]
+#[tactic(auto, unfolding(scc_svgrammar::specs::Reader::operator, scc_svgrammar::specs::Reader::operator_behind))]
 pub fn operator(ts: &[u8]) -> Result<(SvBinary, &[u8]), Halt>
     ensures { Gives (λ x. (x.0, x.1.now)) result (reader.operator ts.now) }
 {
@@ -118,11 +118,4 @@ pub fn operator(ts: &[u8]) -> Result<(SvBinary, &[u8]), Halt>
         [33, rest @ ..] => equal_behind(SvBinary::Ne, rest),
         _ => Err(Halt::Unexpected(ts.len())),
     }
-}
-
-/// Whether a literal stands behind the operator, or `$signed` of one.
-pub fn is_division(op: SvBinary) -> bool
-    ensures { result ≡ grammar.is_division op }
-{
-    matches!(op, SvBinary::Div | SvBinary::Rem)
 }

@@ -2,21 +2,20 @@
 //! sake of small frames, as the arms are themselves.
 ghost use Rattle.std.specs.Prelude.{◌≡◌, ◌+◌, ◌*◌, ◌<◌, ◌^◌, IfOk};
 ghost use Rattle.scc_reading.specs.Reading.{◌>>=◌ as followed_by, pure};
-ghost use Rattle.scc_svraw.specs.Answer.{Gives};
-ghost use Rattle.scc_svraw.specs.Grammar as grammar;
-ghost use Rattle.scc_svraw.specs.Leaves as leaves;
-ghost use Rattle.scc_svraw.specs.Reader as reader;
-ghost use Rattle.scc_svraw.specs.declared.raw.RawStmt.TheVariants as node;
+ghost use Rattle.scc_svgrammar.specs.Answer.{Gives};
+ghost use Rattle.scc_svgrammar.specs.Grammar as grammar;
+ghost use Rattle.scc_svgrammar.specs.Leaves as leaves;
+ghost use Rattle.scc_svgrammar.specs.Reader as reader;
+ghost use Rattle.scc_svgrammar.specs.declared.raw.RawStmt.TheVariants as node;
 ghost use Rattle.scc_svtext.specs.Pieces as pieces;
 
 use crate::bytes;
 use crate::bytes::{begins_name, text};
 use crate::expr::open_node;
-use crate::halt::Halt;
 use crate::held::{Node, Nodes};
 use crate::lexical::{left, left_behind, literal, named, plain_word};
-use crate::raw::{RawArm, RawExpr, RawLeft, RawLiteral, RawStmt};
 use scc_base::{List, NoMemory, Text};
+use scc_svgrammar::{Halt, RawArm, RawExpr, RawLeft, RawLiteral, RawStmt};
 use std::alloc::Global;
 
 /// So many blanks.
@@ -87,7 +86,7 @@ fn arm_node(
 
 // The end of an assignment.
 #[inline(never)]
-#[tactic(auto, unfolding(crate::specs::Reader::value_behind))]
+#[tactic(auto, unfolding(scc_svgrammar::specs::Reader::value_behind))]
 fn value_behind(
     alloc: Global,
     levels: u32,
@@ -104,7 +103,7 @@ fn value_behind(
 
 // An assignment from behind its first word.
 #[inline(never)]
-#[tactic(auto, unfolding(crate::specs::Reader::assign_behind))]
+#[tactic(auto, unfolding(scc_svgrammar::specs::Reader::assign_behind))]
 fn assign_behind(
     alloc: Global,
     levels: u32,
@@ -129,7 +128,7 @@ fn escaped_assign(alloc: Global, levels: u32, ts: &[u8]) -> Result<(Node<RawStmt
 
 // The test of an `if` or what a `case` selects, from behind the word.
 #[inline(never)]
-#[tactic(auto, unfolding(crate::specs::Reader::test_at))]
+#[tactic(auto, unfolding(scc_svgrammar::specs::Reader::test_at))]
 fn test_at(alloc: Global, levels: u32, ts: &[u8]) -> Result<(Node<RawExpr>, &[u8]), Halt>
     ensures { Gives (λ x. (x.0, x.1.now)) result (reader.test_at (reader.inner levels) ts.now) }
 {
@@ -158,7 +157,7 @@ fn open_stmt(
 }
 
 // A statement and the blanks before the next line.
-#[tactic(auto, unfolding(crate::specs::Reader::line))]
+#[tactic(auto, unfolding(scc_svgrammar::specs::Reader::line))]
 #[cycle(reading_stmt)]
 fn line(alloc: Global, levels: u32, outer: u32, ts: &[u8]) -> Result<(Node<RawStmt>, &[u8]), Halt>
     requires room { outer + 2 + 4 * levels < 2 ^ 20 }
@@ -217,7 +216,7 @@ fn body(alloc: Global, levels: u32, outer: u32, ts: &[u8]) -> Result<(Nodes<RawS
 }
 
 // The statements behind a first one, and their end.
-#[tactic(auto, unfolding(crate::specs::Reader::stmts_behind))]
+#[tactic(auto, unfolding(scc_svgrammar::specs::Reader::stmts_behind))]
 #[cycle(reading_stmt)]
 fn stmts_behind(
     alloc: Global,
@@ -235,7 +234,7 @@ fn stmts_behind(
 }
 
 // The other branch of an `if`, from behind the `end` of the first.
-#[tactic(auto, unfolding(crate::specs::Reader::other))]
+#[tactic(auto, unfolding(scc_svgrammar::specs::Reader::other))]
 #[cycle(reading_stmt)]
 fn other(alloc: Global, levels: u32, outer: u32, ts: &[u8]) -> Result<(Nodes<RawStmt>, &[u8]), Halt>
     requires room { outer + 2 + 4 * levels < 2 ^ 20 }
@@ -248,7 +247,7 @@ fn other(alloc: Global, levels: u32, outer: u32, ts: &[u8]) -> Result<(Nodes<Raw
 }
 
 // What follows the `end` of a first branch.
-#[tactic(auto, unfolding(crate::specs::Reader::behind_end))]
+#[tactic(auto, unfolding(scc_svgrammar::specs::Reader::behind_end))]
 #[cycle(reading_stmt)]
 fn behind_end(
     alloc: Global,
@@ -268,7 +267,7 @@ fn behind_end(
 
 // The branches of an `if`.
 #[inline(never)]
-#[tactic(auto, unfolding(crate::specs::Reader::branches))]
+#[tactic(auto, unfolding(scc_svgrammar::specs::Reader::branches))]
 #[cycle(reading_stmt)]
 fn branches(
     alloc: Global,
@@ -289,7 +288,7 @@ fn branches(
 }
 
 // The body of an arm, from behind its label.
-#[tactic(auto, unfolding(crate::specs::Reader::arm_body))]
+#[tactic(auto, unfolding(scc_svgrammar::specs::Reader::arm_body))]
 #[cycle(reading_stmt)]
 fn arm_body(
     alloc: Global,
@@ -324,7 +323,7 @@ fn arm_line(
     Ok((arm_node(alloc, label, body)?, rest))
 }
 
-#[tactic(auto, unfolding(crate::specs::Reader::arms))]
+#[tactic(auto, unfolding(scc_svgrammar::specs::Reader::arms))]
 #[cycle(reading_stmt)]
 fn arms(alloc: Global, levels: u32, outer: u32, ts: &[u8]) -> Result<(Nodes<RawArm>, &[u8]), Halt>
     requires room { outer + 4 + 4 * levels < 2 ^ 20 }
@@ -341,7 +340,7 @@ fn arms(alloc: Global, levels: u32, outer: u32, ts: &[u8]) -> Result<(Nodes<RawA
 }
 
 #[inline(never)]
-#[tactic(auto, unfolding(crate::specs::Reader::case_behind))]
+#[tactic(auto, unfolding(scc_svgrammar::specs::Reader::case_behind))]
 #[cycle(reading_stmt)]
 fn case_behind(
     alloc: Global,
@@ -361,7 +360,7 @@ fn case_behind(
 }
 
 // A statement from behind its first word.
-#[tactic(auto, unfolding(crate::specs::Reader::behind_word))]
+#[tactic(auto, unfolding(scc_svgrammar::specs::Reader::behind_word))]
 #[cycle(reading_stmt)]
 fn behind_word(
     alloc: Global,
@@ -384,7 +383,7 @@ fn behind_word(
     assign_behind(alloc, levels, word, ts)
 }
 
-#[tactic(auto, unfolding(crate::specs::Reader::stmt))]
+#[tactic(auto, unfolding(scc_svgrammar::specs::Reader::stmt))]
 #[cycle(reading_stmt)]
 fn stmt(alloc: Global, levels: u32, indent: u32, ts: &[u8]) -> Result<(Node<RawStmt>, &[u8]), Halt>
     requires room { indent + 4 + 4 * levels < 2 ^ 20 }

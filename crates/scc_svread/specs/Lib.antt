@@ -1,3 +1,3 @@
-pub mod Written
-pub mod Resolved
+pub use Rattle.scc_svwritten.specs.Written
+pub use Rattle.scc_svwritten.specs.Resolved
 pub mod Read

@@ -8,17 +8,17 @@ use Rattle.scc_svtree.specs.declared.module.SvModule.{SvModule}
 use Rattle.scc_svtree.specs.Code.{Code}
 use Rattle.scc_svtree.specs.Settled.{combs_of, Order}
 use Rattle.scc_svtext.specs.Emitted.{SvReads}
-use Rattle.scc_svraw.specs.declared.halt.Halt.{Halt}
-use Rattle.scc_svraw.specs.declared.halt.Halt.TheVariants as halt
-use Rattle.scc_svraw.specs.declared.raw.RawModule.{RawModule}
-use Rattle.scc_svraw.specs.Lexical.{Bytes}
-use Rattle.scc_svraw.specs.Grammar.{Reads}
-use Rattle.scc_svraw.specs.Levels.{deep}
-use Rattle.scc_svraw.specs.Claim.{IsRead, FaultAt}
+use Rattle.scc_svgrammar.specs.declared.halt.Halt.{Halt}
+use Rattle.scc_svgrammar.specs.declared.halt.Halt.TheVariants as halt
+use Rattle.scc_svgrammar.specs.declared.raw.RawModule.{RawModule}
+use Rattle.scc_svgrammar.specs.Lexical.{Bytes}
+use Rattle.scc_svgrammar.specs.Grammar.{Reads}
+use Rattle.scc_svgrammar.specs.Levels.{deep}
+use Rattle.scc_svgrammar.specs.Claim.{IsRead, FaultAt}
 use Rattle.scc_svcheck.specs.declared.wrong.Wrong.{Wrong}
 use Rattle.scc_svcheck.specs.declared.wrong.Wrong.TheVariants.{Size, Name, Driver}
-use Rattle.scc_svread.specs.Written.{raw_of}
-use Rattle.scc_svread.specs.Resolved.{module_of}
+use Rattle.scc_svwritten.specs.Written.{raw_of}
+use Rattle.scc_svwritten.specs.Resolved.{module_of}
 use Rattle.scc_svcheck.specs.First.{wrong_of, starts_of}
 use Rattle.scc_svorder.specs.Cycles.{FirstCycle}
 

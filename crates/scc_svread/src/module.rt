@@ -1,12 +1,12 @@
 //! Modules as trees without names.
 ghost use Rattle.std.specs.Prelude.{◌≡◌, ◌++◌, ◌∷◌, [], map, option_map, IfOk, OnOk};
 ghost use Rattle.scc_svcheck.specs.Mentioned.{with_name};
-ghost use Rattle.scc_svread.specs.Resolved as resolved;
+ghost use Rattle.scc_svwritten.specs.Resolved as resolved;
 
 use crate::names::VarNames;
 use crate::tree::{expr, small_number, stmts, word};
 use scc_base::{List, NoMemory, Text};
-use scc_svraw::{RawBlock, RawItem, RawLoad, RawModule, RawReset, RawSet, RawVar};
+use scc_svgrammar::{RawBlock, RawItem, RawLoad, RawModule, RawReset, RawSet, RawVar};
 use scc_svtree::{SvBlock, SvLoad, SvModule, SvReset, SvSet, SvVar};
 use std::alloc::Global;
 

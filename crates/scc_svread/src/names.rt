@@ -1,7 +1,7 @@
 //! The variables of a module by their names.
 ghost use Rattle.std.specs.Prelude.{◌≡◌, [], OnOk};
 ghost use Rattle.scc_svcheck.specs.Mentioned.{with_name};
-ghost use Rattle.scc_svread.specs.Resolved.{number_of};
+ghost use Rattle.scc_svwritten.specs.Resolved.{number_of};
 
 use scc_base::NoMemory;
 use scc_svcheck::TextSet;

@@ -9,8 +9,9 @@ ghost use Rattle.scc_svtree.specs.Settled.{combs_of};
 use crate::module::module_of;
 use scc_base::{Code, NoMemory, Place, Refusal, Stop};
 use scc_svcheck::{Wrong, first_wrong, starts};
+use scc_svgrammar::{Halt, RawModule};
 use scc_svorder::first_of;
-use scc_svraw::{Halt, RawModule, read_raw};
+use scc_svraw::read_raw;
 use scc_svtree::{SvBlock, SvModule};
 use std::alloc::Global;
 

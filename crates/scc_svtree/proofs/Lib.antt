@@ -1,5 +1,6 @@
 pub mod Joined
 pub mod Trees
+pub mod Induction
 pub mod Resized
 pub mod Values
 pub mod Divisors

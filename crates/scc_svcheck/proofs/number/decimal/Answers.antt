@@ -1,5 +1,5 @@
 use Rattle.std.proofs.Common.{arith}
-use Rattle.scc_svraw.proofs.Lengths.{number_step, number_end}
+use Rattle.scc_svgrammar.proofs.Lengths.{number_step, number_end}
 use Rattle.scc_svcheck.specs.Scope.{greatest}
 use Rattle.scc_svcheck.proofs.number.decimal.Goals as goal
 

@@ -1,5 +1,5 @@
 use Rattle.std.proofs.Common.{◌≡◌, ◌≤◌, min, drop}
-use Rattle.scc_svraw.specs.Lexical.{number, number_from}
+use Rattle.scc_svgrammar.specs.Lexical.{number, number_from}
 use Rattle.scc_svcheck.specs.Scope.{greatest}
 use Rattle.scc_svcheck.proofs.number.decimal.Given as goal
 

@@ -1,7 +1,7 @@
 use Rattle.std.proofs.Common.{◌≡◌, ◌+◌, ◌*◌, length}
 use Rattle.scc_reading.specs.Reading.{repeat}
 use Rattle.scc_reading.proofs.Loop.{before}
-use Rattle.scc_svraw.specs.Reader as p
+use Rattle.scc_svgrammar.specs.Reader as p
 use Rattle.scc_svraw.proofs.expr.+reading.Given as goal
 
 abbrev pub decreases-open_node : goal.decreases-open_node

@@ -1,6 +1,6 @@
 use Rattle.std.proofs.Common.{◌∙◌, sym, refl}
 use Rattle.scc_reading.proofs.Complete.{is_deep, is_stuck}
-use Rattle.scc_svraw.specs.Reader.{inner, begins_divisor}
+use Rattle.scc_svgrammar.specs.Reader.{inner, begins_divisor}
 use Rattle.scc_svraw.proofs.Turns.{left_divisor, none_left}
 use Rattle.scc_svraw.proofs.expr.open_divisor.Goals as goal
 

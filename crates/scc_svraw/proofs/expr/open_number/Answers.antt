@@ -1,7 +1,7 @@
 use Rattle.std.proofs.Common.{◌∙◌, sym, refl}
 use Rattle.scc_reading.proofs.Complete.{is_deep, is_stuck}
-use Rattle.scc_svraw.specs.Reader.{inner}
-use Rattle.scc_svraw.specs.Lexical.{is_digit}
+use Rattle.scc_svgrammar.specs.Reader.{inner}
+use Rattle.scc_svgrammar.specs.Lexical.{is_digit}
 use Rattle.scc_svraw.proofs.Turns.{left_number, none_left}
 use Rattle.scc_svraw.proofs.expr.open_number.Goals as goal
 

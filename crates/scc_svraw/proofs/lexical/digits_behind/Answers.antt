@@ -1,6 +1,6 @@
 use Rattle.std.proofs.Common.{◌∙◌, sym, arith}
-use Rattle.scc_svraw.proofs.Lengths.{digits_bound, digits_found, digits_missing, run_bound}
-use Rattle.scc_svraw.specs.Lexical.{is_hex_digit}
+use Rattle.scc_svgrammar.proofs.Lengths.{digits_bound, digits_found, digits_missing, run_bound}
+use Rattle.scc_svgrammar.specs.Lexical.{is_hex_digit}
 use Rattle.scc_svraw.proofs.lexical.digits_behind.Goals as goal
 
 pub split_at-requires : goal.split_at-requires

@@ -1,5 +1,5 @@
 use Rattle.std.proofs.Common.{◌-◌, ◌≤◌, length}
-use Rattle.scc_svraw.proofs.Escapes.{Escape}
+use Rattle.scc_svgrammar.proofs.Escapes.{Escape}
 use Rattle.scc_svraw.proofs.lexical.keyword_len.Given as goal
 
 abbrev pub invariant-loop-n : goal.invariant-loop-n

@@ -1,5 +1,5 @@
 use Rattle.std.proofs.Common.{◌≡◌, ◌-◌, ◌^◌, ◌≤◌, min, drop}
-use Rattle.scc_svraw.specs.Lexical.{number, number_from}
+use Rattle.scc_svgrammar.specs.Lexical.{number, number_from}
 use Rattle.scc_svraw.proofs.lexical.number.Given as goal
 
 abbrev pub invariant-loop-b : goal.invariant-loop-b

@@ -1,7 +1,7 @@
 use Rattle.std.proofs.Common.{◌≡◌, length, false}
 use Rattle.scc_reading.specs.Reading.{repeat_in}
 use Rattle.scc_reading.proofs.Loop.{before_in}
-use Rattle.scc_svraw.specs.Reader as p
+use Rattle.scc_svgrammar.specs.Reader as p
 use Rattle.scc_svraw.proofs.module.items.Given as goal
 
 abbrev pub invariant-loop-alloc : goal.invariant-loop-alloc

@@ -1,7 +1,7 @@
 use Rattle.std.proofs.Common.{◌≡◌, length}
 use Rattle.scc_reading.specs.Reading.{repeat}
 use Rattle.scc_reading.proofs.Loop.{before}
-use Rattle.scc_svraw.specs.Reader as p
+use Rattle.scc_svgrammar.specs.Reader as p
 use Rattle.scc_svraw.proofs.module.more_ports.Given as goal
 
 abbrev pub invariant-loop-alloc : goal.invariant-loop-alloc

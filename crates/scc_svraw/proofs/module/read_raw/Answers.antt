@@ -1,4 +1,4 @@
-use Rattle.scc_svraw.proofs.Whole.{found_read, found_only, found_fault}
+use Rattle.scc_svgrammar.proofs.Whole.{found_read, found_only, found_fault}
 use Rattle.scc_svraw.proofs.module.read_raw.Goals as goal
 
 pub returns : goal.returns

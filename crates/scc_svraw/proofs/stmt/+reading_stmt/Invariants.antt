@@ -1,7 +1,7 @@
 use Rattle.std.proofs.Common.{◌≡◌, ◌+◌, ◌*◌, length}
 use Rattle.scc_reading.specs.Reading.{repeat}
 use Rattle.scc_reading.proofs.Loop.{before}
-use Rattle.scc_svraw.specs.Reader as p
+use Rattle.scc_svgrammar.specs.Reader as p
 use Rattle.scc_svraw.proofs.stmt.+reading_stmt.Given as goal
 
 abbrev pub decreases-open_stmt : goal.decreases-open_stmt

@@ -1,5 +1,5 @@
 use Rattle.std.proofs.Common.{◌≡◌, replicate}
-use Rattle.scc_svraw.specs.Leaves.{text}
+use Rattle.scc_svgrammar.specs.Leaves.{text}
 use Rattle.scc_svraw.proofs.stmt.blanks.Given as goal
 
 abbrev pub invariant-loop-left : goal.invariant-loop-left

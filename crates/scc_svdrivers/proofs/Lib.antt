@@ -1,0 +1,14 @@
+pub mod NamedTests
+pub mod NamedLists
+pub mod NamedExpressions
+pub mod NamedStatements
+pub mod NamedBlocks
+pub mod DrivenLists
+pub mod DrivenClocks
+pub mod DrivenFacts
+pub mod DrivenBlocks
+pub mod DrivenEdges
+pub mod DrivenKnown
+pub mod DrivenParts
+pub mod DrivenWalk
+pub mod DrivenModule

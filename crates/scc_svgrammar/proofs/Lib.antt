@@ -1,0 +1,15 @@
+pub mod Runs
+pub mod Numbers
+pub mod Names
+pub mod Operators
+pub mod SoundExpr
+pub mod SoundStmt
+pub mod SoundModule
+pub mod Closed
+pub mod Firsts
+pub mod CompleteExpr
+pub mod CompleteStmt
+pub mod CompleteModule
+pub mod Whole
+pub mod Lengths
+pub mod Escapes
