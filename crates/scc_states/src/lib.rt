@@ -1,6 +1,17 @@
 //! Threads as states: waits, and the segments between them.
 #![tactic(auto)]
 
-mod split;
+mod kept;
+mod measure;
+mod outline;
+mod over;
+mod points;
+mod reset;
+mod segment;
+mod sum;
+mod thread;
+mod types;
 
-pub use split::{SegNode, SegStmt, Split};
+pub use sum::{index_sum, index_sum_known};
+pub use thread::{split, split_known};
+pub use types::{SegNode, SegStmt, Split};

@@ -1,0 +1,339 @@
+//! Which cells live across a wait: some segment may read them before it writes them whole.
+use crate::types::{SegNode, SegStmt, Split};
+use scc_base::{List, NoMemory, lost, push};
+use scc_core::{
+    CellSort, CoreExpr, CoreExprNode, CoreLeft, CoreNode, CorePart, CorePick, CoreStmt, Known,
+    LEVELS, deeper, spine,
+};
+use scc_flow::CellSet;
+use std::alloc::Global;
+
+/// A process's own cells: its locals and the variables that it writes.
+#[derive(Drop)]
+pub struct Own<'a> {
+    known: Known<'a>,
+    /// The slot of each cell of the design that is one of them.
+    slots: Vec<Option<u32>>,
+    /// The cell of each slot, ascending.
+    cells: Vec<u32>,
+}
+
+/// The own cells of the process of that number; `live` is its live part.
+pub fn own_cells<'a>(
+    alloc: Global,
+    known: Known<'a>,
+    process: u32,
+    live: &[CoreStmt],
+) -> Result<Own<'a>, NoMemory> {
+    let mut is_own = Vec::new(alloc);
+    for cell in known.cells().as_slice() {
+        push(
+            &mut is_own,
+            matches!(cell.sort, CellSort::Local(p) if p == process),
+        )?;
+    }
+    note_written(live, alloc, known, &mut is_own)?;
+    let mut own = Own {
+        known,
+        slots: Vec::new(alloc),
+        cells: Vec::new(alloc),
+    };
+    let mut slot = 0u32;
+    let mut at = 0u32;
+    for is in is_own.iter() {
+        if *is {
+            push(&mut own.slots, Some(slot))?;
+            push(&mut own.cells, at)?;
+            slot = slot.saturating_add(1);
+        } else {
+            push(&mut own.slots, None)?;
+        }
+        at = at.saturating_add(1);
+    }
+    Ok(own)
+}
+
+// Notes the variables that statements write.
+#[cycle(note_written)]
+fn note_written(
+    body: &[CoreStmt],
+    alloc: Global,
+    known: Known<'_>,
+    is_own: &mut Vec<bool>,
+) -> Result<(), NoMemory> {
+    for s in body {
+        note_stmt(s, alloc, known, is_own)?;
+    }
+    Ok(())
+}
+
+#[cycle(note_written)]
+fn note_stmt(
+    s: &CoreStmt,
+    alloc: Global,
+    known: Known<'_>,
+    is_own: &mut Vec<bool>,
+) -> Result<(), NoMemory> {
+    match &s.node {
+        CoreNode::Assign { left, .. } => note_left(alloc, known, left, is_own),
+        CoreNode::If { yes, no, .. } => {
+            note_written(yes.as_slice(), alloc, known, is_own)?;
+            note_written(no.as_slice(), alloc, known, is_own)
+        }
+        CoreNode::Block(body) | CoreNode::Loop { body, .. } => {
+            note_written(body.as_slice(), alloc, known, is_own)
+        }
+        CoreNode::Exit(_) | CoreNode::Wait { .. } | CoreNode::Alias { .. } => Ok(()),
+    }
+}
+
+fn note_left(
+    alloc: Global,
+    known: Known<'_>,
+    left: &CoreLeft,
+    is_own: &mut Vec<bool>,
+) -> Result<(), NoMemory> {
+    let Some(named) = known.named(alloc, left)? else {
+        return Ok(());
+    };
+    for number in 0..named.count() {
+        let at = named.cell(number) as usize;
+        match (known.cells().get(at), is_own.get_mut(at)) {
+            (Some(cell), Some(is)) => {
+                if matches!(cell.sort, CellSort::Variable { .. }) {
+                    *is = true;
+                }
+            }
+            _ => return Err(lost()),
+        }
+    }
+    Ok(())
+}
+
+/// The own cells that live across a wait, ascending.
+pub fn kept_of(alloc: Global, own: &Own<'_>, split: &Split) -> Result<List<u32>, NoMemory> {
+    let mut all = segment(split.reset.as_slice(), alloc, own)?;
+    for list in split.segments.as_slice() {
+        all.join(&segment(list.as_slice(), alloc, own)?);
+    }
+    let mut kept = List::new(alloc);
+    let mut slot = 0u32;
+    for cell in own.cells.iter() {
+        if all.has(slot) {
+            kept.push(*cell)?;
+        }
+        slot = slot.saturating_add(1);
+    }
+    Ok(kept)
+}
+
+// What is live at the beginning of a segment.
+#[cycle(kept_segment)]
+fn segment(list: &[SegStmt], alloc: Global, own: &Own<'_>) -> Result<CellSet, NoMemory> {
+    let mut live = CellSet::none(alloc, own.cells.len())?;
+    for s in list.iter().rev() {
+        segment_stmt(s, alloc, own, &mut live)?;
+    }
+    Ok(live)
+}
+
+#[cycle(kept_segment)]
+fn segment_stmt(
+    s: &SegStmt,
+    alloc: Global,
+    own: &Own<'_>,
+    live: &mut CellSet,
+) -> Result<(), NoMemory> {
+    match &s.node {
+        SegNode::Wait(_) => {
+            live.clear();
+            Ok(())
+        }
+        SegNode::If { test, yes, no } => {
+            *live = segment(yes.as_slice(), alloc, own)?;
+            live.join(&segment(no.as_slice(), alloc, own)?);
+            reads(test, alloc, own, live)
+        }
+        SegNode::Plain(stmt) => {
+            let mut behind = Vec::new(alloc);
+            before(stmt, alloc, own, live, &mut behind)
+        }
+    }
+}
+
+#[cycle(kept_stmts)]
+fn each(
+    body: &[CoreStmt],
+    alloc: Global,
+    own: &Own<'_>,
+    live: &mut CellSet,
+    behind: &mut Vec<CellSet>,
+) -> Result<(), NoMemory> {
+    for s in body.iter().rev() {
+        before(s, alloc, own, live, behind)?;
+    }
+    Ok(())
+}
+
+// From what is live behind a statement to what is live before it; `behind` has what is live behind each open block.
+#[cycle(kept_stmts)]
+fn before(
+    s: &CoreStmt,
+    alloc: Global,
+    own: &Own<'_>,
+    live: &mut CellSet,
+    behind: &mut Vec<CellSet>,
+) -> Result<(), NoMemory> {
+    match &s.node {
+        CoreNode::Assign { left, value } => {
+            killed(alloc, own, left, live)?;
+            reads(value, alloc, own, live)?;
+            reads_inside(left, alloc, own, live)
+        }
+        CoreNode::If { test, yes, no } => {
+            let mut other = live.copied(alloc)?;
+            each(yes.as_slice(), alloc, own, live, behind)?;
+            each(no.as_slice(), alloc, own, &mut other, behind)?;
+            live.join(&other);
+            reads(test, alloc, own, live)
+        }
+        CoreNode::Block(body) => {
+            push(behind, live.copied(alloc)?)?;
+            each(body.as_slice(), alloc, own, live, behind)?;
+            let _set = behind.pop();
+            Ok(())
+        }
+        CoreNode::Exit(n) => match behind.iter().rev().nth(*n as usize) {
+            Some(set) => {
+                *live = set.copied(alloc)?;
+                Ok(())
+            }
+            None => Err(lost()),
+        },
+        CoreNode::Loop { .. } | CoreNode::Wait { .. } | CoreNode::Alias { .. } => Err(lost()),
+    }
+}
+
+// A whole write of a cell ends what was live of it.
+fn killed(
+    alloc: Global,
+    own: &Own<'_>,
+    left: &CoreLeft,
+    live: &mut CellSet,
+) -> Result<(), NoMemory> {
+    let Some(named) = own.known.named(alloc, left)? else {
+        return Ok(());
+    };
+    let Some(cell) = own.known.cells().get(named.base as usize) else {
+        return Err(lost());
+    };
+    if named.is_single() && own.known.is_whole(left.pick.as_ref(), cell.kind) {
+        if let Some(Some(slot)) = own.slots.get(named.base as usize) {
+            live.remove(*slot)?;
+        }
+    }
+    Ok(())
+}
+
+// Adds the own cells that an expression reads. First operands, which nest as deep as a chain is long, are taken by a loop.
+fn reads(e: &CoreExpr, alloc: Global, own: &Own<'_>, live: &mut CellSet) -> Result<(), NoMemory> {
+    reads_within(alloc, e, own, live, LEVELS)
+}
+
+// The same of the expressions inside a location, but not of the location itself.
+fn reads_inside(
+    left: &CoreLeft,
+    alloc: Global,
+    own: &Own<'_>,
+    live: &mut CellSet,
+) -> Result<(), NoMemory> {
+    reads_indices(alloc, left, own, live, LEVELS)
+}
+
+#[cycle(kept_reads)]
+fn reads_within(
+    alloc: Global,
+    e: &CoreExpr,
+    own: &Own<'_>,
+    live: &mut CellSet,
+    levels: u32,
+) -> Result<(), NoMemory> {
+    let levels = deeper(levels)?;
+    for here in spine(alloc, e)?.iter() {
+        reads_beside(alloc, here, own, live, levels)?;
+    }
+    Ok(())
+}
+
+// What an expression reads beside its first operand.
+#[cycle(kept_reads)]
+fn reads_beside(
+    alloc: Global,
+    e: &CoreExpr,
+    own: &Own<'_>,
+    live: &mut CellSet,
+    levels: u32,
+) -> Result<(), NoMemory> {
+    match e.node.get() {
+        CoreExprNode::Lit(_) | CoreExprNode::Convert(_) => Ok(()),
+        CoreExprNode::Load(left) | CoreExprNode::Read(left) => {
+            reads_indices(alloc, left, own, live, levels)?;
+            named_read(alloc, left, own, live)
+        }
+        CoreExprNode::Operate { right, .. } => match right {
+            Some(right) => reads_within(alloc, right, own, live, levels),
+            None => Ok(()),
+        },
+        CoreExprNode::Choose { yes, no, .. } => {
+            reads_within(alloc, yes, own, live, levels)?;
+            reads_within(alloc, no, own, live, levels)
+        }
+        CoreExprNode::Pick { pick, .. } => match pick {
+            CorePick::Bit(at) => reads_within(alloc, at, own, live, levels),
+            CorePick::Range { .. } => Ok(()),
+        },
+        CoreExprNode::Join(parts) => {
+            for part in parts.as_slice() {
+                reads_within(alloc, part, own, live, levels)?;
+            }
+            Ok(())
+        }
+    }
+}
+
+// What the indices of a location read.
+#[cycle(kept_reads)]
+fn reads_indices(
+    alloc: Global,
+    left: &CoreLeft,
+    own: &Own<'_>,
+    live: &mut CellSet,
+    levels: u32,
+) -> Result<(), NoMemory> {
+    for part in left.parts.as_slice() {
+        if let CorePart::Index { at, .. } = part {
+            reads_within(alloc, at, own, live, levels)?;
+        }
+    }
+    match &left.pick {
+        Some(CorePick::Bit(at)) => reads_within(alloc, at, own, live, levels),
+        Some(CorePick::Range { .. }) | None => Ok(()),
+    }
+}
+
+fn named_read(
+    alloc: Global,
+    left: &CoreLeft,
+    own: &Own<'_>,
+    live: &mut CellSet,
+) -> Result<(), NoMemory> {
+    let Some(named) = own.known.named(alloc, left)? else {
+        return Ok(());
+    };
+    for number in 0..named.count() {
+        if let Some(Some(slot)) = own.slots.get(named.cell(number) as usize) {
+            live.add(*slot)?;
+        }
+    }
+    Ok(())
+}
