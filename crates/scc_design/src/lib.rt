@@ -13,7 +13,7 @@ pub struct Design {
     pub processes: List<Process>,
     /// Where the pointers and references lead that aren't null, in the order of their numbers.
     pub targets: List<Target>,
-    /// The vectors and their sizes, in construction order.
+    /// The vectors that have elements, and how many, in construction order.
     pub vectors: List<VectorSize>,
 }
 

@@ -2,6 +2,7 @@
 //! and each conversion is written out.
 #![tactic(auto)]
 
+mod copy;
 mod expr;
 mod program;
 mod stmt;

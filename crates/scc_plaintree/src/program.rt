@@ -1,6 +1,6 @@
 //! Classes, functions and what variables hold.
 use crate::PlainStmt;
-use scc_base::{List, Name, Place};
+use scc_base::{List, Name, NoMemory, Place};
 use scc_bits::Kind;
 use std::alloc::Global;
 
@@ -94,5 +94,19 @@ impl Shape {
             vector: false,
             sizes: List::new(alloc),
         }
+    }
+
+    /// An equal shape.
+    pub fn copied(&self, alloc: Global) -> Result<Shape, NoMemory> {
+        let mut sizes = List::new(alloc);
+        for n in self.sizes.as_slice() {
+            sizes.push(*n)?;
+        }
+        Ok(Shape {
+            base: self.base,
+            reach: self.reach,
+            vector: self.vector,
+            sizes,
+        })
     }
 }

@@ -1,0 +1,78 @@
+//! The calls: construction from the top.
+ghost use Rattle.std.specs.Prelude.{◌≡◌, true, false, length, IfOk, IfErr};
+ghost use Rattle.scc_design.specs.Whole.{is_whole_design};
+ghost use Rattle.scc_elab.specs.Refusals.{may_stop};
+
+use crate::after::{check_functions, check_ports};
+use crate::clocks::processes_of;
+use crate::design::design_of;
+use crate::grown::Grown;
+use crate::make::make_one;
+use crate::program::{class_of, function_of};
+use crate::refusals::allowed;
+use crate::spots::TOP;
+use crate::statements::run;
+use crate::work::Stack;
+use scc_base::{Code, Stop};
+use scc_design::Design;
+use scc_plaintree::{Base, Plain};
+use std::alloc::Global;
+
+/// The design of a program, all of whose clocked processes name one edge of one clock. Refused as E401 to E407 and E409 to E412.
+pub fn elaborate(alloc: Global, p: &Plain) -> Result<Design, Stop>
+    ensures whole { IfOk result (λ d. is_whole_design (length p.now.classes) (length p.now.functions) d ≡ true) }
+    ensures refused { IfErr result (λ e. may_stop false e ≡ true) }
+{
+    allowed(
+        false,
+        p.classes.len(),
+        p.functions.len(),
+        constructed(p, false, alloc),
+    )
+}
+
+/// The design of a program whose processes may name edges of several clocks, at most 128, each clock's in one direction. Refused
+/// as E401 to E407 and E409 to E413.
+pub fn elaborate_many(alloc: Global, p: &Plain) -> Result<Design, Stop>
+    ensures whole { IfOk result (λ d. is_whole_design (length p.now.classes) (length p.now.functions) d ≡ true) }
+    ensures refused { IfErr result (λ e. may_stop true e ≡ true) }
+{
+    allowed(
+        true,
+        p.classes.len(),
+        p.functions.len(),
+        constructed(p, true, alloc),
+    )
+}
+
+fn constructed(p: &Plain, many: bool, alloc: Global) -> Result<Design, Stop> {
+    check_top(p)?;
+    let mut g = Grown::new(alloc)?;
+    let mut stack = Stack::new(alloc);
+    let place = class_of(p, p.top)?.place;
+    make_one(&[], Base::Class(p.top), TOP, place, p, &mut stack, &mut g)?;
+    run(&mut stack, p, &mut g)?;
+    check_functions(p, alloc)?;
+    check_ports(&g)?;
+    let processes = processes_of(&g, many)?;
+    Ok(design_of(&g, processes)?)
+}
+
+// The top's constructor has no parameter but its name: the first one that is a module's name.
+fn check_top(p: &Plain) -> Result<(), Stop> {
+    let Some(number) = class_of(p, p.top)?.constructor else {
+        return Ok(());
+    };
+    let function = function_of(p, number)?;
+    let mut is_named = false;
+    for (at, param) in function.locals.as_slice().iter().enumerate() {
+        if at >= function.params as usize {
+            return Ok(());
+        }
+        if is_named || param.shape.base != Base::ModuleName {
+            return Err(Stop::refused(Code::Constructor, param.place));
+        }
+        is_named = true;
+    }
+    Ok(())
+}

@@ -1,0 +1,65 @@
+//! A look at an answer: a design that is whole, or a refusal of construction. Another answer is never given.
+ghost use Rattle.std.specs.Prelude.{◌≡◌, true, length, IfOk, IfErr};
+ghost use Rattle.scc_design.specs.Whole.{is_whole_design as is_whole};
+ghost use Rattle.scc_elab.specs.Refusals as refusals;
+
+use crate::whole::is_whole_design;
+use scc_base::{Code, Refusal, Stop, lost};
+use scc_design::Design;
+
+fn is_construction(many: bool, code: Code) -> bool
+    ensures { result ≡ refusals.is_construction many code }
+{
+    let number = code.number();
+    401 <= number && number <= 413 && number != 408 && (many || number != 413)
+}
+
+fn has_other(code: Code) -> bool
+    ensures { result ≡ refusals.has_other code }
+{
+    let number = code.number();
+    number == 402 || number == 407
+}
+
+fn may_refuse(many: bool, r: Refusal) -> bool
+    ensures { result ≡ refusals.may_refuse many r }
+{
+    is_construction(many, r.code) && (has_other(r.code) || r.other.is_none())
+}
+
+fn allowed_stop(many: bool, stop: Stop) -> Stop
+    ensures { refusals.may_stop many result ≡ true }
+{
+    match stop {
+        Stop::Refused(r) => {
+            if may_refuse(many, r) {
+                Stop::Refused(r)
+            } else {
+                Stop::from(lost())
+            }
+        }
+        Stop::NoMemory => Stop::NoMemory,
+    }
+}
+
+/// An answer for a program of so many classes and functions, where it may be one.
+pub fn allowed(
+    many: bool,
+    classes: usize,
+    functions: usize,
+    answer: Result<Design, Stop>,
+) -> Result<Design, Stop>
+    ensures whole { IfOk result (λ d. is_whole classes functions d ≡ true) }
+    ensures refused { IfErr result (λ e. refusals.may_stop many e ≡ true) }
+{
+    match answer {
+        Ok(design) => {
+            if is_whole_design(classes, functions, &design) {
+                Ok(design)
+            } else {
+                Err(Stop::from(lost()))
+            }
+        }
+        Err(stop) => Err(allowed_stop(many, stop)),
+    }
+}

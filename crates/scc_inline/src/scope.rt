@@ -1,0 +1,282 @@
+//! What a copy of a function works with.
+use crate::facts::Facts;
+use indexmap::IndexMap;
+use scc_base::{List, Name, NoMemory, Path, Place, lost, push};
+use scc_bits::{Kind, Value, Word};
+use scc_core::{
+    Cell, CellName, CellSort, CoreBase, CoreExpr, CoreExprNode, CoreLeft, CoreNode, CoreStmt,
+    Counters, Known, Places, Spot, numbered,
+};
+use scc_plaintree::{Base, Plain, PlainFunction, PlainMember, Reach};
+use std::alloc::Global;
+
+/// What is copied from.
+#[derive(Clone, Copy)]
+pub struct Source<'a> {
+    pub plain: &'a Plain,
+    pub facts: &'a [Option<Facts>],
+}
+
+/// The function that is copied.
+#[derive(Clone, Copy)]
+pub struct Here<'a> {
+    pub source: Source<'a>,
+    pub function: &'a PlainFunction,
+    pub facts: &'a Facts,
+}
+
+/// The object of a call.
+#[derive(Drop)]
+pub struct This {
+    pub left: CoreLeft,
+    /// Where its name stands among those of the cells, where it has a whole one.
+    pub spot: Option<Spot>,
+    /// Whether a call gave it: null is met where it is used.
+    pub soft: bool,
+}
+
+/// A copy of a function, as far as it has come.
+#[derive(Drop)]
+pub struct Scope {
+    /// The object whose function it is.
+    pub this: Option<This>,
+    /// The first cell of each local that has its number.
+    locals: Vec<Option<u32>>,
+    /// Of each local its number in the process.
+    numbers: Vec<u32>,
+    /// Whether each local was given what it leads to.
+    pointed: Vec<bool>,
+    /// The cell of the result.
+    pub answer: Option<u32>,
+    /// The cells of calls' results by the calls' numbers.
+    pub answers: IndexMap<u32, u32>,
+    /// How many loops were met.
+    loops: usize,
+}
+
+/// What grows with each copied statement.
+#[derive(Drop)]
+pub struct Growing {
+    pub alloc: Global,
+    pub cells: List<Cell>,
+    pub places: Places,
+    /// The counters of the counted loops round what is copied; 0 stands for each.
+    pub counters: Counters,
+    /// The process whose body it is, its number, and how many locals it has.
+    pub process: Path,
+    pub number: u32,
+    pub next: u32,
+}
+
+impl Scope {
+    pub fn new(
+        alloc: Global,
+        function: &PlainFunction,
+        this: Option<This>,
+    ) -> Result<Scope, NoMemory> {
+        let mut scope = Scope {
+            this,
+            locals: Vec::new(alloc),
+            numbers: Vec::new(alloc),
+            pointed: Vec::new(alloc),
+            answer: None,
+            answers: IndexMap::new(alloc),
+            loops: 0,
+        };
+        for _ in function.locals.as_slice() {
+            push(&mut scope.locals, None)?;
+            push(&mut scope.numbers, 0)?;
+            push(&mut scope.pointed, false)?;
+        }
+        Ok(scope)
+    }
+
+    /// The first cell of a local.
+    pub fn cell(&self, local: u32) -> Result<u32, NoMemory> {
+        let cell = self.locals.get(local as usize).copied().flatten();
+        cell.ok_or(lost())
+    }
+
+    /// The number of a local in its process.
+    pub fn number(&self, local: u32) -> Result<u32, NoMemory> {
+        self.numbers.get(local as usize).copied().ok_or(lost())
+    }
+
+    /// The number of the next loop in text order.
+    pub fn next_loop(&mut self) -> usize {
+        let number = self.loops;
+        self.loops = self.loops.saturating_add(1);
+        number
+    }
+
+    /// Whether a local is given what it leads to for the first time.
+    pub fn points_first(&mut self, local: u32) -> bool {
+        match self.pointed.get_mut(local as usize) {
+            Some(pointed) => {
+                let first = !*pointed;
+                *pointed = true;
+                first
+            }
+            None => false,
+        }
+    }
+}
+
+impl Growing {
+    /// What is known before a run where no counter is.
+    pub fn known(&self) -> Known<'_> {
+        Known::new(&self.cells, &self.places)
+    }
+
+    /// What is known where the counters of the counted loops round stand as literals.
+    pub fn known_here(&self) -> Known<'_> {
+        self.known().with(&self.counters)
+    }
+
+    /// Gives a local its number and its cells, unless it has them.
+    pub fn give(
+        &mut self,
+        scope: &mut Scope,
+        function: &PlainFunction,
+        local: u32,
+    ) -> Result<(), NoMemory> {
+        let at = local as usize;
+        let member = function.locals.get(at).ok_or(lost())?;
+        if scope.locals.get(at).copied().flatten().is_some() {
+            return Ok(());
+        }
+        let number = self.next;
+        let first = self.add_local(member, number)?;
+        if let Some(slot) = scope.locals.get_mut(at) {
+            *slot = Some(first);
+        }
+        if let Some(slot) = scope.numbers.get_mut(at) {
+            *slot = number;
+        }
+        Ok(())
+    }
+
+    /// Gives the locals that no statement declared their numbers.
+    pub fn give_rest(
+        &mut self,
+        scope: &mut Scope,
+        function: &PlainFunction,
+    ) -> Result<(), NoMemory> {
+        for local in 0..function.locals.len() {
+            self.give(scope, function, numbered(local)?)?;
+        }
+        Ok(())
+    }
+
+    // The cells of a local, one for each element; the first one's number.
+    fn add_local(&mut self, member: &PlainMember, number: u32) -> Result<u32, NoMemory> {
+        let kind = match member.shape.base {
+            Base::Number(kind) => kind,
+            _ => Kind::Bool,
+        };
+        let sizes = member.shape.sizes.as_slice();
+        let direct = member.shape.reach == Reach::Direct;
+        let first = numbered(self.cells.len())?;
+        for element in 0..count(sizes) {
+            let sort = if direct {
+                CellSort::Local(self.number)
+            } else {
+                CellSort::Pointer(None)
+            };
+            let indices = indices(self.alloc, sizes, element)?;
+            let name = self.local_name(number, member.name, indices)?;
+            self.add(name, kind, sort, member.place)?;
+        }
+        self.next = self.next.checked_add(1).ok_or(lost())?;
+        Ok(first)
+    }
+
+    /// The cell of the result of a call, with the function's identifier.
+    pub fn add_answer(&mut self, function: &PlainFunction, kind: Kind) -> Result<u32, NoMemory> {
+        let cell = numbered(self.cells.len())?;
+        let name = self.local_name(self.next, function.name, List::new(self.alloc))?;
+        self.add(name, kind, CellSort::Local(self.number), function.place)?;
+        self.next = self.next.checked_add(1).ok_or(lost())?;
+        Ok(cell)
+    }
+
+    /// The name of a local's element.
+    pub fn local_name(
+        &self,
+        number: u32,
+        ident: Name,
+        indices: List<u32>,
+    ) -> Result<CellName, NoMemory> {
+        Ok(CellName {
+            path: Path::of(self.alloc, self.process.as_slice())?,
+            local: Some((number, ident)),
+            indices,
+        })
+    }
+
+    fn add(
+        &mut self,
+        name: CellName,
+        kind: Kind,
+        sort: CellSort,
+        place: Place,
+    ) -> Result<(), NoMemory> {
+        let number = numbered(self.cells.len())?;
+        let pointer = matches!(sort, CellSort::Pointer(_));
+        self.places.add(&name, number, pointer)?;
+        self.cells.push(Cell {
+            name,
+            kind,
+            sort,
+            place,
+        })
+    }
+
+    /// The assignment of 0 to a cell.
+    pub fn zero(&self, place: Place, cell: u32) -> Result<CoreStmt, NoMemory> {
+        let kind = self.kind(cell)?;
+        let zero = CoreExprNode::Lit(Word { bits: 0 });
+        Ok(CoreStmt {
+            place,
+            node: CoreNode::Assign {
+                left: CoreLeft::new(self.alloc, place, CoreBase::Cell(cell)),
+                value: CoreExpr::new(self.alloc, place, kind, zero)?,
+            },
+        })
+    }
+
+    pub fn kind(&self, cell: u32) -> Result<Kind, NoMemory> {
+        self.cells.get(cell as usize).map(|c| c.kind).ok_or(lost())
+    }
+
+    /// From here on the counter of a counted loop stands as a literal.
+    pub fn count_by(&mut self, counter: u32) -> Result<(), NoMemory> {
+        let kind = self.kind(counter)?;
+        let zero = Value::of(kind, Word { bits: 0 }).ok_or(lost())?;
+        self.counters.insert(counter, zero)?;
+        Ok(())
+    }
+}
+
+// How many elements there are of such sizes.
+fn count(sizes: &[u32]) -> u64 {
+    let mut count = 1u64;
+    for size in sizes {
+        count = count.saturating_mul(u64::from(*size));
+    }
+    count
+}
+
+// The indices of an element, the last running fastest.
+fn indices(alloc: Global, sizes: &[u32], element: u64) -> Result<List<u32>, NoMemory> {
+    let mut found = List::new(alloc);
+    let mut rest = element;
+    let mut stride = count(sizes);
+    for size in sizes {
+        stride /= u64::from((*size).max(1));
+        let i = rest / stride.max(1);
+        rest %= stride.max(1);
+        found.push(u32::try_from(i).map_err(|_| lost())?)?;
+    }
+    Ok(found)
+}

@@ -1,0 +1,395 @@
+//! Copies of statements, calls by their bodies.
+ghost use Rattle.std.specs.Prelude.{IfErr};
+ghost use Rattle.scc_inline.specs.Refusals.{MayStop};
+
+use crate::facts::alone;
+use crate::scope::{Growing, Here, Scope, This};
+use scc_base::{Boxed, Code, List, NoMemory, Place, Stop, lost};
+use scc_core::{
+    CoreBase, CoreExpr, CoreLeft, CoreNode, CorePart, CoreStmt, Count, Pointed, deeper, pointers,
+};
+use scc_plaintree::{
+    PlainArg, PlainCount, PlainFunction, PlainLeft, PlainNode, PlainStmt, PlainTarget, Reach,
+};
+
+impl Growing {
+    /// The copied body of a function; then the locals that it doesn't declare get their numbers.
+    #[cycle(copied)]
+    pub fn body(
+        &mut self,
+        scope: &mut Scope,
+        here: &Here,
+        room: u32,
+    ) -> Result<List<CoreStmt>, Stop>
+        ensures stop { IfErr result MayStop }
+    {
+        let body = self.stmts(here.function.body.as_slice(), scope, here, room, 0)?;
+        self.give_rest(scope, here.function)?;
+        Ok(body)
+    }
+
+    // The copies of some statements, inside so many open blocks of the function.
+    #[cycle(copied)]
+    fn stmts(
+        &mut self,
+        list: &[PlainStmt],
+        scope: &mut Scope,
+        here: &Here,
+        room: u32,
+        depth: u32,
+    ) -> Result<List<CoreStmt>, Stop>
+        ensures stop { IfErr result MayStop }
+    {
+        let room = deeper(room)?;
+        let mut out = List::new(self.alloc);
+        for s in list {
+            match &s.node {
+                PlainNode::Declare(local) => self.declare(*local, scope, here, s.place, &mut out)?,
+                PlainNode::Return(value) => {
+                    if let Some(value) = value {
+                        let value = self.expr(value, scope, here)?;
+                        let answer = scope.answer.ok_or(lost())?;
+                        out.push(self.assign(s.place, answer, value))?;
+                    }
+                    out.push(at(s.place, CoreNode::Exit(depth)))?;
+                }
+                _ => {
+                    let node = self.node(s, scope, here, room, depth)?;
+                    out.push(at(s.place, node))?;
+                }
+            }
+        }
+        Ok(out)
+    }
+
+    // The copy of a statement that stays one.
+    #[cycle(copied)]
+    fn node(
+        &mut self,
+        s: &PlainStmt,
+        scope: &mut Scope,
+        here: &Here,
+        room: u32,
+        depth: u32,
+    ) -> Result<CoreNode, Stop>
+        ensures stop { IfErr result MayStop }
+    {
+        match &s.node {
+            PlainNode::Assign { left, value } => {
+                if let Some(local) = alone(left) {
+                    self.give(scope, here.function, local)?;
+                }
+                let left = self.left(left, scope, here, false)?;
+                let value = self.expr(value, scope, here)?;
+                Ok(CoreNode::Assign { left, value })
+            }
+            PlainNode::Write { to, value } => {
+                let left = self.left(to, scope, here, false)?;
+                let value = self.expr(value, scope, here)?;
+                Ok(CoreNode::Assign { left, value })
+            }
+            PlainNode::Point { left, target } => self.point(left, target, scope, here, s.place),
+            PlainNode::Call { .. } => self.call(s, scope, here, room),
+            PlainNode::If { test, yes, no } => {
+                let test = self.expr(test, scope, here)?;
+                let yes = self.stmts(yes.as_slice(), scope, here, room, depth)?;
+                let no = self.stmts(no.as_slice(), scope, here, room, depth)?;
+                Ok(CoreNode::If { test, yes, no })
+            }
+            PlainNode::Block(body) => {
+                let depth = depth.saturating_add(1);
+                Ok(CoreNode::Block(self.stmts(body.as_slice(), scope, here, room, depth)?))
+            }
+            PlainNode::Loop { count, body } => {
+                self.repeat(body.as_slice(), count.as_ref(), scope, here, room, depth)
+            }
+            PlainNode::Exit(n) => Ok(CoreNode::Exit(*n)),
+            PlainNode::Wait(n) => Ok(CoreNode::Wait { n: *n }),
+            // No statement of a construction stands in a process.
+            _ => Err(lost().into()),
+        }
+    }
+
+    // A loop; the counter of a counted one stands as a literal inside.
+    #[cycle(copied)]
+    fn repeat(
+        &mut self,
+        body: &[PlainStmt],
+        count: Option<&PlainCount>,
+        scope: &mut Scope,
+        here: &Here,
+        room: u32,
+        depth: u32,
+    ) -> Result<CoreNode, Stop>
+        ensures stop { IfErr result MayStop }
+    {
+        let number = scope.next_loop();
+        let may = here.facts.loops.get(number).copied().unwrap_or(false);
+        let count = match count {
+            Some(count) => Some(self.count(count, scope, here)?),
+            None => None,
+        };
+        let counter = match &count {
+            Some(count) if may && self.counts(count) => Some(count.cell),
+            _ => None,
+        };
+        if let Some(counter) = counter {
+            self.count_by(counter)?;
+        }
+        let body = self.stmts(body, scope, here, room, depth)?;
+        if let Some(counter) = counter {
+            self.counters.swap_remove(&counter);
+        }
+        Ok(CoreNode::Loop { count, body })
+    }
+
+    // Whether a count is static.
+    fn counts(&self, c: &Count) -> bool {
+        let known = self.known_here();
+        known.value(&c.start).is_some()
+            && known.value(&c.bound).is_some()
+            && known.value(&c.step).is_some()
+    }
+
+    fn count(&self, c: &PlainCount, scope: &Scope, here: &Here) -> Result<Count, NoMemory> {
+        Ok(Count {
+            cell: scope.cell(c.counter)?,
+            start: self.expr(&c.start, scope, here)?,
+            compare: c.compare,
+            bound: self.expr(&c.bound, scope, here)?,
+            step_op: c.step_op,
+            step: self.expr(&c.step, scope, here)?,
+        })
+    }
+
+    // The call of a function: its result is 0 at first, its parameters are set, and its body stands behind.
+    #[cycle(copied)]
+    fn call(
+        &mut self,
+        s: &PlainStmt,
+        scope: &mut Scope,
+        here: &Here,
+        room: u32,
+    ) -> Result<CoreNode, Stop>
+        ensures stop { IfErr result MayStop }
+    {
+        let PlainNode::Call {
+            number,
+            function,
+            object,
+            args,
+        } = &s.node
+        else {
+            return Err(lost().into());
+        };
+        let callee = here
+            .source
+            .plain
+            .functions
+            .get(*function as usize)
+            .ok_or(lost())?;
+        let Some(Some(facts)) = here.source.facts.get(*function as usize) else {
+            return Err(lost().into());
+        };
+        let mut child = self.called(callee, *number, scope)?;
+        let own = match object {
+            Some(object) => Some(self.object(object, scope, here)?),
+            None => None,
+        };
+        let mut body = self.params(args.as_slice(), callee, &child, scope, here, s.place)?;
+        // A call without an object is on the same one, which the callee has for so long.
+        let same = own.is_none() && callee.class.is_some();
+        child.this = if same { scope.this.take() } else { own };
+        let inner = Here {
+            source: here.source,
+            function: callee,
+            facts,
+        };
+        body.append(self.body(&mut child, &inner, room)?)?;
+        if same {
+            scope.this = child.this.take();
+        }
+        Ok(CoreNode::Block(body))
+    }
+
+    // A new copy of a function, whose result and parameters have their numbers.
+    fn called(
+        &mut self,
+        callee: &PlainFunction,
+        call: u32,
+        scope: &mut Scope,
+    ) -> Result<Scope, NoMemory> {
+        let mut child = Scope::new(self.alloc, callee, None)?;
+        if let Some(kind) = callee.result {
+            let cell = self.add_answer(callee, kind)?;
+            child.answer = Some(cell);
+            scope.answers.insert(call, cell)?;
+        }
+        for param in 0..callee.params {
+            self.give(&mut child, callee, param)?;
+        }
+        Ok(child)
+    }
+
+    // The object of a call, which no index that isn't static may choose.
+    fn object(&self, object: &PlainLeft, scope: &Scope, here: &Here) -> Result<This, Stop>
+        ensures stop { IfErr result MayStop }
+    {
+        let left = self.left(object, scope, here, false)?;
+        self.check(&left)?;
+        let spot = match &left.base {
+            CoreBase::Prefix(name) if left.parts.is_empty() => self.places.name(name),
+            _ => None,
+        };
+        Ok(This {
+            left,
+            spot,
+            soft: true,
+        })
+    }
+
+    // What a call sets before its body.
+    fn params(
+        &self,
+        args: &[PlainArg],
+        callee: &PlainFunction,
+        child: &Scope,
+        scope: &Scope,
+        here: &Here,
+        place: Place,
+    ) -> Result<List<CoreStmt>, Stop>
+        ensures stop { IfErr result MayStop }
+    {
+        let mut out = List::new(self.alloc);
+        if let Some(answer) = child.answer {
+            out.push(self.zero(place, answer)?)?;
+        }
+        for (k, arg) in args.iter().enumerate() {
+            let param = callee.locals.get(k).ok_or(lost())?;
+            let cell = child.cell(u32::try_from(k).map_err(|_| lost())?)?;
+            match arg {
+                PlainArg::Value(value) => {
+                    let value = self.expr(value, scope, here)?;
+                    out.push(self.assign(place, cell, value))?;
+                }
+                PlainArg::Target(target) => {
+                    let target = self.target(target, scope, here, place)?;
+                    if param.shape.reach == Reach::Reference {
+                        self.check(&target)?;
+                    }
+                    let to = Pointed::Declared(cell);
+                    out.push(at(place, CoreNode::Alias { to, target }))?;
+                }
+                PlainArg::ModuleName => return Err(lost().into()),
+            }
+        }
+        Ok(out)
+    }
+
+    // Whether all indices of a location are static, the counters of the counted loops round it taken as literals.
+    fn check(&self, left: &CoreLeft) -> Result<(), Stop>
+        ensures stop { IfErr result MayStop }
+    {
+        let known = self.known_here();
+        for one in &pointers(self.alloc, left)? {
+            for part in one.parts.as_slice() {
+                if let CorePart::Index { at, .. } = part
+                    && known.value(at).is_none()
+                {
+                    return Err(Stop::refused(Code::StaticIndex, left.place));
+                }
+            }
+        }
+        Ok(())
+    }
+
+    // A declaration without a value: each element is 0, or a pointer that leads nowhere.
+    fn declare(
+        &mut self,
+        local: u32,
+        scope: &mut Scope,
+        here: &Here,
+        place: Place,
+        out: &mut List<CoreStmt>,
+    ) -> Result<(), NoMemory> {
+        self.give(scope, here.function, local)?;
+        let shape = &here
+            .function
+            .locals
+            .get(local as usize)
+            .ok_or(lost())?
+            .shape;
+        let first = scope.cell(local)?;
+        let mut count = 1u32;
+        for size in shape.sizes.as_slice() {
+            count = count.checked_mul(*size).ok_or(lost())?;
+        }
+        for k in 0..count {
+            if shape.reach == Reach::Direct {
+                let cell = first.checked_add(k).ok_or(lost())?;
+                out.push(self.zero(place, cell)?)?;
+            } else {
+                out.push(at(place, CoreNode::Block(List::new(self.alloc))))?;
+            }
+        }
+        Ok(())
+    }
+
+    // A pointer or reference is given what it leads to: at its declaration, or later.
+    fn point(
+        &mut self,
+        left: &PlainLeft,
+        target: &PlainTarget,
+        scope: &mut Scope,
+        here: &Here,
+        place: Place,
+    ) -> Result<CoreNode, Stop>
+        ensures stop { IfErr result MayStop }
+    {
+        let mut declares = None;
+        if let Some(local) = alone(left) {
+            self.give(scope, here.function, local)?;
+            let declared = here.facts.declared.get(local as usize).copied();
+            let own = local >= here.function.params && declared == Some(false);
+            if own && scope.points_first(local) {
+                declares = Some(scope.cell(local)?);
+            }
+        }
+        let to = match declares {
+            Some(cell) => Pointed::Declared(cell),
+            None => Pointed::Assigned(self.left(left, scope, here, true)?),
+        };
+        let target = self.target(target, scope, here, place)?;
+        Ok(CoreNode::Alias { to, target })
+    }
+
+    fn target(
+        &self,
+        target: &PlainTarget,
+        scope: &Scope,
+        here: &Here,
+        place: Place,
+    ) -> Result<CoreLeft, NoMemory> {
+        match target {
+            PlainTarget::Null => Ok(CoreLeft::new(self.alloc, place, CoreBase::Null)),
+            PlainTarget::Address(left) => self.left(left, scope, here, false),
+            PlainTarget::Copy(left) => {
+                let inner = self.left(left, scope, here, false)?;
+                let base = CoreBase::Follow {
+                    pointer: Boxed::new(self.alloc, inner)?,
+                    soft: false,
+                };
+                Ok(CoreLeft::new(self.alloc, left.place, base))
+            }
+        }
+    }
+
+    fn assign(&self, place: Place, cell: u32, value: CoreExpr) -> CoreStmt {
+        let left = CoreLeft::new(self.alloc, place, CoreBase::Cell(cell));
+        at(place, CoreNode::Assign { left, value })
+    }
+}
+
+fn at(place: Place, node: CoreNode) -> CoreStmt {
+    CoreStmt { place, node }
+}

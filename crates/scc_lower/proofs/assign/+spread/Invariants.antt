@@ -1,0 +1,5 @@
+use Rattle.std.proofs.Common.{ℕ}
+use Rattle.scc_lower.proofs.assign.+spread.Given as goal
+
+abbrev pub decreases-spread : goal.decreases-spread
+decreases-spread c = c.levels

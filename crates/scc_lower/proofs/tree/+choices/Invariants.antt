@@ -1,0 +1,8 @@
+use Rattle.std.proofs.Common.{ℕ}
+use Rattle.scc_lower.proofs.tree.+choices.Given as goal
+
+abbrev pub decreases-element : goal.decreases-element
+decreases-element c = c.levels
+
+abbrev pub decreases-between : goal.decreases-between
+decreases-between c = c.levels

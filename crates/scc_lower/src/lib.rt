@@ -1,0 +1,25 @@
+//! Expressions, statements and names of the core as those of the emitted text.
+#![tactic(auto)]
+
+mod assign;
+mod built;
+mod convert;
+mod exits;
+mod expr;
+mod index;
+mod known;
+mod lowering;
+mod name;
+mod operator;
+mod place;
+mod select;
+mod stmt;
+mod tree;
+mod whole;
+
+pub use exits::{greatest_exit, greatest_exit_of};
+pub use known::{cell_of, cells_of, known_word};
+pub use lowering::{Cells, Lowering, View};
+pub use name::sv_name;
+pub use stmt::{lowered_expr, lowered_stmt, lowered_stmts};
+pub use whole::{lower_expr, lower_stmts};
