@@ -1,0 +1,169 @@
+//! The pass.
+ghost use Rattle.std.specs.Prelude.{◌≡◌, Err, IfOk};
+ghost use Rattle.scc_base.specs.declared.refusal.Refusal.{Refusal};
+ghost use Rattle.scc_base.specs.declared.refusal.Stop.TheVariants as stop;
+ghost use Rattle.scc_pointers.specs.Resolved.{KeepsTop, IsOfPointers};
+
+use crate::held::Resolver;
+use crate::stmt::resolved_stmts;
+use scc_base::{List, NoMemory, Stop, lost, push};
+use scc_core::{
+    Cell, CellSort, Copies, Core, CoreProcess, CoreStmt, Edge2, Known, Pass, Places, Reset2,
+};
+use std::alloc::Global;
+
+/// Puts the objects to which pointers and references lead in their place. It refuses following null (EmptyPointer), an assignment
+/// of a pointer after its declaration (PointerAssigned), and a pointer, reference or object that is chosen by an index which
+/// isn't static (StaticIndex).
+#[derive(Clone, Copy, Debug)]
+pub struct Resolve;
+
+impl Pass for Resolve {
+    ghost gives = { λ _ c m. KeepsTop c m };
+
+    ghost refuses = { λ _ _ r. IsOfPointers r };
+
+    fn run(&self, alloc: Global, c: Core) -> Result<Core, Stop> {
+        let Core {
+            top,
+            cells,
+            processes,
+            vectors,
+        } = c;
+        let places = Places::of(alloc, &cells, &vectors)?;
+        let bodies = all(
+            alloc,
+            Known::new(&cells, &places),
+            &places,
+            processes.as_slice(),
+        )?;
+        let numbers = numbers_of(alloc, cells.as_slice())?;
+        let processes = renumbered(alloc, processes, bodies, numbers.as_slice())?;
+        let cells = kept(alloc, cells)?;
+        Ok(Core {
+            top,
+            cells,
+            processes,
+            vectors,
+        })
+    }
+}
+
+const GONE: u32 = u32::MAX;
+
+fn is_pointer(cell: &Cell) -> bool {
+    matches!(cell.sort, CellSort::Pointer(_))
+}
+
+// The bodies without pointers, with the cells' old numbers.
+fn all(
+    alloc: Global,
+    known: Known<'_>,
+    places: &Places,
+    processes: &[CoreProcess],
+) -> Result<List<List<CoreStmt>>, Stop>
+    ensures stop { (q : Refusal) → result ≡ Err (stop.Refused q) → IsOfPointers q }
+{
+    let mut out = List::new(alloc);
+    for p in processes {
+        let mut r = Resolver::new(alloc, known, places);
+        out.push(resolved_stmts(p.body.as_slice(), &mut r)?)?;
+    }
+    Ok(out)
+}
+
+// The new numbers of the cells that stay.
+fn numbers_of(alloc: Global, cells: &[Cell]) -> Result<Vec<u32>, NoMemory> {
+    let mut numbers = Vec::new(alloc);
+    let mut next = 0u32;
+    for cell in cells {
+        if is_pointer(cell) {
+            push(&mut numbers, GONE)?;
+        } else {
+            push(&mut numbers, next)?;
+            next = next.saturating_add(1);
+        }
+    }
+    Ok(numbers)
+}
+
+// The cells that are no pointers.
+fn kept(alloc: Global, cells: List<Cell>) -> Result<List<Cell>, NoMemory> {
+    let mut out = List::new(alloc);
+    for cell in cells.into_vec() {
+        if is_pointer(&cell) {
+            drop(cell);
+        } else {
+            out.push(cell)?;
+        }
+    }
+    Ok(out)
+}
+
+fn number(numbers: &[u32], cell: u32) -> Result<u32, NoMemory> {
+    match numbers.get(cell as usize) {
+        Some(n) if *n != GONE => Ok(*n),
+        Some(_) | None => Err(lost()),
+    }
+}
+
+// The processes with their new bodies and the new numbers.
+fn renumbered(
+    alloc: Global,
+    processes: List<CoreProcess>,
+    bodies: List<List<CoreStmt>>,
+    numbers: &[u32],
+) -> Result<List<CoreProcess>, NoMemory> {
+    let mut out = List::new(alloc);
+    for (p, body) in processes.into_vec().into_iter().zip(bodies.into_vec()) {
+        out.push(renumbered_process(alloc, p, body, numbers)?)?;
+    }
+    Ok(out)
+}
+
+fn renumbered_process(
+    alloc: Global,
+    p: CoreProcess,
+    new: List<CoreStmt>,
+    numbers: &[u32],
+) -> Result<CoreProcess, NoMemory> {
+    let CoreProcess {
+        sort,
+        name,
+        place,
+        senses: old_senses,
+        edge: old_edge,
+        reset: old_reset,
+        body: old,
+    } = p;
+    drop(old);
+    let mut senses = List::new(alloc);
+    for cell in old_senses.as_slice() {
+        senses.push(number(numbers, *cell)?)?;
+    }
+    let edge = match old_edge {
+        Some(edge) => Some(Edge2 {
+            cell: number(numbers, edge.cell)?,
+            rising: edge.rising,
+        }),
+        None => None,
+    };
+    let reset = match old_reset {
+        Some(reset) => Some(Reset2 {
+            cell: number(numbers, reset.cell)?,
+            level: reset.level,
+            asynchronous: reset.asynchronous,
+        }),
+        None => None,
+    };
+    let body = Copies::renumbered(alloc, numbers).stmts(new.as_slice())?;
+    Ok(CoreProcess {
+        sort,
+        name,
+        place,
+        senses,
+        edge,
+        reset,
+        body,
+    })
+}
