@@ -15,16 +15,16 @@ use Rattle.scc_tokens.specs.declared.joining.JoinFault.TheVariants as fault
 use Rattle.scc_tokens.specs.Files.{HoldsAll, ToldAll, first_part}
 use Rattle.scc_tokens.specs.Join.{join_of, JoinSays, Somewhere}
 use Rattle.scc_tokens.specs.Steps as join
-use Rattle.scc_drive.specs.declared.design.Design.{Design}
+use Rattle.scc_thin.specs.declared.design.Design.{Design}
 use Rattle.scc_drive.specs.declared.spots.Spot.{Spot}
 use Rattle.scc_drive.specs.declared.stopped.Stopped.{Stopped}
 use Rattle.scc_drive.specs.declared.stopped.Stopped.TheVariants as stopped
 use Rattle.scc_drive.specs.Answer.{Outcome, bad, refusal, absent, compiles, first_place, outcome_of_design, JoinedComes, reads, faulty, FoundComes, FilesCome, ComesBy, roots_of, Comes, Compiles, Stops, Answers}
 use Rattle.scc_drive.specs.Spots.{spot_of}
-use Rattle.scc_drive.specs.Thin.{thin_of}
+use Rattle.scc_thin.specs.Thin.{thin_of}
 use Rattle.scc_drive.specs.Words.{word_at, are_words}
-use Rattle.scc_drive.specs.Identifiers.{AreIdentifiers}
-use Rattle.scc_drive.proofs.Known.{joined_names}
+use Rattle.scc_thinmodule.specs.Identifiers.{AreIdentifiers}
+use Rattle.scc_thinmodule.proofs.Known.{joined_names}
 use Rattle.scc_drive.proofs.OneVerdict.{not_both, one_fault}
 
 pub of_bad : (shelf : Shelf) (words : List (String Global)) → are_words words ≡ false → Comes shelf words bad

@@ -6,15 +6,15 @@ use Rattle.scc_tokens.specs.declared.file.Source.{Source}
 use Rattle.scc_tokens.specs.declared.joining.Joined.{Joined}
 use Rattle.scc_tree.specs.declared.item.FileTree.{FileTree}
 use Rattle.scc_grammar.specs.Claim.{IsReadFile}
-use Rattle.scc_drive.specs.declared.design.Design.{Design}
+use Rattle.scc_thin.specs.declared.design.Design.{Design}
 use Rattle.scc_drive.specs.declared.stopped.Stopped.{Stopped}
 use Rattle.scc_drive.specs.declared.stopped.Stopped.TheVariants as stopped
 use Rattle.scc_drive.specs.Answer.{Compiles, Stops, IsRefusedAs, JoinedComes, reads, faulty, refusal, first_place, outcome_of_design}
-use Rattle.scc_drive.specs.Emitted.{module_of}
-use Rattle.scc_drive.specs.Identifiers.{AreIdentifiers}
+use Rattle.scc_thinmodule.specs.Emitted.{module_of}
+use Rattle.scc_thinmodule.specs.Identifiers.{AreIdentifiers}
 use Rattle.scc_drive.specs.Spots.{spot_of}
-use Rattle.scc_drive.specs.Thin.{thin_of}
-use Rattle.scc_drive.proofs.Shown.{thin_shown, thin_faultless}
+use Rattle.scc_thin.specs.Thin.{thin_of}
+use Rattle.scc_thinmodule.proofs.Shown.{thin_shown, thin_faultless}
 
 module _ (top : List ℕ) (names : List (List ℕ)) (sources : List Source) (j : Joined) where
   pub printed : (text : List ℕ) (d : Design) (read : (file : FileTree) × IsReadFile j file) → AreIdentifiers names → thin_of names top j.tokens ≡ Some d → text ≡ module_text (module_of d)

@@ -17,15 +17,15 @@ use Rattle.scc_tokens.specs.Join.{join_of}
 use Rattle.scc_tokens.specs.Steps as join
 use Rattle.scc_tree.specs.declared.item.FileTree.{FileTree}
 use Rattle.scc_grammar.specs.Claim.{IsReadFile, IsFault}
-use Rattle.scc_drive.specs.declared.design.Design.{Design}
+use Rattle.scc_thin.specs.declared.design.Design.{Design}
 use Rattle.scc_drive.specs.declared.spots.Spot.{Spot}
 use Rattle.scc_drive.specs.declared.stopped.Stopped.{Stopped}
 use Rattle.scc_drive.specs.declared.stopped.Stopped.TheVariants as stopped
-use Rattle.scc_drive.specs.Same.{Matches, ShowsTheSame}
+use Rattle.scc_thinmodule.specs.Same.{Matches, ShowsTheSame}
 use Rattle.scc_drive.specs.Said.{Said}
 use Rattle.scc_drive.specs.Spots.{spot_of}
 use Rattle.scc_drive.specs.Texts.{refusal_text, words_text, missing_text, failed_text}
-use Rattle.scc_drive.specs.Thin.{thin_of}
+use Rattle.scc_thin.specs.Thin.{thin_of}
 use Rattle.scc_drive.specs.Words.{word_at, are_words}
 
 -- what a command comes to where it is told what the names hold

@@ -1,17 +1,6 @@
 pub mod Bytes
-pub mod Gives
-pub mod Tokens
-pub mod Reading
-pub mod Reserved
-pub mod Resolved
-pub mod Thin
 pub mod Words
 pub mod Texts
 pub mod Spots
-pub mod Emitted
-pub mod Source
-pub mod Same
-pub mod Identifiers
-pub mod Laws
 pub mod Said
 pub mod Answer

@@ -2,17 +2,16 @@
 ghost use Rattle.std.specs.Prelude.{◌≡◌, IfErr, OnOk};
 ghost use Rattle.scc_grammar.specs.Claim.{IsReadFile};
 ghost use Rattle.scc_drive.specs.Answer.{Compiles, Answers, IsRefusedAs, Stops, first_place};
-ghost use Rattle.scc_drive.specs.Identifiers.{AreIdentifiers};
+ghost use Rattle.scc_thinmodule.specs.Identifiers.{AreIdentifiers};
 
-use crate::emit::module_of;
-use crate::halt::Halt;
 use crate::spots::locate;
 use crate::stopped::Stopped;
-use crate::thin::read_design;
 use crate::words::{are_words, roots, word};
 use scc_base::{Code, Files, List, Names, NoMemory, Place, Refusal, Stop, Text};
 use scc_grammar::parse;
 use scc_svtext::print;
+use scc_thin::{Halt, read_design};
+use scc_thinmodule::module_of;
 use scc_tokens::{JoinFault, Joined, Source, Token, join};
 use std::alloc::Global;
 

@@ -4,15 +4,10 @@
 mod answer;
 mod bytes;
 mod command;
-mod design;
-mod emit;
-mod halt;
-mod laws;
 mod say;
 mod spots;
 mod stopped;
 mod texts;
-mod thin;
 mod words;
 
 pub use command::run;

@@ -3,8 +3,8 @@ use Rattle.std.proofs.lemmas.Result.{err_from_is_err_and}
 use Rattle.scc_base.specs.declared.code.Code.TheVariants.{NotYet}
 use Rattle.scc_svtext.specs.ModuleText.{module_text}
 use Rattle.scc_drive.specs.Answer.{Stops, first_place}
-use Rattle.scc_drive.specs.Gives.{Fails}
-use Rattle.scc_drive.specs.Thin.{thin_of}
+use Rattle.scc_thin.specs.Gives.{Fails}
+use Rattle.scc_thin.specs.Thin.{thin_of}
 use Rattle.scc_drive.proofs.Refusals.{printed, not_thin, refused_as}
 use Rattle.scc_drive.proofs.answer.compiled.Goals as goal
 

@@ -1,8 +1,0 @@
-use Rattle.std.proofs.Common.{◌≡◌, drop, take, ◌++◌}
-use Rattle.scc_drive.specs.Resolved.{are_new_numbers}
-use Rattle.scc_drive.proofs.thin.resolve.add_numbers.Given as goal
-
-abbrev pub invariant-loop-n : goal.invariant-loop-n
-invariant-loop-n l =
-    (are_new_numbers l.set (drop l.n-index l.numbers) ≡ are_new_numbers l.initial.set l.numbers)
-    × (l.set ≡ l.initial.set ++ take l.n-index l.numbers)

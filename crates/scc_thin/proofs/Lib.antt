@@ -1,0 +1,4 @@
+pub mod Mapped
+pub mod Halts
+pub mod Items
+pub mod Each

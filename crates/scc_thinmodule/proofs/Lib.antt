@@ -1,0 +1,16 @@
+pub mod Putting
+pub mod Lasting
+pub mod Rounds
+pub mod Terms
+pub mod Emitting
+pub mod Statements
+pub mod Inputs
+pub mod Theorem
+pub mod Sound
+pub mod Shown
+pub mod Chains
+pub mod Spelt
+pub mod Known
+pub mod Heads
+pub mod Plain
+pub mod Faultless

@@ -1,0 +1,5 @@
+pub mod Emitted
+pub mod Source
+pub mod Same
+pub mod Identifiers
+pub mod Laws
