@@ -69,12 +69,7 @@ fn resolved_count(count: &Count, r: &Resolver<'_>) -> Result<Count, Stop>
 }
 
 // A declared pointer holds its target; one that is assigned is refused.
-fn alias(
-    s: &CoreStmt,
-    to: &Pointed,
-    of: &CoreLeft,
-    r: &mut Resolver<'_>,
-) -> Result<CoreNode, Stop>
+fn alias(s: &CoreStmt, to: &Pointed, of: &CoreLeft, r: &mut Resolver<'_>) -> Result<CoreNode, Stop>
     ensures stop { (q : Refusal) → result ≡ Err (stop.Refused q) → IsOfPointers q }
 {
     match to {

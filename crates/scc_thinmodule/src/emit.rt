@@ -2,12 +2,12 @@
 ghost use Rattle.std.specs.Prelude.{◌≡◌, ◌<◌, ◌^◌, ◌++◌, length, map, IfOk, OnOk};
 ghost use Rattle.scc_thinmodule.specs.Emitted.{variable, cast, zero_of, binary_of, both, resized, width_of, operand, value_of, value_width, assign, put_stmt, zeros_from, var_of, module_of};
 
-use scc_thin::{Bitwise, Design, Port, Put, Second};
 use scc_base::{Boxed, List, NoMemory, Text};
 use scc_bits::Word;
 use scc_svtree::{
     Dir, SvBinary, SvBlock, SvExpr, SvExprNode, SvLeft, SvLiteral, SvModule, SvStmt, SvVar, VarId,
 };
+use scc_thin::{Bitwise, Design, Port, Put, Second};
 use std::alloc::Global;
 
 fn variable(alloc: Global, i: u32) -> Result<SvExpr, NoMemory>
