@@ -1,0 +1,6 @@
+mod Back
+mod Cuts
+mod Digits
+mod Nibble
+mod Pairs
+mod Turns

@@ -1,0 +1,6 @@
+use Rattle.std.proofs.Common.{◌≡◌, ◌++◌, take}
+use Rattle.scc_trace.specs.Stimulus.{names_text}
+use Rattle.scc_trace.proofs.names.clocks_line.Given as goal
+
+abbrev pub invariant-loop-clock : goal.invariant-loop-clock
+invariant-loop-clock l = l.out ≡ l.initial.out ++ names_text (take l.clock-index l.clocks)

@@ -1,0 +1,15 @@
+use Rattle.std.proofs.Common.{sym}
+use Rattle.scc_trace.specs.Text.{output_text, shown}
+use Rattle.scc_trace.proofs.Pairs.{put_few, put_more, put_end, shown_next, shown_none, shown_done}
+use Rattle.scc_trace.proofs.trace.outputs.Goals as goal
+
+pub returns-in_default : goal.returns-in_default
+returns-in_default c =
+    put_few c.args.ports.now c.loop-port.port-index c.port-item.result c.loop-port-test.true (sym c.port-item.is) shown output_text shown_none c.loop-port.rest.now _ _ c.in_default.len_below c.loop-port.invariant
+
+pub loop-port-preserved : goal.loop-port-preserved
+loop-port-preserved c =
+    put_more c.args.ports.now c.loop-port.port-index c.port-item.result c.loop-port-test.true (sym c.port-item.is) shown output_text shown_next c.loop-port.rest.now (record { bits = 0 }) _ _ _ c.in-len1-up.len_at_least c.in_ok-output.ensures c.loop-port.invariant
+
+pub returns : goal.returns
+returns c = put_end shown shown_done c.args.ports.now c.loop-port.port-index c.loop-port.rest.now _ _ c.loop-port-test.false c.loop-port.invariant
