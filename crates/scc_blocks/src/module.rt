@@ -1,0 +1,382 @@
+//! The module.
+use crate::assigned::{Assigned, Stamps, assigned_by};
+use crate::body::{Body, method_body, thread_body};
+use crate::declare::{Declared, Own, Wanted, nothing};
+use crate::first::{first_assignments, registers_of, sets_of};
+use crate::reset::loads_of;
+use crate::thread::{Widths, widths_of};
+use crate::views::{Views, views_of};
+use crate::written::written;
+use scc_base::{Boxed, List, Names, NoMemory, Text, lost, push};
+use scc_bits::{Word, width};
+use scc_core::{CellSort, Core, CoreProcess, Places, Sort2};
+use scc_flow::live;
+use scc_lower::{Cells, View};
+use scc_renumber::{Ids, UNDECLARED, renumbered};
+use scc_states::Split;
+use scc_svtree::{
+    SvBlock, SvExpr, SvExprNode, SvLeft, SvLiteral, SvModule, SvReset, SvStmt, VarId,
+};
+use std::alloc::Global;
+
+/// How deep expressions nest beside their first operands.
+const LEVELS: u32 = 8_192;
+
+/// The module of a checked core: `o` is the order of its combinational methods, `s` has one split for each thread, in process
+/// order. First stand constant outputs, then the combinational methods in that order, then the processes at clock edges.
+pub fn blocks(
+    alloc: Global,
+    names: &Names,
+    c: &Core,
+    o: &List<u32>,
+    s: &[Split],
+) -> Result<SvModule, NoMemory> {
+    let places = Places::of(alloc, &c.cells, &c.vectors)?;
+    let cells = Cells::new(&c.cells, &places);
+    let splits = splits_of(alloc, c, s)?;
+    let (views, bodies) = bodies_of(alloc, c, cells, splits.as_slice())?;
+    let assigned = all_assigned(alloc, c, bodies.as_slice())?;
+    let every = every_assigned(alloc, c, assigned.as_slice(), &views)?;
+    let declared = declare(
+        alloc,
+        names,
+        c,
+        splits.as_slice(),
+        bodies.as_slice(),
+        assigned.as_slice(),
+        every.as_slice(),
+    )?;
+    let made = Made {
+        c,
+        cells,
+        splits: splits.as_slice(),
+        views: &views,
+        bodies: bodies.as_slice(),
+        assigned: assigned.as_slice(),
+        declared: &declared,
+    };
+    let blocks = all_blocks(alloc, made, o.as_slice())?;
+    let name = Text::from_bytes(alloc, name_of(names, c)?)?;
+    let Declared { vars, .. } = declared;
+    Ok(SvModule { name, vars, blocks })
+}
+
+fn name_of<'a>(names: &'a Names, c: &Core) -> Result<&'a [u8], NoMemory> {
+    if names.has(c.top) {
+        Ok(names.text(c.top).as_bytes())
+    } else {
+        Err(lost())
+    }
+}
+
+// The split of each process that is a thread.
+fn splits_of<'a>(
+    alloc: Global,
+    c: &Core,
+    s: &'a [Split],
+) -> Result<Vec<Option<&'a Split>>, NoMemory> {
+    let mut found = Vec::new(alloc);
+    let mut rest = s.iter();
+    for process in c.processes.as_slice() {
+        let split = match process.sort {
+            Sort2::Thread => rest.next(),
+            Sort2::Method => None,
+        };
+        push(&mut found, split)?;
+    }
+    Ok(found)
+}
+
+fn kept_of<'a>(split: Option<&'a Split>) -> &'a [u32] {
+    match split {
+        Some(split) => split.kept.as_slice(),
+        None => &[],
+    }
+}
+
+// The views of all cells, and the statements of each process.
+fn bodies_of(
+    alloc: Global,
+    c: &Core,
+    cells: Cells<'_>,
+    splits: &[Option<&Split>],
+) -> Result<(Views, Vec<Body>), NoMemory> {
+    let mut lives = Vec::new(alloc);
+    let mut writes = Vec::new(alloc);
+    let mut kept = Vec::new(alloc);
+    let mut stamps = Vec::new(alloc);
+    for _ in cells.cells {
+        push(&mut stamps, 0)?;
+    }
+    let mut turn = 0u32;
+    for (process, split) in c.processes.as_slice().iter().zip(splits.iter()) {
+        turn = turn.saturating_add(1);
+        let live = live(alloc, &cells.known, process.body.as_slice())?;
+        push(
+            &mut writes,
+            written(alloc, live.as_slice(), cells, turn, &mut stamps)?,
+        )?;
+        push(&mut lives, live)?;
+        push(&mut kept, kept_of(*split))?;
+    }
+    let views = views_of(alloc, c, writes.as_slice(), kept.as_slice())?;
+    let mut bodies = Vec::new(alloc);
+    for ((process, split), live) in c
+        .processes
+        .as_slice()
+        .iter()
+        .zip(splits.iter())
+        .zip(lives.iter())
+    {
+        let body = match split {
+            Some(split) => thread_body(alloc, process, split, cells, views.views.as_slice())?,
+            None => method_body(alloc, live.as_slice(), cells, views.views.as_slice())?,
+        };
+        push(&mut bodies, body)?;
+    }
+    Ok((views, bodies))
+}
+
+fn all_assigned(alloc: Global, c: &Core, bodies: &[Body]) -> Result<Vec<Assigned>, NoMemory> {
+    let mut stamps = Stamps {
+        by: Vec::new(alloc),
+    };
+    for _ in c.cells.as_slice() {
+        push(&mut stamps.by, 0)?;
+        push(&mut stamps.by, 0)?;
+    }
+    let mut found = Vec::new(alloc);
+    let mut turn = 0u32;
+    for body in bodies {
+        turn = turn.saturating_add(1);
+        let stmts = body.stmts.as_slice();
+        let assigned = assigned_by(alloc, stmts, body.temporaries.len(), turn, &mut stamps)?;
+        push(&mut found, assigned)?;
+    }
+    Ok(found)
+}
+
+// For each cell and next value whether some block assigns it.
+fn every_assigned(
+    alloc: Global,
+    c: &Core,
+    assigned: &[Assigned],
+    views: &Views,
+) -> Result<Vec<bool>, NoMemory> {
+    let mut every = Vec::new(alloc);
+    for _ in c.cells.as_slice() {
+        push(&mut every, false)?;
+        push(&mut every, false)?;
+    }
+    for a in assigned {
+        for lowered in a.cells.iter() {
+            set(&mut every, *lowered as usize)?;
+        }
+    }
+    for registers in views.registers.iter() {
+        for cell in registers.iter() {
+            set(&mut every, 2 * *cell as usize)?;
+            set(&mut every, 2 * *cell as usize + 1)?;
+        }
+    }
+    Ok(every)
+}
+
+fn set(every: &mut Vec<bool>, at: usize) -> Result<(), NoMemory> {
+    match every.get_mut(at) {
+        Some(is) => {
+            *is = true;
+            Ok(())
+        }
+        None => Err(lost()),
+    }
+}
+
+// The cells of each process's locals, in the order in which they are numbered.
+fn locals_of(alloc: Global, c: &Core) -> Result<Vec<Vec<u32>>, NoMemory> {
+    let mut found = Vec::new(alloc);
+    for _ in c.processes.as_slice() {
+        push(&mut found, Vec::new(alloc))?;
+    }
+    let mut at = 0u32;
+    for cell in c.cells.as_slice() {
+        if let CellSort::Local(process) = cell.sort {
+            match found.get_mut(process as usize) {
+                Some(list) => push(list, at)?,
+                None => return Err(lost()),
+            }
+        }
+        at = at.saturating_add(1);
+    }
+    Ok(found)
+}
+
+fn declare(
+    alloc: Global,
+    names: &Names,
+    c: &Core,
+    splits: &[Option<&Split>],
+    bodies: &[Body],
+    assigned: &[Assigned],
+    every: &[bool],
+) -> Result<Declared, NoMemory> {
+    let mut declared = nothing(alloc, c.cells.len())?;
+    declared.ports(alloc, names, c)?;
+    declared.objects(alloc, names, c, every)?;
+    let locals = locals_of(alloc, c)?;
+    for (p, process) in c.processes.as_slice().iter().enumerate() {
+        let (Some(split), Some(body), Some(assigned), Some(locals)) = (
+            splits.get(p),
+            bodies.get(p),
+            assigned.get(p),
+            locals.get(p),
+        ) else {
+            return Err(lost());
+        };
+        let widths = match split {
+            Some(split) => widths_of(split),
+            None => Widths {
+                state: 0,
+                counter: 0,
+            },
+        };
+        let wanted = Wanted {
+            process,
+            assigned,
+            temporaries: body.temporaries.as_slice(),
+            exit: body.exit,
+            widths,
+            locals: locals.as_slice(),
+        };
+        declared.process(alloc, names, c, wanted, every)?;
+    }
+    Ok(declared)
+}
+
+/// All that the blocks are written from.
+#[derive(Clone, Copy)]
+struct Made<'a> {
+    c: &'a Core,
+    cells: Cells<'a>,
+    splits: &'a [Option<&'a Split>],
+    views: &'a Views,
+    bodies: &'a [Body],
+    assigned: &'a [Assigned],
+    declared: &'a Declared,
+}
+
+fn all_blocks(alloc: Global, made: Made<'_>, order: &[u32]) -> Result<List<SvBlock>, NoMemory> {
+    let mut out = List::new(alloc);
+    let zeros = constant_outputs(alloc, made)?;
+    if !zeros.is_empty() {
+        out.push(SvBlock::Comb(zeros))?;
+    }
+    for p in order {
+        process_blocks(alloc, *p as usize, made, &mut out)?;
+    }
+    for (p, process) in made.c.processes.as_slice().iter().enumerate() {
+        if process.edge.is_some() {
+            process_blocks(alloc, p, made, &mut out)?;
+        }
+    }
+    Ok(out)
+}
+
+// Outputs that no process writes are 0.
+fn constant_outputs(alloc: Global, made: Made<'_>) -> Result<List<SvStmt>, NoMemory> {
+    let mut out = List::new(alloc);
+    let views = made.views.views.iter();
+    for ((i, cell), view) in made.cells.cells.iter().enumerate().zip(views) {
+        if matches!((&cell.sort, view), (CellSort::Output, View::Constant(_))) {
+            let Some(id) = made.declared.cells.get(2 * i) else {
+                return Err(lost());
+            };
+            let zero = SvExprNode::Literal(SvLiteral {
+                width: width(cell.kind),
+                value: Word { bits: 0 },
+            });
+            out.push(SvStmt::Assign {
+                left: SvLeft::Whole(VarId(*id)),
+                value: SvExpr {
+                    node: Boxed::new(alloc, zero)?,
+                },
+            })?;
+        }
+    }
+    Ok(out)
+}
+
+fn ids_of<'a>(declared: &'a Declared, own: &'a Own) -> Ids<'a> {
+    Ids {
+        same: false,
+        first: declared.cells.as_slice(),
+        next: own.next.as_slice(),
+        last: own.last.as_slice(),
+    }
+}
+
+// The number of a cell's variable.
+fn id_of(declared: &Declared, cell: u32) -> Result<VarId, NoMemory> {
+    match declared.cells.get(2 * cell as usize) {
+        Some(id) if *id != UNDECLARED => Ok(VarId(*id)),
+        Some(_) | None => Err(lost()),
+    }
+}
+
+// The blocks of a process.
+fn process_blocks(
+    alloc: Global,
+    p: usize,
+    made: Made<'_>,
+    out: &mut List<SvBlock>,
+) -> Result<(), NoMemory> {
+    let (Some(process), Some(body), Some(assigned), Some(cells), Some(own)) = (
+        made.c.processes.get(p),
+        made.bodies.get(p),
+        made.assigned.get(p),
+        made.views.registers.get(p),
+        made.declared.own.get(p),
+    ) else {
+        return Err(lost());
+    };
+    let registers = registers_of(alloc, cells.as_slice(), made.declared, own)?;
+    let mut stmts = first_assignments(alloc, assigned, registers.as_slice(), made.declared, own)?;
+    let ids = ids_of(made.declared, own);
+    let rest = renumbered(body.stmts.as_slice(), alloc, ids, LEVELS)?;
+    stmts.append(rest)?;
+    out.push(SvBlock::Comb(stmts))?;
+    let Some(edge) = process.edge else {
+        return Ok(());
+    };
+    let reset = reset_of(alloc, process, p, registers.as_slice(), made)?;
+    out.push(SvBlock::Edge {
+        rising: edge.rising,
+        clock: id_of(made.declared, edge.cell)?,
+        reset,
+        sets: sets_of(alloc, registers.as_slice())?,
+    })
+}
+
+// The asynchronous reset of a thread that has one.
+fn reset_of(
+    alloc: Global,
+    process: &CoreProcess,
+    p: usize,
+    registers: &[crate::first::Register],
+    made: Made<'_>,
+) -> Result<Option<SvReset>, NoMemory> {
+    let Some(reset) = process.reset else {
+        return Ok(None);
+    };
+    if !reset.asynchronous {
+        return Ok(None);
+    }
+    let Some(Some(split)) = made.splits.get(p) else {
+        return Err(lost());
+    };
+    Ok(Some(SvReset {
+        signal: id_of(made.declared, reset.cell)?,
+        rising: reset.level,
+        values: loads_of(alloc, split, registers, made.cells)?,
+    }))
+}
