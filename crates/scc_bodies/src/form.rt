@@ -6,7 +6,7 @@ use scc_templates as templates;
 use scc_tree::Hold;
 
 /// What a variable holds, but for the sizes of its arrays.
-#[derive(Clone, Copy, Debug, PartialEq, Eq)]
+#[derive(Clone, Copy, PartialEq, Eq)]
 pub struct Form {
     pub base: Base,
     pub reach: Reach,

@@ -13,7 +13,7 @@ use scc_templates::{BodyAt, Context, FunctionKey, function_at};
 use scc_tree::{FileTree, FunctionTree, Prm};
 
 /// The number of a function among those that were asked for, from 0 in that order.
-#[derive(Clone, Copy, Debug, PartialEq, Eq, Hash)]
+#[derive(Clone, Copy, PartialEq, Eq, Hash)]
 pub struct FunctionId(pub u32);
 
 /// Parameters and the result.
