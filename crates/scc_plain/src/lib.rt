@@ -3,5 +3,11 @@
 #![tactic(auto)]
 
 mod duplicates;
+mod graph;
+mod instance;
+mod last;
+mod stage;
+mod top;
+mod write;
 
-pub use duplicates::find_duplicates;
+pub use stage::plain;

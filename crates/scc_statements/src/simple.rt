@@ -11,15 +11,6 @@ use scc_bodies::{
 use scc_plaintree::{Base, PlainNode, PlainStmt, Reach};
 use scc_tree::{Expr, ExprNode, FileTree, SimpleNode, SimpleTree};
 
-// The right side of an assignment by an operator.
-struct Combined {
-    op: Op,
-    /// The operator's place.
-    at: Place,
-    /// That of the left side.
-    left: Place,
-}
-
 /// An assignment, a step or a call.
 pub(crate) fn simple(
     s: &SimpleTree,
@@ -192,15 +183,19 @@ fn call(
     b: &mut Body,
     out: &mut List<PlainStmt>,
 ) -> Result<(), Stop> {
-    let m = w.meant(e, tree, flow, b)?;
-    if m.is_call() {
-        b.flush(out)?;
-        return Ok(());
-    }
-    match m {
+    match w.meant(e, tree, flow, b)? {
         Meant::Done { call, of } => port_call(e, call, of, place, tree, flow, w, b, out),
-        _ => refuse(Code::Mismatch, place),
+        other => called(other, place, b, out),
     }
+}
+
+// The call of a function, whose result isn't used.
+fn called(m: Meant, place: Place, b: &mut Body, out: &mut List<PlainStmt>) -> Result<(), Stop> {
+    if !m.is_call() {
+        return refuse(Code::Mismatch, place);
+    }
+    b.flush(out)?;
+    Ok(())
 }
 
 fn port_call(

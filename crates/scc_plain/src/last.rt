@@ -1,0 +1,163 @@
+//! What is looked for last: calls by a class's name of functions that use their object, and what holds or calls itself.
+use crate::graph::{Graph, Groups, Reached, reaches_itself};
+use crate::stage::Order;
+use scc_base::{Code, List, NoMemory, Place, Stop, lost};
+use scc_bodies::{CallOn, FunctionId, Note, Walk, refuse};
+use scc_plaintree::{Base, Reach};
+use scc_templates::{InstanceId, Needed};
+use scc_tree::FileTree;
+
+/// Refuses a call by a class's name (E304) of a function that uses its object, and then a class that holds itself or a function that
+/// calls itself (E309), in the order of the walk, a class before its functions.
+pub fn look_last(tree: &FileTree, w: &mut Walk, order: &Order) -> Result<(), Stop> {
+    let calls = Calls::of(w)?;
+    calls.by_class(w)?;
+    let holds = holding(tree, w)?;
+    let classes = Cycles::of(w, holds)?;
+    let functions = Cycles::of(w, calls.all)?;
+    look(tree, w, order, &classes, &functions)
+}
+
+// What functions call.
+#[derive(Drop)]
+struct Calls {
+    all: Graph,
+    /// From a function to those that call it on their own object.
+    own: Graph,
+    /// The functions that use their object by themselves.
+    users: List<u32>,
+}
+
+impl Calls {
+    fn of(w: &Walk) -> Result<Calls, NoMemory> {
+        let count = w.function_count();
+        let mut calls = Calls {
+            all: Graph::new(w.alloc, count)?,
+            own: Graph::new(w.alloc, count)?,
+            users: List::new(w.alloc),
+        };
+        for note in w.notes.as_slice() {
+            match *note {
+                Note::This(f) => calls.users.push(f.0)?,
+                Note::Call { from, to, on, .. } => {
+                    calls.all.lead(from.0, to.0)?;
+                    if on == CallOn::Own {
+                        calls.own.lead(to.0, from.0)?;
+                    }
+                }
+            }
+        }
+        Ok(calls)
+    }
+
+    // E304 at the first call by a class's name of a function that uses its object, by itself or by what it calls on it.
+    fn by_class(&self, w: &Walk) -> Result<(), Stop> {
+        let users = Reached::from(w.alloc, &self.own, self.users.as_slice())?;
+        for note in w.notes.as_slice() {
+            if let Note::Call { to, on, place, .. } = *note
+                && on == CallOn::Class
+                && users.has(to.0)
+            {
+                return refuse(Code::Mismatch, place);
+            }
+        }
+        Ok(())
+    }
+}
+
+// The instances that instances hold as members or elements.
+fn holding(tree: &FileTree, w: &mut Walk) -> Result<Graph, Stop> {
+    let count = w.templates.len();
+    let mut holds = Graph::new(w.alloc, count)?;
+    for n in 0..count {
+        let n = u32::try_from(n).map_err(|_| lost())?;
+        let fields = w
+            .templates
+            .body(tree, InstanceId(n))
+            .ok_or(lost())?
+            .fields
+            .len();
+        for k in 0..fields {
+            let form = w.field_form(InstanceId(n), k, tree)?;
+            if let Base::Class(of) = form.base
+                && form.reach == Reach::Direct
+            {
+                holds.lead(n, of)?;
+            }
+        }
+    }
+    Ok(holds)
+}
+
+// A graph with its groups.
+#[derive(Drop)]
+struct Cycles {
+    graph: Graph,
+    groups: Groups,
+}
+
+impl Cycles {
+    fn of(w: &Walk, graph: Graph) -> Result<Cycles, NoMemory> {
+        let groups = Groups::of(w.alloc, &graph)?;
+        Ok(Cycles { graph, groups })
+    }
+
+    // E309 at a place where a node is on a cycle.
+    fn refuse(&self, w: &Walk, k: u32, place: Place) -> Result<(), Stop> {
+        if !self.groups.is_looped(&self.graph, k) {
+            return Ok(());
+        }
+        if !reaches_itself(w.alloc, &self.graph, k)? {
+            return Err(lost().into());
+        }
+        refuse(Code::Recursion, place)
+    }
+}
+
+fn look(
+    tree: &FileTree,
+    w: &Walk,
+    order: &Order,
+    classes: &Cycles,
+    functions: &Cycles,
+) -> Result<(), Stop> {
+    let mut rest = order.functions.as_slice();
+    for k in 0..usize::MAX {
+        let scope = match w.templates.needed(k) {
+            None => return Ok(()),
+            Some(Needed::Instance(i)) => {
+                let (class, _) = w.templates.args_of(i).ok_or(lost())?;
+                let item = tree.items.get(class.0 as usize).ok_or(lost())?;
+                classes.refuse(w, i.0, item.place)?;
+                Some(i)
+            }
+            Some(Needed::Function(_)) => None,
+        };
+        rest = functions_of(scope, rest, tree, w, functions)?;
+    }
+    Err(lost().into())
+}
+
+// Looks at the functions of an instance, or at one of the file, with which the rest of the walk begins; gives what comes behind.
+fn functions_of<'o>(
+    scope: Option<InstanceId>,
+    rest: &'o [FunctionId],
+    tree: &FileTree,
+    w: &Walk,
+    functions: &Cycles,
+) -> Result<&'o [FunctionId], Stop> {
+    let mut rest = rest;
+    while let Some((f, others)) = rest.split_first() {
+        let key = w.key_of(*f).ok_or(lost())?;
+        if key.scope != scope {
+            return Ok(rest);
+        }
+        let function = w.tree_of(*f, tree).ok_or(lost())?;
+        functions.refuse(w, f.0, function.place)?;
+        rest = others;
+        if scope.is_none() {
+            return Ok(rest);
+        }
+    }
+    Ok(rest)
+}
