@@ -7,10 +7,12 @@ use scc_plaintree::{PlainMember, PlainStmt, Shape};
 use scc_templates::{Context, Given, InstanceId, Layers};
 use scc_tree::FileTree;
 use std::alloc::Global;
+use std::mem::replace;
 
 /// What is known while a body is walked.
 #[derive(Drop)]
 pub struct Body {
+    alloc: Global,
     pub function: FunctionId,
     /// The instance of which it is a member function.
     pub scope: Option<InstanceId>,
@@ -36,6 +38,7 @@ impl Body {
         answer: Option<Kind>,
     ) -> Body {
         Body {
+            alloc,
             function,
             scope,
             given,
@@ -86,6 +89,10 @@ impl Body {
 
     /// Puts the calls of the statement in work behind other statements.
     pub fn flush(&mut self, out: &mut List<PlainStmt>) -> Result<(), NoMemory> {
-        Err(lost())
+        if self.lifted.is_empty() {
+            return Ok(());
+        }
+        let lifted = replace(&mut self.lifted, List::new(self.alloc));
+        out.append(lifted)
     }
 }

@@ -1,5 +1,11 @@
 //! What stands round a statement or an expression.
+ghost use Rattle.std.specs.Prelude.{◌≡◌, ◌+◌, IfOk};
+
 use scc_base::{NoMemory, lost};
+
+// No source has expressions and statements nested so deep: at most 128 levels of brackets, with one operator of each precedence
+// in each, and as many statements.
+const ROOM: u32 = 8_192;
 
 /// What stands round a statement or an expression. A number of a block counts outward from 0.
 #[derive(Clone, Copy, Debug, PartialEq, Eq)]
@@ -10,6 +16,8 @@ pub struct Flow {
     pub leave: Option<u32>,
     /// The block that `continue` leaves, where there is one.
     pub next: Option<u32>,
+    /// How many further levels there may be.
+    pub room: u32,
 }
 
 fn outward(block: Option<u32>, by: u32) -> Result<Option<u32>, NoMemory> {
@@ -26,29 +34,65 @@ impl Flow {
             forbidden: false,
             leave: None,
             next: None,
+            room: ROOM,
         }
     }
 
     /// Where no call may stand.
-    pub fn without_calls(self) -> Flow {
+    pub fn without_calls(self) -> Flow
+        ensures room { result.room ≡ self.room }
+    {
         Flow {
             forbidden: true,
             leave: self.leave,
             next: self.next,
+            room: self.room,
         }
     }
 
-    /// Where no call may stand, if so.
-    pub fn lazily(self, lazy: bool) -> Flow {
+    /// Where no call may stand if it is one whose operand isn't always evaluated.
+    pub fn lazily(self, lazy: bool) -> Flow
+        ensures room { result.room ≡ self.room }
+    {
         if lazy { self.without_calls() } else { self }
     }
 
     /// Inside so many further blocks.
-    pub fn inside(self, blocks: u32) -> Result<Flow, NoMemory> {
+    pub fn inside(self, blocks: u32) -> Result<Flow, NoMemory>
+        ensures room { IfOk result (λ f. f.room ≡ self.room) }
+    {
         Ok(Flow {
             forbidden: self.forbidden,
             leave: outward(self.leave, blocks)?,
             next: outward(self.next, blocks)?,
+            room: self.room,
+        })
+    }
+
+    /// With a block that `break` leaves, and one that `continue` leaves.
+    pub fn within(self, leave: Option<u32>, next: Option<u32>) -> Flow
+        ensures room { result.room ≡ self.room }
+    {
+        Flow {
+            forbidden: self.forbidden,
+            leave,
+            next,
+            room: self.room,
+        }
+    }
+
+    /// One level deeper.
+    pub fn deeper(self) -> Result<Flow, NoMemory>
+        ensures room { IfOk result (λ f. f.room + 1 ≡ self.room) }
+    {
+        if self.room == 0 {
+            return Err(lost());
+        }
+        Ok(Flow {
+            forbidden: self.forbidden,
+            leave: self.leave,
+            next: self.next,
+            room: self.room - 1,
         })
     }
 }

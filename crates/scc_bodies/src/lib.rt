@@ -2,21 +2,26 @@
 #![tactic(auto)]
 
 mod body;
+mod call;
 mod draft;
 mod expression;
 mod flow;
 mod form;
 mod function;
+mod join;
 mod meant;
+mod name;
+mod pick;
 mod refusal;
+mod target;
 mod walk;
 
 pub use body::Body;
+pub use call::last_args;
 pub use draft::{Draft, convert, literal, load, operate};
-pub use expression::last_args;
 pub use flow::Flow;
 pub use form::{Form, Loc, base_of, reach_of};
 pub use function::FunctionId;
 pub use meant::{Meant, Method, PortCall, Subject, taken};
-pub use refusal::refuse;
+pub use refusal::{gone, refuse};
 pub use walk::{CallOn, Note, Walk};

@@ -1,0 +1,235 @@
+//! Calls (C++, [expr.call]). A call of a function is lifted: it becomes a statement before the one that it stands in.
+ghost use Rattle.std.specs.Prelude.{IfErr};
+ghost use Rattle.scc_bodies.specs.Refusals.{MayStop};
+
+use crate::body::Body;
+use crate::draft::load;
+use crate::flow::Flow;
+use crate::form::Form;
+use crate::function::FunctionId;
+use crate::meant::{Meant, Method, PortCall, Subject};
+use crate::pick::ranged;
+use crate::refusal::{gone, refuse};
+use crate::walk::{CallOn, Note, Walk};
+use scc_base::{Code, List, Name, NoMemory, Place, Stop, lost};
+use scc_plaintree::{Base, PlainArg, PlainBase, PlainLeft, PlainNode, PlainStmt};
+use scc_templates::{FunctionKey, InstanceId};
+use scc_tree::{Expr, ExprNode, FileTree, PartNode};
+
+/// A call by what it is made of.
+#[derive(Drop)]
+pub(crate) enum Call {
+    /// Of a function, which is named at a place.
+    Function {
+        scope: Option<InstanceId>,
+        name: Name,
+        object: Option<PlainLeft>,
+        place: Place,
+    },
+    /// One that stands only as a statement or a sensitivity.
+    Done {
+        call: PortCall,
+        of: Subject,
+    },
+    /// A range of bits.
+    Range(Subject),
+    /// One of the language without arguments.
+    Method {
+        method: Method,
+        of: Subject,
+    },
+    /// None.
+    Wrong,
+}
+
+fn of_method(method: Method, of: Subject, count: usize) -> Call {
+    match method {
+        Method::Port(call) => Call::Done { call, of },
+        Method::Range => {
+            if count == 2 {
+                return Call::Range(of);
+            }
+            Call::Wrong
+        }
+        _ => {
+            if count == 0 {
+                return Call::Method { method, of };
+            }
+            Call::Wrong
+        }
+    }
+}
+
+// Brackets behind what is no function: a binding, or a range of bits.
+fn of_subject(of: Subject, is_port: bool, count: usize) -> Call {
+    if is_port && count == 1 {
+        let call = PortCall::Bind;
+        return Call::Done { call, of };
+    }
+    if count == 2 {
+        return Call::Range(of);
+    }
+    Call::Wrong
+}
+
+/// What brackets with so many arguments are behind what is named.
+pub(crate) fn call_of(m: Meant, count: usize) -> Call {
+    match m {
+        Meant::Function {
+            scope,
+            name,
+            object,
+            place,
+        } => Call::Function {
+            scope,
+            name,
+            object,
+            place,
+        },
+        Meant::Built { method, of } => of_method(method, of, count),
+        Meant::Loc(l) => {
+            let is_port = l.form.is_port();
+            of_subject(Subject::Loc(l), is_port, count)
+        }
+        Meant::Value(x) => of_subject(Subject::Value(x), false, count),
+        _ => Call::Wrong,
+    }
+}
+
+/// The arguments of the call that an expression ends with; none where it ends otherwise.
+pub fn last_args(e: &Expr) -> &[Expr] {
+    let ExprNode::Parts { parts, .. } = e.node.get() else {
+        return &[];
+    };
+    match parts.as_slice().last() {
+        Some(part) => match &part.node {
+            PartNode::Call(args) => args.as_slice(),
+            _ => &[],
+        },
+        None => &[],
+    }
+}
+
+impl Walk {
+    /// The function that is called, with its parameters known. Refuses by E301 at the name where it has no body.
+    pub(crate) fn callee(
+        &mut self,
+        scope: Option<InstanceId>,
+        name: Name,
+        own: Place,
+        tree: &FileTree,
+    ) -> Result<FunctionId, Stop>
+        ensures stop { IfErr result MayStop }
+    {
+        let key = FunctionKey {
+            scope,
+            name,
+            constructor: false,
+        };
+        let Some(f) = self.function(key, own, tree)? else {
+            return refuse(Code::UnknownName, own);
+        };
+        self.sign(f, tree)?;
+        Ok(f)
+    }
+
+    /// What the parameter for an argument holds; the first `lead` arguments are names of modules.
+    pub(crate) fn param_form(&self, f: FunctionId, lead: usize, k: usize) -> Option<Form> {
+        if k < lead {
+            return Some(Form::direct(Base::ModuleName));
+        }
+        self.params_of(f).get(k - lead).copied()
+    }
+
+    fn note_call(
+        &mut self,
+        f: FunctionId,
+        has_object: bool,
+        place: Place,
+        flow: Flow,
+        b: &Body,
+    ) -> Result<(), NoMemory> {
+        if flow.forbidden && self.late.is_none() {
+            self.late = Some(place);
+        }
+        let key = self.key_of(f).ok_or(lost())?;
+        let on = if has_object || key.scope.is_none() {
+            CallOn::Other
+        } else if key.scope == b.scope {
+            CallOn::Own
+        } else {
+            CallOn::Class
+        };
+        self.notes.push(Note::Call {
+            from: b.function,
+            to: f,
+            on,
+            place,
+        })
+    }
+
+    /// Puts a call before the statement in work: its result. Refuses by E304 where it has another count of arguments.
+    pub(crate) fn lift(
+        &mut self,
+        f: FunctionId,
+        object: Option<PlainLeft>,
+        args: List<PlainArg>,
+        place: Place,
+        flow: Flow,
+        b: &mut Body,
+    ) -> Result<Meant, Stop>
+        ensures stop { IfErr result MayStop }
+    {
+        self.note_call(f, object.is_some(), place, flow, b)?;
+        let function = self.number_of(f)?;
+        let number = b.lift(function, object, args, place)?;
+        match self.result_of(f) {
+            Some(kind) => {
+                let left = PlainLeft::new(self.alloc, place, PlainBase::Answer(number));
+                Ok(Meant::Value(load(self.alloc, place, kind, left)?))
+            }
+            None => Ok(Meant::Void),
+        }
+    }
+
+    /// A range of bits between two constants. Refuses by E304, E312, and as constants do.
+    pub(crate) fn range(
+        &mut self,
+        args: &[Expr],
+        of: Subject,
+        place: Place,
+        tree: &FileTree,
+        b: &Body,
+    ) -> Result<Meant, Stop>
+        ensures stop { IfErr result MayStop }
+    {
+        let [h, l] = args else {
+            return gone();
+        };
+        let h = self.constant(h, tree, b)?.small();
+        let l = self.constant(l, tree, b)?.small();
+        ranged(self.alloc, of, h, l, place)
+    }
+}
+
+impl Body {
+    // A further call: its number.
+    fn lift(
+        &mut self,
+        function: u32,
+        object: Option<PlainLeft>,
+        args: List<PlainArg>,
+        place: Place,
+    ) -> Result<u32, NoMemory> {
+        let number = self.calls;
+        let node = PlainNode::Call {
+            number,
+            function,
+            object,
+            args,
+        };
+        self.lifted.push(PlainStmt { place, node })?;
+        self.calls = number.checked_add(1).ok_or(lost())?;
+        Ok(number)
+    }
+}
