@@ -1,7 +1,7 @@
 //! Names that are declared twice in one scope (C++, [basic.scope], [basic.def.odr]). Every declaration of the text is looked at, in
 //! text order, whether it is used or not.
 ghost use Rattle.std.specs.Prelude.{IfErr};
-ghost use Rattle.scc_plain.specs.Refusals.{MayStop};
+ghost use Rattle.scc_bodies.specs.Refusals.{MayStop};
 
 use indexmap::IndexMap;
 use scc_base::{Code, Name, NoMemory, Place, Stop, lost};
@@ -90,20 +90,22 @@ impl Scopes {
     }
 
     // A declaration of a function.
-    fn function(
-        &mut self,
-        scope: usize,
-        name: Name,
-        place: Place,
-        body: bool,
-    ) -> Result<(), Stop>
+    fn function(&mut self, scope: usize, name: Name, place: Place, body: bool) -> Result<(), Stop>
         ensures stop { IfErr result MayStop }
     {
         let own = body.then_some(place);
         let Some(first) = self.first(scope, name) else {
             let function = true;
             let body = own;
-            self.keep(scope, name, First { place, function, body })?;
+            self.keep(
+                scope,
+                name,
+                First {
+                    place,
+                    function,
+                    body,
+                },
+            )?;
             return Ok(());
         };
         if !first.function {
@@ -131,7 +133,9 @@ impl Scopes {
                 self.class(class)
             }
             ItemNode::Outside {
-                params, function, ..
+                params,
+                function,
+                ..
             } => {
                 let scope = self.open()?;
                 self.params(params.as_slice(), scope)?;

@@ -1,15 +1,16 @@
 //! The walk over an instance: its members in the order of the text, then the bodies of its functions.
+ghost use Rattle.std.specs.Prelude.{IfErr};
+ghost use Rattle.scc_bodies.specs.Refusals.{MayStop};
+
 use crate::stage::Order;
 use crate::top::{constructor, made_bare};
 use indexmap::IndexSet;
 use scc_base::{Code, List, Name, NoMemory, Stop, lost};
-use scc_bodies::{FunctionId, Walk, refuse};
+use scc_bodies::{FunctionId, Walk, gone, refuse};
 use scc_plaintree::{Base, Reach};
 use scc_statements::class_name;
 use scc_templates::{Context, Entry, Found, FunctionKey, InstanceId};
-use scc_tree::{
-    ClassTree, Enumerator, Field, FileTree, FunctionTree, Item, ItemNode,
-};
+use scc_tree::{ClassTree, Enumerator, Field, FileTree, FunctionTree, Item, ItemNode};
 
 // What the walk over one instance's members knows.
 #[derive(Drop)]
@@ -29,7 +30,9 @@ pub fn walk_instance(
     tree: &FileTree,
     w: &mut Walk,
     order: &mut Order,
-) -> Result<(), Stop> {
+) -> Result<(), Stop>
+    ensures stop { IfErr result MayStop }
+{
     let class = w.templates.body(tree, i).ok_or(lost())?;
     let mut m = Members {
         i,
@@ -45,7 +48,9 @@ pub fn walk_instance(
 }
 
 impl Members {
-    fn walk(&mut self, class: &ClassTree, tree: &FileTree, w: &mut Walk) -> Result<(), Stop> {
+    fn walk(&mut self, class: &ClassTree, tree: &FileTree, w: &mut Walk) -> Result<(), Stop>
+        ensures stop { IfErr result MayStop }
+    {
         let fields = class.fields.as_slice();
         let mut taken = 0;
         for (k, item) in class.items.as_slice().iter().enumerate() {
@@ -64,7 +69,9 @@ impl Members {
         item: usize,
         tree: &FileTree,
         w: &mut Walk,
-    ) -> Result<usize, Stop> {
+    ) -> Result<usize, Stop>
+        ensures stop { IfErr result MayStop }
+    {
         for k in from..fields.len() {
             let Some(field) = fields.get(k) else {
                 return Ok(k);
@@ -77,13 +84,9 @@ impl Members {
         Ok(fields.len())
     }
 
-    fn field(
-        &mut self,
-        field: &Field,
-        k: usize,
-        tree: &FileTree,
-        w: &mut Walk,
-    ) -> Result<(), Stop> {
+    fn field(&mut self, field: &Field, k: usize, tree: &FileTree, w: &mut Walk) -> Result<(), Stop>
+        ensures stop { IfErr result MayStop }
+    {
         let form = w.field_form(self.i, k, tree)?;
         let Base::Class(n) = form.base else {
             return Ok(());
@@ -99,12 +102,9 @@ impl Members {
     }
 
     // Whether the constructor has an initialiser of a member.
-    fn is_initialised(
-        &mut self,
-        field: &Field,
-        tree: &FileTree,
-        w: &mut Walk,
-    ) -> Result<bool, Stop> {
+    fn is_initialised(&mut self, field: &Field, tree: &FileTree, w: &mut Walk) -> Result<bool, Stop>
+        ensures stop { IfErr result MayStop }
+    {
         if self.initialised.is_none() {
             let names = initialised(self.i, field, tree, w)?;
             self.initialised = Some(names);
@@ -115,13 +115,9 @@ impl Members {
         }
     }
 
-    fn item(
-        &mut self,
-        item: &Item,
-        k: usize,
-        tree: &FileTree,
-        w: &mut Walk,
-    ) -> Result<(), Stop> {
+    fn item(&mut self, item: &Item, k: usize, tree: &FileTree, w: &mut Walk) -> Result<(), Stop>
+        ensures stop { IfErr result MayStop }
+    {
         let scope = Some(self.i);
         let cx = Context::outside(tree, scope);
         match &item.node {
@@ -140,7 +136,7 @@ impl Members {
             ItemNode::Numbers(all) => self.enumerators(all.as_slice(), k, tree, w),
             ItemNode::Function(f) => self.function(f, k, tree, w),
             // No class stands in a class.
-            _ => Err(lost().into()),
+            _ => gone(),
         }
     }
 
@@ -150,7 +146,9 @@ impl Members {
         item: usize,
         tree: &FileTree,
         w: &mut Walk,
-    ) -> Result<(), Stop> {
+    ) -> Result<(), Stop>
+        ensures stop { IfErr result MayStop }
+    {
         let scope = Some(self.i);
         let cx = Context::outside(tree, scope);
         for (at, e) in all.iter().enumerate() {
@@ -167,7 +165,9 @@ impl Members {
         k: usize,
         tree: &FileTree,
         w: &mut Walk,
-    ) -> Result<(), Stop> {
+    ) -> Result<(), Stop>
+        ensures stop { IfErr result MayStop }
+    {
         if f.constructor && f.name != self.name {
             return refuse(Code::UnknownName, f.place);
         }
@@ -187,11 +187,13 @@ impl Members {
     }
 
     // E301 at a body outside the class that the class body doesn't declare.
-    fn outside(&self, tree: &FileTree, w: &mut Walk) -> Result<(), Stop> {
+    fn outside(&self, tree: &FileTree, w: &mut Walk) -> Result<(), Stop>
+        ensures stop { IfErr result MayStop }
+    {
         for item in undeclared(self.i, self.name, tree, w)?.as_slice() {
             let at = tree.items.get(*item as usize).ok_or(lost())?;
             let ItemNode::Outside { function, .. } = &at.node else {
-                return Err(lost().into());
+                return gone();
             };
             let cx = Context::outside(tree, Some(self.i));
             if w.templates.is_own_outside(&cx, self.i, *item)? {
@@ -208,7 +210,9 @@ fn initialised(
     field: &Field,
     tree: &FileTree,
     w: &mut Walk,
-) -> Result<IndexSet<Name>, Stop> {
+) -> Result<IndexSet<Name>, Stop>
+    ensures stop { IfErr result MayStop }
+{
     let mut names = IndexSet::new(w.alloc);
     if let Some(f) = constructor(i, field.place, tree, w)? {
         let function = w.tree_of(f, tree).ok_or(lost())?;

@@ -1,15 +1,20 @@
 //! What is looked for last: calls by a class's name of functions that use their object, and what holds or calls itself.
+ghost use Rattle.std.specs.Prelude.{IfErr};
+ghost use Rattle.scc_bodies.specs.Refusals.{MayStop};
+
 use crate::graph::{Graph, Groups, Reached, reaches_itself};
 use crate::stage::Order;
 use scc_base::{Code, List, NoMemory, Place, Stop, lost};
-use scc_bodies::{CallOn, FunctionId, Note, Walk, refuse};
+use scc_bodies::{CallOn, FunctionId, Note, Walk, gone, refuse};
 use scc_plaintree::{Base, Reach};
 use scc_templates::{InstanceId, Needed};
 use scc_tree::FileTree;
 
 /// Refuses a call by a class's name (E304) of a function that uses its object, and then a class that holds itself or a function that
 /// calls itself (E309), in the order of the walk, a class before its functions.
-pub fn look_last(tree: &FileTree, w: &mut Walk, order: &Order) -> Result<(), Stop> {
+pub fn look_last(tree: &FileTree, w: &mut Walk, order: &Order) -> Result<(), Stop>
+    ensures stop { IfErr result MayStop }
+{
     let calls = Calls::of(w)?;
     calls.by_class(w)?;
     let holds = holding(tree, w)?;
@@ -51,7 +56,9 @@ impl Calls {
     }
 
     // E304 at the first call by a class's name of a function that uses its object, by itself or by what it calls on it.
-    fn by_class(&self, w: &Walk) -> Result<(), Stop> {
+    fn by_class(&self, w: &Walk) -> Result<(), Stop>
+        ensures stop { IfErr result MayStop }
+    {
         let users = Reached::from(w.alloc, &self.own, self.users.as_slice())?;
         for note in w.notes.as_slice() {
             if let Note::Call { to, on, place, .. } = *note
@@ -66,7 +73,9 @@ impl Calls {
 }
 
 // The instances that instances hold as members or elements.
-fn holding(tree: &FileTree, w: &mut Walk) -> Result<Graph, Stop> {
+fn holding(tree: &FileTree, w: &mut Walk) -> Result<Graph, Stop>
+    ensures stop { IfErr result MayStop }
+{
     let count = w.templates.len();
     let mut holds = Graph::new(w.alloc, count)?;
     for n in 0..count {
@@ -103,12 +112,14 @@ impl Cycles {
     }
 
     // E309 at a place where a node is on a cycle.
-    fn refuse(&self, w: &Walk, k: u32, place: Place) -> Result<(), Stop> {
+    fn refuse(&self, w: &Walk, k: u32, place: Place) -> Result<(), Stop>
+        ensures stop { IfErr result MayStop }
+    {
         if !self.groups.is_looped(&self.graph, k) {
             return Ok(());
         }
         if !reaches_itself(w.alloc, &self.graph, k)? {
-            return Err(lost().into());
+            return gone();
         }
         refuse(Code::Recursion, place)
     }
@@ -120,7 +131,9 @@ fn look(
     order: &Order,
     classes: &Cycles,
     functions: &Cycles,
-) -> Result<(), Stop> {
+) -> Result<(), Stop>
+    ensures stop { IfErr result MayStop }
+{
     let mut rest = order.functions.as_slice();
     for k in 0..usize::MAX {
         let scope = match w.templates.needed(k) {
@@ -135,7 +148,7 @@ fn look(
         };
         rest = functions_of(scope, rest, tree, w, functions)?;
     }
-    Err(lost().into())
+    gone()
 }
 
 // Looks at the functions of an instance, or at one of the file, with which the rest of the walk begins; gives what comes behind.
@@ -145,7 +158,9 @@ fn functions_of<'o>(
     tree: &FileTree,
     w: &Walk,
     functions: &Cycles,
-) -> Result<&'o [FunctionId], Stop> {
+) -> Result<&'o [FunctionId], Stop>
+    ensures stop { IfErr result MayStop }
+{
     let mut rest = rest;
     while let Some((f, others)) = rest.split_first() {
         let key = w.key_of(*f).ok_or(lost())?;

@@ -1,5 +1,6 @@
 //! The static stage as a whole.
 ghost use Rattle.std.specs.Prelude.{IfErr};
+ghost use Rattle.scc_bodies.specs.Refusals.{MayStop};
 
 use crate::duplicates::find_duplicates;
 use crate::instance::walk_instance;
@@ -7,7 +8,7 @@ use crate::last::look_last;
 use crate::top::make_top;
 use crate::write::written;
 use scc_base::{Code, List, Name, NoMemory, Place, Stop, lost};
-use scc_bodies::{FunctionId, Walk, refuse};
+use scc_bodies::{FunctionId, Walk, gone, refuse};
 use scc_plaintree::Plain;
 use scc_statements::walk_body;
 use scc_templates::{FunctionKey, Needed};
@@ -22,7 +23,9 @@ pub struct Order {
 
 impl Order {
     /// Walks a function's body for its refusals.
-    pub fn walk(&mut self, f: FunctionId, tree: &FileTree, w: &mut Walk) -> Result<(), Stop> {
+    pub fn walk(&mut self, f: FunctionId, tree: &FileTree, w: &mut Walk) -> Result<(), Stop>
+        ensures stop { IfErr result MayStop }
+    {
         self.functions.push(f)?;
         let _body = walk_body(f, tree, w)?;
         Ok(())
@@ -34,38 +37,45 @@ impl Order {
 /// E301 to E314: first what is declared twice (E302), in text order; then what stands first in the walk over the top, and over the
 /// instances and functions of the file in the order in which they are first needed; then calls by a class's name of functions that use
 /// their object (E304); then classes that hold themselves and functions that call themselves (E309).
-pub fn plain(alloc: Global, tree: &FileTree, top: Name) -> Result<Plain, Stop> {
+pub fn plain(alloc: Global, tree: &FileTree, top: Name) -> Result<Plain, Stop>
+    ensures stop { IfErr result MayStop }
+{
     find_duplicates(alloc, tree)?;
     let mut w = Walk::new(alloc, tree)?;
     make_top(top, tree, &mut w)?;
     let mut order = Order {
         functions: List::new(alloc),
     };
-    let walked = walk(tree, &mut w, &mut order);
-    judged(walked, w.late)?;
+    if let Err(stop) = walk(tree, &mut w, &mut order) {
+        return sooner(stop, w.late);
+    }
+    if let Some(late) = w.late {
+        return refuse(Code::CallPlace, late);
+    }
     look_last(tree, &mut w, &order)?;
     written(tree, &mut w, &order)
 }
 
 // A call that stands where none may is refused behind all else, but for what stands at its place with a smaller number.
-fn judged(walked: Result<(), Stop>, late: Option<Place>) -> Result<(), Stop> {
-    let Some(late) = late else {
-        return walked;
-    };
-    match walked {
-        Ok(()) => refuse(Code::CallPlace, late),
-        Err(Stop::NoMemory) => Err(Stop::NoMemory),
-        Err(Stop::Refused(r)) => {
+fn sooner<T>(stop: Stop, late: Option<Place>) -> Result<T, Stop>
+    requires { MayStop stop }
+    ensures stop { IfErr result MayStop }
+{
+    match (stop, late) {
+        (Stop::Refused(r), Some(late)) => {
             if r.place == late && r.code.number() < Code::CallPlace.number() {
                 return Err(Stop::Refused(r));
             }
             refuse(Code::CallPlace, late)
         }
+        (stop, _) => Err(stop),
     }
 }
 
 // Walks all that is needed, as it is first needed.
-fn walk(tree: &FileTree, w: &mut Walk, order: &mut Order) -> Result<(), Stop> {
+fn walk(tree: &FileTree, w: &mut Walk, order: &mut Order) -> Result<(), Stop>
+    ensures stop { IfErr result MayStop }
+{
     for k in 0..usize::MAX {
         match w.templates.needed(k) {
             None => return Ok(()),
@@ -73,18 +83,16 @@ fn walk(tree: &FileTree, w: &mut Walk, order: &mut Order) -> Result<(), Stop> {
             Some(Needed::Function(item)) => walk_free(item, tree, w, order)?,
         }
     }
-    Err(lost().into())
+    gone()
 }
 
 /// The function of the file whose body an item is.
-pub fn free_function(
-    item: u32,
-    tree: &FileTree,
-    w: &mut Walk,
-) -> Result<FunctionId, Stop> {
+pub fn free_function(item: u32, tree: &FileTree, w: &mut Walk) -> Result<FunctionId, Stop>
+    ensures stop { IfErr result MayStop }
+{
     let at = tree.items.get(item as usize).ok_or(lost())?;
     let ItemNode::Function(f) = &at.node else {
-        return Err(lost().into());
+        return gone();
     };
     let key = FunctionKey {
         scope: None,
@@ -94,7 +102,9 @@ pub fn free_function(
     Ok(w.function(key, f.place, tree)?.ok_or(lost())?)
 }
 
-fn walk_free(item: u32, tree: &FileTree, w: &mut Walk, order: &mut Order) -> Result<(), Stop> {
+fn walk_free(item: u32, tree: &FileTree, w: &mut Walk, order: &mut Order) -> Result<(), Stop>
+    ensures stop { IfErr result MayStop }
+{
     let f = free_function(item, tree, w)?;
     w.sign(f, tree)?;
     order.walk(f, tree, w)

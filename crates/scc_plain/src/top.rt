@@ -1,4 +1,7 @@
 //! The class that a program is made for, and objects that are made without arguments.
+ghost use Rattle.std.specs.Prelude.{IfErr};
+ghost use Rattle.scc_bodies.specs.Refusals.{MayStop};
+
 use scc_base::{Code, List, Name, Place, Stop, lost};
 use scc_bodies::{FunctionId, Walk, refuse};
 use scc_plaintree::Base;
@@ -8,7 +11,9 @@ use scc_tree::FileTree;
 
 /// Makes the top's instance, which is the first. Refuses by E301 at the file's end where no class has the name, by E307 at its name where it
 /// is a template, and by E301 there where its constructor has no body.
-pub fn make_top(top: Name, tree: &FileTree, w: &mut Walk) -> Result<(), Stop> {
+pub fn make_top(top: Name, tree: &FileTree, w: &mut Walk) -> Result<(), Stop>
+    ensures stop { IfErr result MayStop }
+{
     let Some(item) = w.templates.file_class(top) else {
         return refuse(Code::UnknownName, tree.end);
     };
@@ -19,7 +24,9 @@ pub fn make_top(top: Name, tree: &FileTree, w: &mut Walk) -> Result<(), Stop> {
     }
     let number = u32::try_from(item).map_err(|_| lost())?;
     let none = List::new(w.alloc);
-    let i = w.templates.instantiate(tree, ClassId(number), &none, place)?;
+    let i = w
+        .templates
+        .instantiate(tree, ClassId(number), &none, place)?;
     constructor_for(i, place, tree, w)?;
     Ok(())
 }
@@ -30,7 +37,9 @@ fn constructor_for(
     place: Place,
     tree: &FileTree,
     w: &mut Walk,
-) -> Result<Option<FunctionId>, Stop> {
+) -> Result<Option<FunctionId>, Stop>
+    ensures stop { IfErr result MayStop }
+{
     let name = class_name(i, tree, w)?;
     if w.templates.first_declared(i, name, true).is_none() {
         return Ok(None);
@@ -47,7 +56,9 @@ pub fn constructor(
     place: Place,
     tree: &FileTree,
     w: &mut Walk,
-) -> Result<Option<FunctionId>, Stop> {
+) -> Result<Option<FunctionId>, Stop>
+    ensures stop { IfErr result MayStop }
+{
     let key = FunctionKey {
         scope: Some(i),
         name: class_name(i, tree, w)?,
@@ -57,7 +68,9 @@ pub fn constructor(
 }
 
 /// An object that is made without arguments: E304 at a place where its constructor has parameters but names.
-pub fn made_bare(i: InstanceId, place: Place, tree: &FileTree, w: &mut Walk) -> Result<(), Stop> {
+pub fn made_bare(i: InstanceId, place: Place, tree: &FileTree, w: &mut Walk) -> Result<(), Stop>
+    ensures stop { IfErr result MayStop }
+{
     let Some(f) = constructor_for(i, place, tree, w)? else {
         return Ok(());
     };

@@ -1,4 +1,7 @@
 //! The program that is written once nothing is refused: bodies are walked again, now that each function has its number.
+ghost use Rattle.std.specs.Prelude.{IfErr};
+ghost use Rattle.scc_bodies.specs.Refusals.{MayStop};
+
 use crate::stage::Order;
 use crate::top::constructor;
 use scc_base::{List, NoMemory, Place, Stop, lost};
@@ -9,7 +12,9 @@ use scc_templates::InstanceId;
 use scc_tree::FileTree;
 
 /// The program of the instances and of the functions of a walk.
-pub fn written(tree: &FileTree, w: &mut Walk, order: &Order) -> Result<Plain, Stop> {
+pub fn written(tree: &FileTree, w: &mut Walk, order: &Order) -> Result<Plain, Stop>
+    ensures stop { IfErr result MayStop }
+{
     w.numbers = numbers(w, order)?;
     let mut functions = List::new(w.alloc);
     for f in order.functions.as_slice() {
@@ -40,7 +45,9 @@ fn numbers(w: &Walk, order: &Order) -> Result<List<u32>, NoMemory> {
     Ok(List::from_vec(numbers))
 }
 
-fn class(i: InstanceId, tree: &FileTree, w: &mut Walk) -> Result<PlainClass, Stop> {
+fn class(i: InstanceId, tree: &FileTree, w: &mut Walk) -> Result<PlainClass, Stop>
+    ensures stop { IfErr result MayStop }
+{
     let (primary, _) = w.templates.args_of(i).ok_or(lost())?;
     let item = tree.items.get(primary.0 as usize).ok_or(lost())?;
     let name = item.name.ok_or(lost())?;
@@ -68,9 +75,11 @@ fn constructor_number(
     place: Place,
     tree: &FileTree,
     w: &mut Walk,
-) -> Result<Option<u32>, Stop> {
+) -> Result<Option<u32>, Stop>
+    ensures stop { IfErr result MayStop }
+{
     match constructor(i, place, tree, w)? {
-        Some(f) => Ok(Some(w.number_of(f))),
+        Some(f) => Ok(Some(w.number_of(f)?)),
         None => Ok(None),
     }
 }

@@ -1,4 +1,7 @@
 //! Statements of constructors (IEEE 1666-2011, 5.2.9 to 5.2.14). What they name is looked at when the design is built.
+ghost use Rattle.std.specs.Prelude.{IfErr};
+ghost use Rattle.scc_bodies.specs.Refusals.{MayStop};
+
 use crate::stmts::put;
 use scc_base::{Code, List, Name, Place, Stop};
 use scc_bodies::{Body, Flow, FunctionId, Meant, PortCall, Subject, Walk, last_args, refuse};
@@ -13,7 +16,9 @@ fn process_function(
     tree: &FileTree,
     w: &mut Walk,
     b: &Body,
-) -> Result<FunctionId, Stop> {
+) -> Result<FunctionId, Stop>
+    ensures stop { IfErr result MayStop }
+{
     let Some(found) = w.look_up(name, tree, b) else {
         return refuse(Code::UnknownName, at);
     };
@@ -43,14 +48,16 @@ pub(crate) fn process(
     w: &mut Walk,
     b: &mut Body,
     out: &mut List<PlainStmt>,
-) -> Result<(), Stop> {
+) -> Result<(), Stop>
+    ensures stop { IfErr result MayStop }
+{
     let f = process_function(name, at, tree, w, b)?;
     let edge = match edge {
         Some(e) => Some(sense(e, tree, flow, w, b)?),
         None => None,
     };
     b.flush(out)?;
-    let function = w.number_of(f);
+    let function = w.number_of(f)?;
     let node = PlainNode::Process {
         thread,
         function,
@@ -67,7 +74,9 @@ fn sense(
     flow: Flow,
     w: &mut Walk,
     b: &mut Body,
-) -> Result<PlainSense, Stop> {
+) -> Result<PlainSense, Stop>
+    ensures stop { IfErr result MayStop }
+{
     let place = e.place;
     match w.meant(e, tree, flow, b)? {
         Meant::Done { call, of } => {
@@ -83,12 +92,9 @@ fn sense(
     }
 }
 
-fn edge_sense(
-    call: PortCall,
-    of: Subject,
-    is_bare: bool,
-    place: Place,
-) -> Result<PlainSense, Stop> {
+fn edge_sense(call: PortCall, of: Subject, is_bare: bool, place: Place) -> Result<PlainSense, Stop>
+    ensures stop { IfErr result MayStop }
+{
     let rising = match call {
         PortCall::Pos => true,
         PortCall::Neg => false,
@@ -113,7 +119,9 @@ pub(crate) fn sensitive(
     w: &mut Walk,
     b: &mut Body,
     out: &mut List<PlainStmt>,
-) -> Result<(), Stop> {
+) -> Result<(), Stop>
+    ensures stop { IfErr result MayStop }
+{
     let mut senses = List::new(w.alloc);
     for e in list {
         senses.push(sense(e, tree, flow, w, b)?)?;
@@ -134,7 +142,9 @@ pub(crate) fn reset(
     w: &mut Walk,
     b: &mut Body,
     out: &mut List<PlainStmt>,
-) -> Result<(), Stop> {
+) -> Result<(), Stop>
+    ensures stop { IfErr result MayStop }
+{
     let signal = w.meant(signal, tree, flow, b)?.location();
     let level = w.test(level, tree, flow, b)?.expr;
     b.flush(out)?;

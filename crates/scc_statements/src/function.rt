@@ -1,4 +1,7 @@
 //! Functions whole.
+ghost use Rattle.std.specs.Prelude.{IfErr};
+ghost use Rattle.scc_bodies.specs.Refusals.{MayStop};
+
 use crate::init::init;
 use crate::statement::scoped;
 use scc_base::{List, Stop, lost};
@@ -9,7 +12,9 @@ use std::mem;
 
 /// A function's plain form, its initialisers before its body. The functions that it names have the numbers of `w.numbers`. Refuses by
 /// E301 and E302 to E308, E310 to E312 and E314; a call that stands where none may is noted in `w.late` alone.
-pub fn walk_body(f: FunctionId, tree: &FileTree, w: &mut Walk) -> Result<PlainFunction, Stop> {
+pub fn walk_body(f: FunctionId, tree: &FileTree, w: &mut Walk) -> Result<PlainFunction, Stop>
+    ensures stop { IfErr result MayStop }
+{
     let mut b = w.open(f, tree)?;
     let source = w.tree_of(f, tree).ok_or(lost())?;
     let mut inits = List::new(w.alloc);

@@ -1,9 +1,12 @@
 //! Initialisers of constructors (C++, [class.base.init]).
+ghost use Rattle.std.specs.Prelude.{IfErr};
+ghost use Rattle.scc_bodies.specs.Refusals.{MayStop};
+
 use crate::make::{MadeAt, made, make_args};
 use crate::port::{is_plain, only_value};
 use crate::stmts::put;
 use scc_base::{Code, List, Place, Stop, lost};
-use scc_bodies::{Body, Flow, Form, Note, Walk, convert, refuse};
+use scc_bodies::{Body, Flow, Form, Walk, convert, refuse};
 use scc_plaintree::{
     Base, PlainArg, PlainBase, PlainLeft, PlainNode, PlainPart, PlainStmt, PlainTarget, Reach,
 };
@@ -17,7 +20,9 @@ pub(crate) fn init(
     w: &mut Walk,
     b: &mut Body,
     out: &mut List<PlainStmt>,
-) -> Result<(), Stop> {
+) -> Result<(), Stop>
+    ensures stop { IfErr result MayStop }
+{
     let args = i.args.as_slice();
     let Some(name) = i.name else {
         names(args, tree, w, b)?;
@@ -34,7 +39,7 @@ pub(crate) fn init(
         return refuse(Code::Mismatch, i.place);
     };
     let form = w.field_form(scope, k, tree)?;
-    w.notes.push(Note::This(b.function))?;
+    w.note_this(b)?;
     let mut left = PlainLeft::new(w.alloc, i.place, PlainBase::This);
     let member = u32::try_from(k).map_err(|_| lost())?;
     left.parts.push(PlainPart::Member(member))?;
@@ -46,7 +51,9 @@ pub(crate) fn init(
 }
 
 // Names of modules, which have no effect.
-fn names(args: &[Expr], tree: &FileTree, w: &mut Walk, b: &mut Body) -> Result<(), Stop> {
+fn names(args: &[Expr], tree: &FileTree, w: &mut Walk, b: &mut Body) -> Result<(), Stop>
+    ensures stop { IfErr result MayStop }
+{
     let form = Form::direct(Base::ModuleName);
     for e in args {
         let _name = w.argument(e, form, tree, Flow::start(), b)?;
@@ -63,7 +70,9 @@ fn begun(
     tree: &FileTree,
     w: &mut Walk,
     b: &mut Body,
-) -> Result<Option<PlainNode>, Stop> {
+) -> Result<Option<PlainNode>, Stop>
+    ensures stop { IfErr result MayStop }
+{
     if form.reach != Reach::Direct {
         return pointed(args, form, left, place, tree, w, b);
     }
@@ -112,7 +121,9 @@ fn pointed(
     tree: &FileTree,
     w: &mut Walk,
     b: &mut Body,
-) -> Result<Option<PlainNode>, Stop> {
+) -> Result<Option<PlainNode>, Stop>
+    ensures stop { IfErr result MayStop }
+{
     if args.is_empty() && form.is_pointer() {
         return Ok(None);
     }
@@ -137,7 +148,9 @@ fn new_object(
     tree: &FileTree,
     w: &mut Walk,
     b: &mut Body,
-) -> Result<Option<List<PlainArg>>, Stop> {
+) -> Result<Option<List<PlainArg>>, Stop>
+    ensures stop { IfErr result MayStop }
+{
     let [e] = args else {
         return Ok(None);
     };
@@ -167,7 +180,9 @@ fn only_target(
     tree: &FileTree,
     w: &mut Walk,
     b: &mut Body,
-) -> Result<Option<PlainTarget>, Stop> {
+) -> Result<Option<PlainTarget>, Stop>
+    ensures stop { IfErr result MayStop }
+{
     let mut last = None;
     for e in args {
         last = None;

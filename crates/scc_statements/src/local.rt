@@ -1,4 +1,7 @@
 //! Local variables (C++, [stmt.dcl], [dcl.init]).
+ghost use Rattle.std.specs.Prelude.{IfErr};
+ghost use Rattle.scc_bodies.specs.Refusals.{MayStop};
+
 use crate::stmts::put;
 use scc_base::{Code, List, Place, Stop};
 use scc_bodies::{Body, Flow, Form, Walk, convert, refuse};
@@ -13,7 +16,9 @@ pub(crate) fn locals(
     w: &mut Walk,
     b: &mut Body,
     out: &mut List<PlainStmt>,
-) -> Result<(), Stop> {
+) -> Result<(), Stop>
+    ensures stop { IfErr result MayStop }
+{
     for d in declared.names.as_slice() {
         local(d, declared, tree, flow, w, b, out)?;
     }
@@ -40,7 +45,9 @@ fn local(
     w: &mut Walk,
     b: &mut Body,
     out: &mut List<PlainStmt>,
-) -> Result<(), Stop> {
+) -> Result<(), Stop>
+    ensures stop { IfErr result MayStop }
+{
     let place = d.decl.place;
     let shape = w.shape_of(&declared.ty, &d.decl, tree, b)?;
     let form = Form::of(&shape)?;
@@ -67,7 +74,9 @@ fn initial(
     flow: Flow,
     w: &mut Walk,
     b: &mut Body,
-) -> Result<PlainNode, Stop> {
+) -> Result<PlainNode, Stop>
+    ensures stop { IfErr result MayStop }
+{
     let left = PlainLeft::new(w.alloc, place, PlainBase::Local(n));
     match (form.reach, form.base) {
         (Reach::Direct, Base::Number(kind)) => {

@@ -1,5 +1,8 @@
 //! Loops (C++, [stmt.iter]). Each is a block with what stands before it and the loop, whose turns are blocks: `break` leaves the outer
 //! block, `continue` the inner one.
+ghost use Rattle.std.specs.Prelude.{IfErr};
+ghost use Rattle.scc_bodies.specs.Refusals.{MayStop};
+
 use crate::count::counted;
 use crate::local::locals;
 use crate::simple::simple;
@@ -12,11 +15,7 @@ use std::alloc::Global;
 
 /// Inside a turn's block.
 pub(crate) fn turn_flow(flow: Flow) -> Flow {
-    Flow {
-        forbidden: flow.forbidden,
-        leave: Some(1),
-        next: Some(0),
-    }
+    flow.within(Some(1), Some(0))
 }
 
 /// Leaves a loop where its condition doesn't hold.
@@ -26,7 +25,9 @@ pub(crate) fn loop_test(
     flow: Flow,
     w: &mut Walk,
     b: &mut Body,
-) -> Result<PlainStmt, Stop> {
+) -> Result<PlainStmt, Stop>
+    ensures stop { IfErr result MayStop }
+{
     let place = e.place;
     let test = w.test(e, tree, flow.without_calls(), b)?.expr;
     let yes = List::new(w.alloc);
@@ -83,7 +84,9 @@ pub(crate) fn for_head(
     flow: Flow,
     w: &mut Walk,
     b: &mut Body,
-) -> Result<Head, Stop> {
+) -> Result<Head, Stop>
+    ensures stop { IfErr result MayStop }
+{
     let flow = flow.without_calls();
     let counter = u32::try_from(b.locals.len()).map_err(|_| lost())?;
     let mut before = List::new(w.alloc);

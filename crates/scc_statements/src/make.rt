@@ -1,4 +1,7 @@
 //! Objects that are made with arguments (C++, [expr.new], [class.ctor]; IEEE 1666-2011, 5.2, 5.3, 8.5).
+ghost use Rattle.std.specs.Prelude.{IfErr};
+ghost use Rattle.scc_bodies.specs.Refusals.{MayStop};
+
 use scc_base::{Code, List, Name, NoMemory, Place, Stop, lost};
 use scc_bits::Kind;
 use scc_bodies::{Body, Flow, Form, FunctionId, Walk, base_of, refuse};
@@ -23,7 +26,9 @@ pub(crate) fn made(
     flow: Flow,
     w: &mut Walk,
     b: &mut Body,
-) -> Result<List<PlainArg>, Stop> {
+) -> Result<List<PlainArg>, Stop>
+    ensures stop { IfErr result MayStop }
+{
     let t = w.type_of(ty, tree, b)?;
     let mut own = Form::direct(base_of(t.base));
     own.vector = t.vector;
@@ -44,7 +49,9 @@ pub(crate) fn make_args(
     flow: Flow,
     w: &mut Walk,
     b: &mut Body,
-) -> Result<List<PlainArg>, Stop> {
+) -> Result<List<PlainArg>, Stop>
+    ensures stop { IfErr result MayStop }
+{
     let name = Form::direct(Base::ModuleName);
     if form.vector {
         let size = Form::direct(Base::Number(Kind::Native {
@@ -81,7 +88,9 @@ fn given(
     flow: Flow,
     w: &mut Walk,
     b: &mut Body,
-) -> Result<List<PlainArg>, Stop> {
+) -> Result<List<PlainArg>, Stop>
+    ensures stop { IfErr result MayStop }
+{
     let mut list = List::new(w.alloc);
     for (k, e) in args.iter().enumerate() {
         match forms.get(k).copied() {
@@ -122,7 +131,9 @@ fn class_args(
     flow: Flow,
     w: &mut Walk,
     b: &mut Body,
-) -> Result<List<PlainArg>, Stop> {
+) -> Result<List<PlainArg>, Stop>
+    ensures stop { IfErr result MayStop }
+{
     let name = class_name(i, tree, w)?;
     let key = FunctionKey {
         scope: Some(i),

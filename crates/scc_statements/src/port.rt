@@ -1,4 +1,7 @@
 //! Ports as statements (IEEE 1666-2011, 6.4, 6.8, 6.10).
+ghost use Rattle.std.specs.Prelude.{IfErr};
+ghost use Rattle.scc_bodies.specs.Refusals.{MayStop};
+
 use crate::stmts::put;
 use scc_base::{Code, List, Place, Stop};
 use scc_bodies::{Body, Draft, Flow, Loc, Subject, Walk, convert, refuse};
@@ -41,7 +44,9 @@ pub(crate) fn only_value(
     flow: Flow,
     w: &mut Walk,
     b: &mut Body,
-) -> Result<Option<Draft>, Stop> {
+) -> Result<Option<Draft>, Stop>
+    ensures stop { IfErr result MayStop }
+{
     let mut last = None;
     for e in args {
         last = None;
@@ -67,7 +72,9 @@ pub(crate) fn write(
     w: &mut Walk,
     b: &mut Body,
     out: &mut List<PlainStmt>,
-) -> Result<(), Stop> {
+) -> Result<(), Stop>
+    ensures stop { IfErr result MayStop }
+{
     let x = only_value(args, tree, flow, w, b)?;
     let kind = match port.form.base {
         Base::Output(kind) | Base::Signal(kind) => kind,
@@ -93,7 +100,9 @@ pub(crate) fn bind(
     w: &mut Walk,
     b: &mut Body,
     out: &mut List<PlainStmt>,
-) -> Result<(), Stop> {
+) -> Result<(), Stop>
+    ensures stop { IfErr result MayStop }
+{
     let mut to = None;
     for e in args {
         if is_plain(e) {

@@ -1,4 +1,7 @@
 //! Assignments, steps and calls (C++, [expr.ass], [expr.pre.incr], [expr.call]).
+ghost use Rattle.std.specs.Prelude.{IfErr};
+ghost use Rattle.scc_bodies.specs.Refusals.{MayStop};
+
 use crate::make::made;
 use crate::port::{bind, port_of, write};
 use crate::stmts::put;
@@ -19,7 +22,9 @@ pub(crate) fn simple(
     w: &mut Walk,
     b: &mut Body,
     out: &mut List<PlainStmt>,
-) -> Result<(), Stop> {
+) -> Result<(), Stop>
+    ensures stop { IfErr result MayStop }
+{
     match &s.node {
         SimpleNode::Call(e) => call(e, s.place, tree, flow, w, b, out),
         SimpleNode::Step { of, op, op_place } => {
@@ -63,7 +68,9 @@ fn assigned(
     flow: Flow,
     w: &mut Walk,
     b: &mut Body,
-) -> Result<Loc, Stop> {
+) -> Result<Loc, Stop>
+    ensures stop { IfErr result MayStop }
+{
     match w.meant(e, tree, flow, b)? {
         Meant::Loc(l) => {
             if l.form.dims != 0 || l.form.vector && !l.form.is_pointer() {
@@ -76,7 +83,9 @@ fn assigned(
 }
 
 // The kind of what may be assigned as a number; an input isn't written.
-fn left_kind(l: &Loc, place: Place) -> Result<Kind, Stop> {
+fn left_kind(l: &Loc, place: Place) -> Result<Kind, Stop>
+    ensures stop { IfErr result MayStop }
+{
     if l.form.is_pointer() {
         return refuse(Code::Mismatch, place);
     }
@@ -96,7 +105,9 @@ fn right_side(
     flow: Flow,
     w: &mut Walk,
     b: &mut Body,
-) -> Result<Draft, Stop> {
+) -> Result<Draft, Stop>
+    ensures stop { IfErr result MayStop }
+{
     if let ExprNode::Make { .. } = e.node.get() {
         w.any(e, tree, flow, b)?;
         return refuse(Code::Mismatch, e.place);
@@ -105,14 +116,9 @@ fn right_side(
 }
 
 // `left op x`, which is stored in the left side.
-fn combined(
-    l: &Loc,
-    op: Op,
-    at: Place,
-    left: Place,
-    x: Draft,
-    w: &Walk,
-) -> Result<Draft, Stop> {
+fn combined(l: &Loc, op: Op, at: Place, left: Place, x: Draft, w: &Walk) -> Result<Draft, Stop>
+    ensures stop { IfErr result MayStop }
+{
     let old = Loc {
         left: l.left.copied(w.alloc)?,
         form: l.form,
@@ -130,7 +136,9 @@ fn store(
     w: &Walk,
     b: &mut Body,
     out: &mut List<PlainStmt>,
-) -> Result<(), Stop> {
+) -> Result<(), Stop>
+    ensures stop { IfErr result MayStop }
+{
     let value = convert(w.alloc, x, kind)?.expr;
     b.flush(out)?;
     let Loc { left, form, .. } = l;
@@ -152,7 +160,9 @@ fn point(
     w: &mut Walk,
     b: &mut Body,
     out: &mut List<PlainStmt>,
-) -> Result<(), Stop> {
+) -> Result<(), Stop>
+    ensures stop { IfErr result MayStop }
+{
     let form = Form {
         base: l.form.base,
         reach: Reach::Pointer,
@@ -182,7 +192,9 @@ fn call(
     w: &mut Walk,
     b: &mut Body,
     out: &mut List<PlainStmt>,
-) -> Result<(), Stop> {
+) -> Result<(), Stop>
+    ensures stop { IfErr result MayStop }
+{
     match w.meant(e, tree, flow, b)? {
         Meant::Done { call, of } => port_call(e, call, of, place, tree, flow, w, b, out),
         other => called(other, place, b, out),
@@ -190,7 +202,9 @@ fn call(
 }
 
 // The call of a function, whose result isn't used.
-fn called(m: Meant, place: Place, b: &mut Body, out: &mut List<PlainStmt>) -> Result<(), Stop> {
+fn called(m: Meant, place: Place, b: &mut Body, out: &mut List<PlainStmt>) -> Result<(), Stop>
+    ensures stop { IfErr result MayStop }
+{
     if !m.is_call() {
         return refuse(Code::Mismatch, place);
     }
@@ -208,7 +222,9 @@ fn port_call(
     w: &mut Walk,
     b: &mut Body,
     out: &mut List<PlainStmt>,
-) -> Result<(), Stop> {
+) -> Result<(), Stop>
+    ensures stop { IfErr result MayStop }
+{
     let args = last_args(e);
     match (call, port_of(of)) {
         (PortCall::Write, Some(port)) => write(args, port, place, tree, flow, w, b, out),

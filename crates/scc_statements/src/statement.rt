@@ -1,4 +1,7 @@
 //! Statements that hold others. The braces of a source give no block of their own.
+ghost use Rattle.std.specs.Prelude.{IfErr};
+ghost use Rattle.scc_bodies.specs.Refusals.{MayStop};
+
 use crate::construct::{process, reset, sensitive};
 use crate::local::locals;
 use crate::loops::{for_head, loop_test, looped, turn_flow};
@@ -19,7 +22,9 @@ pub(crate) fn scoped(
     w: &mut Walk,
     b: &mut Body,
     out: &mut List<PlainStmt>,
-) -> Result<(), Stop> {
+) -> Result<(), Stop>
+    ensures stop { IfErr result MayStop }
+{
     let mark = b.names.mark();
     for s in list {
         stmt(s, tree, flow, w, b, out)?;
@@ -36,7 +41,9 @@ fn alone(
     flow: Flow,
     w: &mut Walk,
     b: &mut Body,
-) -> Result<List<PlainStmt>, Stop> {
+) -> Result<List<PlainStmt>, Stop>
+    ensures stop { IfErr result MayStop }
+{
     let mark = b.names.mark();
     let mut list = List::new(w.alloc);
     stmt(s, tree, flow, w, b, &mut list)?;
@@ -53,7 +60,9 @@ fn turn(
     flow: Flow,
     w: &mut Walk,
     b: &mut Body,
-) -> Result<PlainStmt, Stop> {
+) -> Result<PlainStmt, Stop>
+    ensures stop { IfErr result MayStop }
+{
     let list = alone(body, tree, turn_flow(flow), w, b)?;
     let node = PlainNode::Block(list);
     Ok(PlainStmt { place, node })
@@ -67,7 +76,9 @@ fn stmt(
     w: &mut Walk,
     b: &mut Body,
     out: &mut List<PlainStmt>,
-) -> Result<(), Stop> {
+) -> Result<(), Stop>
+    ensures stop { IfErr result MayStop }
+{
     let place = s.place;
     match s.node.get() {
         StmtNode::Block(list) => scoped(list.as_slice(), tree, flow, w, b, out),
@@ -131,7 +142,9 @@ fn cases(
     flow: Flow,
     w: &mut Walk,
     b: &mut Body,
-) -> Result<List<PlainStmt>, Stop> {
+) -> Result<List<PlainStmt>, Stop>
+    ensures stop { IfErr result MayStop }
+{
     let mut cases = Cases::new(w.alloc, tests, labels_of(items)?);
     for item in items {
         match &item.node {
@@ -157,7 +170,9 @@ fn single(
     w: &mut Walk,
     b: &mut Body,
     out: &mut List<PlainStmt>,
-) -> Result<(), Stop> {
+) -> Result<(), Stop>
+    ensures stop { IfErr result MayStop }
+{
     let place = s.place;
     match s.node.get() {
         StmtNode::Local(tree_of) => locals(tree_of, tree, flow, w, b, out),
@@ -165,8 +180,12 @@ fn single(
         StmtNode::Continue => exit(flow.next, place, out),
         StmtNode::Return(value) => give(value, place, tree, flow, w, b, out),
         StmtNode::Wait(count) => wait(count, place, tree, w, b, out),
-        StmtNode::Method { name, at } => process(*name, *at, None, false, place, tree, flow, w, b, out),
-        StmtNode::Thread { name, at } => process(*name, *at, None, true, place, tree, flow, w, b, out),
+        StmtNode::Method { name, at } => process(
+            *name, *at, None, false, place, tree, flow, w, b, out,
+        ),
+        StmtNode::Thread { name, at } => process(
+            *name, *at, None, true, place, tree, flow, w, b, out,
+        ),
         StmtNode::ClockedThread { name, at, edge } => {
             process(*name, *at, Some(edge), true, place, tree, flow, w, b, out)
         }
@@ -183,7 +202,9 @@ fn single(
 }
 
 // Leaves a block; E304 where there is none to leave.
-fn exit(block: Option<u32>, place: Place, out: &mut List<PlainStmt>) -> Result<(), Stop> {
+fn exit(block: Option<u32>, place: Place, out: &mut List<PlainStmt>) -> Result<(), Stop>
+    ensures stop { IfErr result MayStop }
+{
     match block {
         Some(n) => Ok(put(out, place, PlainNode::Exit(n))?),
         None => refuse(Code::Mismatch, place),
@@ -199,7 +220,9 @@ fn give(
     w: &mut Walk,
     b: &mut Body,
     out: &mut List<PlainStmt>,
-) -> Result<(), Stop> {
+) -> Result<(), Stop>
+    ensures stop { IfErr result MayStop }
+{
     let value = match value {
         Some(e) => Some(w.value(e, tree, flow, b)?),
         None => None,
@@ -222,7 +245,9 @@ fn wait(
     w: &mut Walk,
     b: &mut Body,
     out: &mut List<PlainStmt>,
-) -> Result<(), Stop> {
+) -> Result<(), Stop>
+    ensures stop { IfErr result MayStop }
+{
     let n = match count {
         Some(e) => match w.constant(e, tree, b)?.small() {
             Some(n) if 1 <= n && n <= 65_535 => n,

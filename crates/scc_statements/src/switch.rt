@@ -1,5 +1,8 @@
 //! `switch` (C++, [stmt.switch]): a local holds the selector, and blocks nest, one for each label round what stands before it. The
 //! innermost one begins with the tests, each of which leaves the block behind which its label's statements stand.
+ghost use Rattle.std.specs.Prelude.{IfErr};
+ghost use Rattle.scc_bodies.specs.Refusals.{MayStop};
+
 use crate::stmts::put;
 use indexmap::IndexMap;
 use scc_base::{Code, List, Name, NoMemory, Place, Stop, lost};
@@ -90,7 +93,9 @@ pub(crate) fn selector(
     w: &mut Walk,
     b: &mut Body,
     out: &mut List<PlainStmt>,
-) -> Result<Tests, Stop> {
+) -> Result<Tests, Stop>
+    ensures stop { IfErr result MayStop }
+{
     let x = w.value(of, tree, flow, b)?;
     if !is_small(x.expr.kind) {
         return refuse(Code::Mismatch, of.place);
@@ -114,16 +119,25 @@ pub(crate) fn selector(
 
 impl Tests {
     // E302 where an equal label stands before it.
-    fn note(&mut self, label: Label, place: Place) -> Result<(), Stop> {
+    fn note(&mut self, label: Label, place: Place) -> Result<(), Stop>
+        ensures stop { IfErr result MayStop }
+    {
         if let Some(first) = self.seen.get(&label).copied() {
             return Err(Stop::refused_beside(Code::DuplicateName, place, first));
         }
-        self.seen.insert(label, place).map_err(|_| NoMemory)?;
+        self.keep(label, place)?;
+        Ok(())
+    }
+
+    fn keep(&mut self, label: Label, place: Place) -> Result<(), NoMemory> {
+        self.seen.insert(label, place)?;
         Ok(())
     }
 
     // Leaves the block of the label of that number where the selector equals the label. The label isn't converted.
-    fn add(&mut self, v: Value, at: Place, e: Place, n: u32, alloc: Global) -> Result<(), Stop> {
+    fn add(&mut self, v: Value, at: Place, e: Place, n: u32, alloc: Global) -> Result<(), Stop>
+        ensures stop { IfErr result MayStop }
+    {
         let left = PlainLeft::new(alloc, at, PlainBase::Local(self.local));
         let selector = load(alloc, at, self.kind, left)?;
         let label = literal(alloc, e, v)?;
@@ -157,11 +171,7 @@ impl Cases {
     pub fn flow(&self, flow: Flow) -> Result<Flow, NoMemory> {
         let blocks = self.left.checked_add(1).ok_or(lost())?;
         let inner = flow.inside(blocks)?;
-        Ok(Flow {
-            forbidden: inner.forbidden,
-            leave: Some(self.left),
-            next: inner.next,
-        })
+        Ok(inner.within(Some(self.left), inner.next))
     }
 
     /// The statements behind the last label, to which more are to be put.
@@ -181,7 +191,9 @@ impl Cases {
         tree: &FileTree,
         w: &mut Walk,
         b: &mut Body,
-    ) -> Result<(), Stop> {
+    ) -> Result<(), Stop>
+        ensures stop { IfErr result MayStop }
+    {
         self.show(b)?;
         let n = self.all.checked_sub(self.left).ok_or(lost())?;
         match e {
