@@ -12,7 +12,7 @@ use crate::walk::{Note, Walk};
 use scc_base::{Boxed, Code, Name, NoMemory, Place, Stop, lost};
 use scc_plaintree::{Base, PlainBase, PlainLeft, PlainPart, Reach};
 use scc_templates as templates;
-use scc_templates::{Arg, Entry, Found, InstanceId};
+use scc_templates::{Entry, Found, InstanceId};
 use scc_tree::{FileTree, Ty};
 
 impl Walk {
@@ -83,11 +83,6 @@ impl Walk {
         ensures stop { IfErr result MayStop }
     {
         match found.entry {
-            Entry::Argument(Arg::Value(v)) => Ok(Meant::Value(literal(self.alloc, place, v)?)),
-            Entry::Constant { .. } | Entry::Enumerator { .. } => {
-                let v = self.templates.value_of(&b.context(tree), &found, place)?;
-                Ok(Meant::Value(literal(self.alloc, place, v)?))
-            }
             Entry::Local(n) => Ok(Meant::Loc(self.local(n, place, b)?)),
             Entry::Field(k) => {
                 let i = found.scope.ok_or(lost())?;
@@ -99,10 +94,27 @@ impl Walk {
                 object,
                 place,
             }),
-            Entry::Argument(_) | Entry::Class { .. } | Entry::Alias { .. } | Entry::Numbers => {
-                refuse(Code::Mismatch, place)
-            }
+            Entry::Argument(_)
+            | Entry::Constant { .. }
+            | Entry::Enumerator { .. }
+            | Entry::Class { .. }
+            | Entry::Alias { .. }
+            | Entry::Numbers => self.known(&found, place, tree, b),
         }
+    }
+
+    // The value of a declaration that isn't one of a variable.
+    fn known(
+        &mut self,
+        found: &Found,
+        place: Place,
+        tree: &FileTree,
+        b: &Body,
+    ) -> Result<Meant, Stop>
+        ensures stop { IfErr result MayStop }
+    {
+        let v = self.templates.value_of(&b.context(tree), found, place)?;
+        Ok(Meant::Value(literal(self.alloc, place, v)?))
     }
 
     fn local(&self, n: u32, place: Place, b: &Body) -> Result<Loc, NoMemory> {
