@@ -2,6 +2,7 @@
 ghost use Rattle.std.specs.Prelude.{IfErr};
 ghost use Rattle.scc_bodies.specs.Refusals.{MayStop};
 
+use crate::outside::{Outside, name_place};
 use crate::stage::Order;
 use crate::top::{constructor, made_bare};
 use indexmap::IndexSet;
@@ -30,6 +31,7 @@ pub fn walk_instance(
     tree: &FileTree,
     w: &mut Walk,
     order: &mut Order,
+    outside: &mut Outside,
 ) -> Result<(), Stop>
     ensures stop { IfErr result MayStop }
 {
@@ -44,7 +46,7 @@ pub fn walk_instance(
     for f in m.bodies.as_slice() {
         order.walk(*f, tree, w)?;
     }
-    m.outside(tree, w)
+    m.outside(tree, w, outside)
 }
 
 impl Members {
@@ -187,17 +189,16 @@ impl Members {
     }
 
     // E301 at a body outside the class that the class body doesn't declare.
-    fn outside(&self, tree: &FileTree, w: &mut Walk) -> Result<(), Stop>
+    fn outside(&self, tree: &FileTree, w: &mut Walk, outside: &mut Outside) -> Result<(), Stop>
         ensures stop { IfErr result MayStop }
     {
-        for item in undeclared(self.i, self.name, tree, w)?.as_slice() {
-            let at = tree.items.get(*item as usize).ok_or(lost())?;
-            let ItemNode::Outside { function, .. } = &at.node else {
-                return gone();
-            };
-            let cx = Context::outside(tree, Some(self.i));
+        let body = w.templates.body_item(self.i).ok_or(lost())?;
+        outside.note(body, self.i, self.name, tree, w)?;
+        let cx = Context::outside(tree, Some(self.i));
+        for item in outside.undeclared(body) {
             if w.templates.is_own_outside(&cx, self.i, *item)? {
-                return refuse(Code::UnknownName, function.place);
+                let at = tree.items.get(*item as usize).ok_or(lost())?;
+                return refuse(Code::UnknownName, name_place(at));
             }
         }
         Ok(())
@@ -228,31 +229,4 @@ fn initialised(
 fn note(names: &mut IndexSet<Name>, name: Name) -> Result<(), NoMemory> {
     names.insert(name)?;
     Ok(())
-}
-
-// The bodies outside a class of functions that an instance's class body doesn't declare.
-fn undeclared(
-    i: InstanceId,
-    class: Name,
-    tree: &FileTree,
-    w: &Walk,
-) -> Result<List<u32>, NoMemory> {
-    let mut found = List::new(w.alloc);
-    for item in w.templates.outside_of(class) {
-        let at = tree.items.get(*item as usize).ok_or(lost())?;
-        if let ItemNode::Outside { function, .. } = &at.node
-            && !is_declared(i, class, function, w)
-        {
-            found.push(*item)?;
-        }
-    }
-    Ok(found)
-}
-
-fn is_declared(i: InstanceId, class: Name, f: &FunctionTree, w: &Walk) -> bool {
-    if f.constructor {
-        f.name == class && w.templates.first_declared(i, class, true).is_some()
-    } else {
-        w.templates.member(i, f.name).is_some()
-    }
 }

@@ -6,6 +6,7 @@ mod duplicates;
 mod graph;
 mod instance;
 mod last;
+mod outside;
 mod stage;
 mod top;
 mod write;

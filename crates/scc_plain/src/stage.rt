@@ -5,6 +5,7 @@ ghost use Rattle.scc_bodies.specs.Refusals.{MayStop};
 use crate::duplicates::find_duplicates;
 use crate::instance::walk_instance;
 use crate::last::look_last;
+use crate::outside::Outside;
 use crate::top::make_top;
 use crate::write::written;
 use scc_base::{Code, List, Name, NoMemory, Place, Stop, lost};
@@ -76,10 +77,11 @@ fn sooner<T>(stop: Stop, late: Option<Place>) -> Result<T, Stop>
 fn walk(tree: &FileTree, w: &mut Walk, order: &mut Order) -> Result<(), Stop>
     ensures stop { IfErr result MayStop }
 {
+    let mut outside = Outside::new(w.alloc);
     for k in 0..usize::MAX {
         match w.templates.needed(k) {
             None => return Ok(()),
-            Some(Needed::Instance(i)) => walk_instance(i, tree, w, order)?,
+            Some(Needed::Instance(i)) => walk_instance(i, tree, w, order, &mut outside)?,
             Some(Needed::Function(item)) => walk_free(item, tree, w, order)?,
         }
     }
