@@ -14,7 +14,7 @@ use crate::walk::{CallOn, Note, Walk};
 use scc_base::{Code, List, Name, NoMemory, Place, Stop, lost};
 use scc_plaintree::{Base, PlainArg, PlainBase, PlainLeft, PlainNode, PlainStmt};
 use scc_templates::{FunctionKey, InstanceId};
-use scc_tree::{Expr, ExprNode, FileTree, PartNode};
+use scc_tree::{Expr, FileTree};
 
 /// A call by what it is made of.
 #[derive(Drop)]
@@ -93,20 +93,6 @@ pub(crate) fn call_of(m: Meant, count: usize) -> Call {
         }
         Meant::Value(x) => of_subject(Subject::Value(x), false, count),
         _ => Call::Wrong,
-    }
-}
-
-/// The arguments of the call that an expression ends with; none where it ends otherwise.
-pub fn last_args(e: &Expr) -> &[Expr] {
-    let ExprNode::Parts { parts, .. } = e.node.get() else {
-        return &[];
-    };
-    match parts.as_slice().last() {
-        Some(part) => match &part.node {
-            PartNode::Call(args) => args.as_slice(),
-            _ => &[],
-        },
-        None => &[],
     }
 }
 

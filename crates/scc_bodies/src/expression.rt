@@ -6,55 +6,20 @@ use crate::body::Body;
 use crate::call::{Call, call_of};
 use crate::draft::{Draft, cast, choose, convert, literal, operate, operate_one};
 use crate::flow::Flow;
-use crate::form::Form;
+use crate::form::{Form, number_kind};
 use crate::function::FunctionId;
 use crate::join::Joining;
 use crate::meant::{Meant, taken};
 use crate::pick::{answered, indexed};
 use crate::refusal::refuse;
+use crate::syntax::{is_lazy, is_text, made_args, operator_of};
 use crate::target::{aimed, is_zero};
 use crate::walk::Walk;
 use scc_base::{Code, List, Place, Stop, lost};
-use scc_bits::{Kind, Op, Value, Word};
+use scc_bits::{Kind, Value, Word};
 use scc_plaintree::{Base, PlainArg, PlainTarget, Reach};
-use scc_templates as templates;
 use scc_templates::TypeOf;
 use scc_tree::{Expr, ExprNode, FileTree, Link, Part, PartNode, UnaryOp};
-
-fn operator_of(op: UnaryOp) -> Option<Op> {
-    match op {
-        UnaryOp::Plus => Some(Op::Plus),
-        UnaryOp::Neg => Some(Op::Neg),
-        UnaryOp::LogNot => Some(Op::LogNot),
-        UnaryOp::Not => Some(Op::Not),
-        UnaryOp::Deref | UnaryOp::Address => None,
-    }
-}
-
-fn is_lazy(op: Op) -> bool {
-    matches!(op, Op::LogAnd | Op::LogOr)
-}
-
-// The kind of a type that is a number's.
-fn kind_of(t: TypeOf) -> Option<Kind> {
-    match t.base {
-        templates::Base::Number(kind) if !t.vector => Some(kind),
-        _ => None,
-    }
-}
-
-// The arguments of `new`, or none of a text: what may stand as an argument alone.
-fn made_args(e: &Expr) -> Option<&[Expr]> {
-    match e.node.get() {
-        ExprNode::Make { args, .. } => Some(args.as_slice()),
-        ExprNode::Text => Some(&[]),
-        _ => None,
-    }
-}
-
-fn is_text(e: &Expr) -> bool {
-    matches!(e.node.get(), ExprNode::Text)
-}
 
 impl Walk {
     fn number(&self, kind: Kind, word: Word, place: Place) -> Result<Meant, Stop>
@@ -190,7 +155,7 @@ impl Walk {
     fn cast(&self, x: Draft, t: TypeOf, place: Place) -> Result<Meant, Stop>
         ensures stop { IfErr result MayStop }
     {
-        match kind_of(t) {
+        match number_kind(t) {
             Some(kind) => Ok(Meant::Value(cast(self.alloc, x, kind, place)?)),
             None => refuse(Code::Mismatch, place),
         }

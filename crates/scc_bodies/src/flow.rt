@@ -8,7 +8,7 @@ use scc_base::{NoMemory, lost};
 const ROOM: u32 = 8_192;
 
 /// What stands round a statement or an expression. A number of a block counts outward from 0.
-#[derive(Clone, Copy, Debug, PartialEq, Eq)]
+#[derive(Clone, Copy, PartialEq, Eq)]
 pub struct Flow {
     /// Whether no call may stand here.
     pub forbidden: bool,

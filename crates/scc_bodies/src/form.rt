@@ -3,10 +3,11 @@ use scc_base::{NoMemory, lost};
 use scc_bits::Kind;
 use scc_plaintree::{Base, PlainLeft, Reach, Shape};
 use scc_templates as templates;
+use scc_templates::TypeOf;
 use scc_tree::Hold;
 
 /// What a variable holds, but for the sizes of its arrays.
-#[derive(Clone, Copy, Debug, PartialEq, Eq)]
+#[derive(Clone, Copy, PartialEq, Eq)]
 pub struct Form {
     pub base: Base,
     pub reach: Reach,
@@ -43,6 +44,14 @@ pub fn reach_of(hold: Hold) -> Reach {
         Hold::Direct => Reach::Direct,
         Hold::Pointer => Reach::Pointer,
         Hold::Reference => Reach::Reference,
+    }
+}
+
+/// The kind of a type that is a number's.
+pub(crate) fn number_kind(t: TypeOf) -> Option<Kind> {
+    match t.base {
+        templates::Base::Number(kind) if !t.vector => Some(kind),
+        _ => None,
     }
 }
 

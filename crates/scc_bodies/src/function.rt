@@ -3,7 +3,7 @@ ghost use Rattle.std.specs.Prelude.{IfErr};
 ghost use Rattle.scc_bodies.specs.Refusals.{MayStop};
 
 use crate::body::Body;
-use crate::form::{Form, base_of, reach_of};
+use crate::form::{Form, base_of, number_kind, reach_of};
 use crate::refusal::refuse;
 use crate::walk::Walk;
 use scc_base::{Code, List, NoMemory, Place, Stop, lost, push};
@@ -13,7 +13,7 @@ use scc_templates::{BodyAt, Context, FunctionKey, function_at};
 use scc_tree::{FileTree, FunctionTree, Prm};
 
 /// The number of a function among those that were asked for, from 0 in that order.
-#[derive(Clone, Copy, Debug, PartialEq, Eq, Hash)]
+#[derive(Clone, Copy, PartialEq, Eq, Hash)]
 pub struct FunctionId(pub u32);
 
 /// Parameters and the result.
@@ -170,9 +170,9 @@ impl Walk {
             return Ok(None);
         };
         let t = self.templates.type_in(cx, ty)?;
-        match base_of(t.base) {
-            Base::Number(kind) if !t.vector => Ok(Some(kind)),
-            _ => refuse(Code::Mismatch, f.place),
+        match number_kind(t) {
+            Some(kind) => Ok(Some(kind)),
+            None => refuse(Code::Mismatch, f.place),
         }
     }
 

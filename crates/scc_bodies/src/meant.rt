@@ -11,7 +11,7 @@ use scc_templates::InstanceId;
 use std::alloc::Global;
 
 /// A call of the language on a port or signal that is no value (IEEE 1666-2011, 6.4, 6.8 and 6.10).
-#[derive(Clone, Copy, Debug, PartialEq, Eq)]
+#[derive(Clone, Copy, PartialEq, Eq)]
 pub enum PortCall {
     Write,
     Bind,
@@ -20,7 +20,7 @@ pub enum PortCall {
 }
 
 /// A call of the language (IEEE 1666-2011, 6 and 7.2).
-#[derive(Clone, Copy, Debug, PartialEq, Eq)]
+#[derive(Clone, Copy, PartialEq, Eq)]
 pub enum Method {
     Read,
     Port(PortCall),

@@ -1,5 +1,6 @@
 //! Elements of arrays and vectors, bits, ranges of bits, and calls of the language on numbers (IEEE 1666-2011, 7.2 and 8.5).
-ghost use Rattle.std.specs.Prelude.{IfErr};
+ghost use Rattle.std.specs.Prelude.{◌<◌, ◌≤◌, IfErr, IfSome};
+ghost use Rattle.scc_bits.specs.Kinds.{width_of};
 ghost use Rattle.scc_bodies.specs.Refusals.{MayStop};
 
 use crate::draft::{Draft, bits, convert, operate_one};
@@ -137,7 +138,9 @@ struct Range {
     kind: Kind,
 }
 
-fn range_in(kind: Kind, h: Option<u32>, l: Option<u32>) -> Option<Range> {
+fn range_in(kind: Kind, h: Option<u32>, l: Option<u32>) -> Option<Range>
+    ensures order { IfSome result (λ r. (r.l ≤ r.h) × (r.h < width_of kind)) }
+{
     let h = h?;
     let l = l?;
     if !valid(kind) || h < l || width(kind) <= h {

@@ -15,7 +15,7 @@ use scc_tree::{Decl, Expr, FileTree, Ty};
 use std::alloc::Global;
 
 /// What object a called function works on.
-#[derive(Clone, Copy, Debug, PartialEq, Eq)]
+#[derive(Clone, Copy, PartialEq, Eq)]
 pub enum CallOn {
     /// A written one, or none as the function is no member of a class.
     Other,
@@ -26,7 +26,7 @@ pub enum CallOn {
 }
 
 /// What later looks want to know of bodies, in the order in which they are walked.
-#[derive(Clone, Copy, Debug, PartialEq, Eq)]
+#[derive(Clone, Copy, PartialEq, Eq)]
 pub enum Note {
     /// A function uses its object.
     This(FunctionId),
