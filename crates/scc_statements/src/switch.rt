@@ -215,9 +215,10 @@ impl Cases {
 
     // The names of pointers and references mean again what they meant before.
     fn show(&mut self, b: &mut Body) -> Result<(), NoMemory> {
-        while let Some(hidden) = self.hidden.pop() {
+        for hidden in self.hidden.as_slice() {
             b.names.set(hidden.name, hidden.before)?;
         }
+        self.hidden.truncate(0);
         Ok(())
     }
 
