@@ -9,6 +9,7 @@ mod last;
 mod outside;
 mod stage;
 mod top;
+mod whole;
 mod write;
 
 pub use stage::plain;

@@ -1,12 +1,14 @@
 //! The static stage as a whole.
-ghost use Rattle.std.specs.Prelude.{IfErr};
+ghost use Rattle.std.specs.Prelude.{◌≡◌, IfErr, IfOk, true};
 ghost use Rattle.scc_bodies.specs.Refusals.{MayStop};
+ghost use Rattle.scc_plain.specs.Whole.{whole_plain};
 
 use crate::duplicates::find_duplicates;
 use crate::instance::walk_instance;
 use crate::last::look_last;
 use crate::outside::Outside;
 use crate::top::make_top;
+use crate::whole::is_whole;
 use crate::write::written;
 use scc_base::{Code, List, Name, NoMemory, Place, Stop, lost};
 use scc_bodies::{FunctionId, Walk, gone, refuse};
@@ -40,6 +42,7 @@ impl Order {
 /// their object (E304); then classes that hold themselves and functions that call themselves (E309).
 pub fn plain(alloc: Global, tree: &FileTree, top: Name) -> Result<Plain, Stop>
     ensures stop { IfErr result MayStop }
+    ensures whole { IfOk result (λ p. whole_plain p ≡ true) }
 {
     find_duplicates(alloc, tree)?;
     let mut w = Walk::new(alloc, tree)?;
@@ -54,7 +57,11 @@ pub fn plain(alloc: Global, tree: &FileTree, top: Name) -> Result<Plain, Stop>
         return refuse(Code::CallPlace, late);
     }
     look_last(tree, &mut w, &order)?;
-    written(tree, &mut w, &order)
+    let program = written(tree, &mut w, &order)?;
+    if !is_whole(&program) {
+        return gone();
+    }
+    Ok(program)
 }
 
 // A call that stands where none may is refused behind all else, but for what stands at its place with a smaller number.
