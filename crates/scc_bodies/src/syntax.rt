@@ -1,0 +1,47 @@
+//! What the tree of an expression shows.
+use scc_bits::Op;
+use scc_tree::{Expr, ExprNode, PartNode, UnaryOp};
+
+/// The operator that stands before one operand, None where it is one on pointers.
+pub(crate) fn operator_of(op: UnaryOp) -> Option<Op> {
+    match op {
+        UnaryOp::Plus => Some(Op::Plus),
+        UnaryOp::Neg => Some(Op::Neg),
+        UnaryOp::LogNot => Some(Op::LogNot),
+        UnaryOp::Not => Some(Op::Not),
+        UnaryOp::Deref | UnaryOp::Address => None,
+    }
+}
+
+/// Whether the right operand isn't always evaluated (C++, [expr.log.and], [expr.log.or]).
+pub(crate) fn is_lazy(op: Op) -> bool {
+    matches!(op, Op::LogAnd | Op::LogOr)
+}
+
+/// The arguments of `new`, or none of a text: of what stands as an argument alone.
+pub(crate) fn made_args(e: &Expr) -> Option<&[Expr]> {
+    match e.node.get() {
+        ExprNode::Make { args, .. } => Some(args.as_slice()),
+        ExprNode::Text => Some(&[]),
+        _ => None,
+    }
+}
+
+/// Whether it is a text in quotes.
+pub(crate) fn is_text(e: &Expr) -> bool {
+    matches!(e.node.get(), ExprNode::Text)
+}
+
+/// The arguments of the call that an expression ends with; none where it ends otherwise.
+pub fn last_args(e: &Expr) -> &[Expr] {
+    let ExprNode::Parts { parts, .. } = e.node.get() else {
+        return &[];
+    };
+    match parts.as_slice().last() {
+        Some(part) => match &part.node {
+            PartNode::Call(args) => args.as_slice(),
+            _ => &[],
+        },
+        None => &[],
+    }
+}
