@@ -189,33 +189,36 @@ impl Scopes {
     {
         let scope = self.open()?;
         self.params(class.params.as_slice(), scope)?;
-        let mut fields = class.fields.as_slice();
+        let fields = class.fields.as_slice();
+        let mut taken = 0;
         for (k, item) in class.items.as_slice().iter().enumerate() {
-            fields = self.fields_before(fields, k, scope)?;
+            taken = self.fields_before(fields, taken, k, scope)?;
             self.item(item, scope)?;
         }
-        self.fields_before(fields, class.items.len(), scope)?;
+        self.fields_before(fields, taken, class.items.len(), scope)?;
         Ok(())
     }
 
-    // The member variables that stand before an item; the others are given back.
-    fn fields_before<'t>(
+    // The member variables from one on that stand before an item: how many there are to there.
+    fn fields_before(
         &mut self,
-        fields: &'t [Field],
+        fields: &[Field],
+        from: usize,
         item: usize,
         scope: usize,
-    ) -> Result<&'t [Field], Stop>
+    ) -> Result<usize, Stop>
         ensures stop { IfErr result MayStop }
     {
-        let mut rest = fields;
-        while let Some((field, others)) = rest.split_first() {
+        for k in from..fields.len() {
+            let Some(field) = fields.get(k) else {
+                return Ok(k);
+            };
             if field.after as usize > item {
-                return Ok(rest);
+                return Ok(k);
             }
             self.name(scope, field.decl.name, field.decl.place)?;
-            rest = others;
         }
-        Ok(rest)
+        Ok(fields.len())
     }
 
     // A function's parameters, and its body, which is a scope of its own.

@@ -150,24 +150,38 @@ impl Groups {
         Ok(groups)
     }
 
+    fn of_node(&self, k: u32) -> u32 {
+        at(self.group.as_slice(), k)
+    }
+
     // Whether no node leads to a higher group than its own: then none that leads to lower ones alone is on a cycle.
     fn are_ranked(&self, g: &Graph) -> Result<bool, NoMemory> {
         for k in 0..g.len() {
             let k = u32::try_from(k).map_err(|_| lost())?;
-            let own = at(self.group.as_slice(), k);
-            if g.row(k).iter().any(|j| own < at(self.group.as_slice(), *j)) {
+            if !self.is_ranked(g, k) {
                 return Ok(false);
             }
         }
         Ok(true)
     }
 
+    fn is_ranked(&self, g: &Graph, k: u32) -> bool {
+        for j in g.row(k) {
+            if self.of_node(k) < self.of_node(*j) {
+                return false;
+            }
+        }
+        true
+    }
+
     /// Whether a node leads to one of its own group: it is on a cycle then, if the guess is right.
     pub fn is_looped(&self, g: &Graph, k: u32) -> bool {
-        let own = at(self.group.as_slice(), k);
-        g.row(k)
-            .iter()
-            .any(|j| at(self.group.as_slice(), *j) == own)
+        for j in g.row(k) {
+            if self.of_node(*j) == self.of_node(k) {
+                return true;
+            }
+        }
+        false
     }
 }
 
@@ -180,20 +194,29 @@ pub struct Reached {
 impl Reached {
     /// What the nodes of a list reach.
     pub fn from(alloc: Global, g: &Graph, first: &[u32]) -> Result<Reached, NoMemory> {
-        let mut seen = vec![in alloc; false; g.len()]?;
+        let mut reached = Reached {
+            seen: vec![in alloc; false; g.len()]?,
+        };
         let mut tasks = Vec::from_slice(alloc, first)?;
         for _ in 0..usize::MAX {
             let Some(k) = tasks.pop() else {
-                return Ok(Reached { seen });
+                return Ok(reached);
             };
-            if let Some(is_seen) = seen.get_mut(k as usize)
-                && !*is_seen
-            {
-                *is_seen = true;
+            if reached.see(k) {
                 tasks.extend_from_slice(g.row(k))?;
             }
         }
         Err(lost())
+    }
+
+    // Sees a node, and says whether it is new.
+    fn see(&mut self, k: u32) -> bool {
+        if let Some(seen) = self.seen.get_mut(k as usize) {
+            let is_new = !*seen;
+            *seen = true;
+            return is_new;
+        }
+        false
     }
 
     pub fn has(&self, k: u32) -> bool {

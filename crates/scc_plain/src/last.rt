@@ -5,7 +5,7 @@ ghost use Rattle.scc_bodies.specs.Refusals.{MayStop};
 use crate::graph::{Graph, Groups, Reached, reaches_itself};
 use crate::stage::Order;
 use scc_base::{Code, List, NoMemory, Place, Stop, lost};
-use scc_bodies::{CallOn, FunctionId, Note, Walk, gone, refuse};
+use scc_bodies::{CallOn, Note, Walk, gone, refuse};
 use scc_plaintree::{Base, Reach};
 use scc_templates::{InstanceId, Needed};
 use scc_tree::FileTree;
@@ -134,45 +134,49 @@ fn look(
 ) -> Result<(), Stop>
     ensures stop { IfErr result MayStop }
 {
-    let mut rest = order.functions.as_slice();
+    let mut taken = 0;
     for k in 0..usize::MAX {
         let scope = match w.templates.needed(k) {
             None => return Ok(()),
             Some(Needed::Instance(i)) => {
-                let (class, _) = w.templates.args_of(i).ok_or(lost())?;
-                let item = tree.items.get(class.0 as usize).ok_or(lost())?;
-                classes.refuse(w, i.0, item.place)?;
+                classes.refuse(w, i.0, class_place(i, tree, w)?)?;
                 Some(i)
             }
             Some(Needed::Function(_)) => None,
         };
-        rest = functions_of(scope, rest, tree, w, functions)?;
+        taken = functions_of(scope, taken, tree, w, order, functions)?;
     }
     gone()
 }
 
-// Looks at the functions of an instance, or at one of the file, with which the rest of the walk begins; gives what comes behind.
-fn functions_of<'o>(
+// The place of a class's name.
+fn class_place(i: InstanceId, tree: &FileTree, w: &Walk) -> Result<Place, NoMemory> {
+    let (class, _) = w.templates.args_of(i).ok_or(lost())?;
+    Ok(tree.items.get(class.0 as usize).ok_or(lost())?.place)
+}
+
+// Looks at the functions of an instance, or at one of the file, from the walk's one of that number on; gives the number behind.
+fn functions_of(
     scope: Option<InstanceId>,
-    rest: &'o [FunctionId],
+    from: usize,
     tree: &FileTree,
     w: &Walk,
+    order: &Order,
     functions: &Cycles,
-) -> Result<&'o [FunctionId], Stop>
+) -> Result<usize, Stop>
     ensures stop { IfErr result MayStop }
 {
-    let mut rest = rest;
-    while let Some((f, others)) = rest.split_first() {
-        let key = w.key_of(*f).ok_or(lost())?;
+    for n in from..order.functions.len() {
+        let f = *order.functions.get(n).ok_or(lost())?;
+        if n > from && scope.is_none() {
+            return Ok(n);
+        }
+        let key = w.key_of(f).ok_or(lost())?;
         if key.scope != scope {
-            return Ok(rest);
+            return Ok(n);
         }
-        let function = w.tree_of(*f, tree).ok_or(lost())?;
+        let function = w.tree_of(f, tree).ok_or(lost())?;
         functions.refuse(w, f.0, function.place)?;
-        rest = others;
-        if scope.is_none() {
-            return Ok(rest);
-        }
     }
-    Ok(rest)
+    Ok(order.functions.len())
 }
