@@ -1,0 +1,120 @@
+//! The static stage as a whole.
+ghost use Rattle.std.specs.Prelude.{◌≡◌, IfErr, IfOk, true};
+ghost use Rattle.scc_bodies.specs.Refusals.{MayStop};
+ghost use Rattle.scc_plain.specs.Whole.{whole_plain};
+
+use crate::duplicates::find_duplicates;
+use crate::instance::walk_instance;
+use crate::last::look_last;
+use crate::outside::Outside;
+use crate::top::make_top;
+use crate::whole::is_whole;
+use crate::write::written;
+use scc_base::{Code, List, Name, NoMemory, Place, Stop, lost};
+use scc_bodies::{FunctionId, Walk, gone, refuse};
+use scc_plaintree::Plain;
+use scc_statements::walk_body;
+use scc_templates::{FunctionKey, Needed};
+use scc_tree::{FileTree, ItemNode};
+use std::alloc::Global;
+
+/// The functions whose bodies were walked, in that order.
+#[derive(Drop)]
+pub struct Order {
+    pub functions: List<FunctionId>,
+}
+
+impl Order {
+    /// Walks a function's body for its refusals.
+    pub fn walk(&mut self, f: FunctionId, tree: &FileTree, w: &mut Walk) -> Result<(), Stop>
+        ensures stop { IfErr result MayStop }
+    {
+        self.functions.push(f)?;
+        let _body = walk_body(f, tree, w)?;
+        Ok(())
+    }
+}
+
+/// The plain program of a source for a top class: instances of templates instead of templates, each name a number, each expression with its
+/// kind, conversions written out. Its classes are those that the top needs, in the order in which they are first needed. Refuses by
+/// E301 to E314: first what is declared twice (E302), in text order; then what stands first in the walk over the top, and over the
+/// instances and functions of the file in the order in which they are first needed; then calls by a class's name of functions that use
+/// their object (E304); then classes that hold themselves and functions that call themselves (E309).
+pub fn plain(alloc: Global, tree: &FileTree, top: Name) -> Result<Plain, Stop>
+    ensures stop { IfErr result MayStop }
+    ensures whole { IfOk result (λ p. whole_plain p ≡ true) }
+{
+    find_duplicates(alloc, tree)?;
+    let mut w = Walk::new(alloc, tree)?;
+    make_top(top, tree, &mut w)?;
+    let mut order = Order {
+        functions: List::new(alloc),
+    };
+    if let Err(stop) = walk(tree, &mut w, &mut order) {
+        return sooner(stop, w.late);
+    }
+    if let Some(late) = w.late {
+        return refuse(Code::CallPlace, late);
+    }
+    look_last(tree, &mut w, &order)?;
+    let program = written(tree, &mut w, &order)?;
+    if !is_whole(&program) {
+        return gone();
+    }
+    Ok(program)
+}
+
+// A call that stands where none may is refused behind all else, but for what stands at its place with a smaller number.
+fn sooner<T>(stop: Stop, late: Option<Place>) -> Result<T, Stop>
+    requires { MayStop stop }
+    ensures stop { IfErr result MayStop }
+{
+    match (stop, late) {
+        (Stop::Refused(r), Some(late)) => {
+            if r.place == late && r.code.number() < Code::CallPlace.number() {
+                return Err(Stop::Refused(r));
+            }
+            refuse(Code::CallPlace, late)
+        }
+        (stop, _) => Err(stop),
+    }
+}
+
+// Walks all that is needed, as it is first needed.
+fn walk(tree: &FileTree, w: &mut Walk, order: &mut Order) -> Result<(), Stop>
+    ensures stop { IfErr result MayStop }
+{
+    let mut outside = Outside::new(w.alloc);
+    for k in 0..usize::MAX {
+        match w.templates.needed(k) {
+            None => return Ok(()),
+            Some(Needed::Instance(i)) => walk_instance(i, tree, w, order, &mut outside)?,
+            Some(Needed::Function(item)) => walk_free(item, tree, w, order)?,
+        }
+    }
+    gone()
+}
+
+/// The function of the file whose body an item is.
+pub fn free_function(item: u32, tree: &FileTree, w: &mut Walk) -> Result<FunctionId, Stop>
+    ensures stop { IfErr result MayStop }
+{
+    let at = tree.items.get(item as usize).ok_or(lost())?;
+    let ItemNode::Function(f) = &at.node else {
+        return gone();
+    };
+    let key = FunctionKey {
+        scope: None,
+        name: f.name,
+        constructor: false,
+    };
+    Ok(w.function(key, f.place, tree)?.ok_or(lost())?)
+}
+
+fn walk_free(item: u32, tree: &FileTree, w: &mut Walk, order: &mut Order) -> Result<(), Stop>
+    ensures stop { IfErr result MayStop }
+{
+    let f = free_function(item, tree, w)?;
+    w.sign(f, tree)?;
+    order.walk(f, tree, w)
+}

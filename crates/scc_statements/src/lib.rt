@@ -1,0 +1,19 @@
+//! The statements of bodies (C++, [stmt.stmt]; IEEE 1666-2011, 5.2): loops, `switch`, local variables, assignments, calls, and what
+//! stands in constructors.
+#![tactic(auto)]
+
+mod construct;
+mod count;
+mod function;
+mod init;
+mod local;
+mod loops;
+mod make;
+mod port;
+mod simple;
+mod statement;
+mod stmts;
+mod switch;
+
+pub use function::walk_body;
+pub use make::class_name;
