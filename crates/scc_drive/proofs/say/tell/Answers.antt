@@ -5,8 +5,7 @@ pub returns-in-BadWords-clause-parts : goal.returns-in-BadWords-clause-parts
 returns-in-BadWords-clause-parts g c = c.say.ensures.parts bad_words c.bad_words.ensures.text
 
 pub returns-in-Refused-clause-parts : goal.returns-in-Refused-clause-parts
-returns-in-Refused-clause-parts g c =
-    c.say_made.ensures.parts (refused c.bytes.result.now c.in-Refused.spot.line c.in-Refused.spot.column c.in-Refused.code) c.refusal-text.ensures.text
+returns-in-Refused-clause-parts g c = c.say_made.ensures.parts (refused c.in-Refused.code c.in-Refused.spot c.in-Refused.other) c.refusal-text.ensures.text
 
 pub returns-in-Missing-clause-parts : goal.returns-in-Missing-clause-parts
 returns-in-Missing-clause-parts g c = c.say_made-in-Missing.ensures.parts (missing c.bytes-in-Missing.result.now) c.missing.ensures.text

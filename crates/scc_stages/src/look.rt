@@ -1,0 +1,59 @@
+//! A look at the text before it is given.
+ghost use Rattle.std.specs.Prelude.{◌≡◌, true, IfOk};
+ghost use Rattle.scc_svtext.specs.ModuleText.{module_text};
+ghost use Rattle.scc_stages.specs.Emitted.{IsEmitted, number_of};
+
+use scc_base::{NoMemory, Stop, Text, lost};
+use scc_svread::read;
+use scc_svtree::SvModule;
+use std::alloc::Global;
+
+fn is_named(module: &SvModule, top: &[u8]) -> bool
+    ensures { result ≡ true → module.now.name ≡ top.now }
+{
+    module.name.bytes() == top
+}
+
+// Whether the reader says that a part of the text stands too deep for it.
+fn is_depth(stop: &Stop) -> bool
+    ensures { result ≡ true → number_of stop.now ≡ 706 }
+{
+    match stop {
+        Stop::Refused(refusal) => refusal.code.number() == 706,
+        Stop::NoMemory => false,
+    }
+}
+
+// Whether the text of a module is read back.
+#[tactic(auto, using(crate::proofs::Looking::is_sound, crate::proofs::Looking::is_deep))]
+fn is_read_back(alloc: Global, top: &[u8], module: &SvModule, text: &[u8]) -> bool
+    requires text { text.now ≡ module_text module.now }
+    requires named { module.now.name ≡ top.now }
+    ensures { result ≡ true → IsEmitted top.now text.now }
+{
+    match read(alloc, text) {
+        Ok(found) => is_named(&found, top),
+        Err(stop) => is_depth(&stop),
+    }
+}
+
+/// The text of a module, where it is read back as one of this name. Where the reader says only that a part stands too deep for it,
+/// the text is given, too.
+pub fn looked_at(
+    alloc: Global,
+    top: &[u8],
+    module: &SvModule,
+    text: Text,
+) -> Result<Text, NoMemory>
+    requires { text ≡ module_text module.now }
+    ensures { IfOk result (λ t. IsEmitted top.now t) }
+{
+    if !is_named(module, top) {
+        return Err(lost());
+    }
+    if is_read_back(alloc, top, module, text.bytes()) {
+        Ok(text)
+    } else {
+        Err(lost())
+    }
+}
