@@ -41,7 +41,13 @@ fn name_of(names: &Names, text: &[u8]) -> Name {
 fn text_of(alloc: Global, names: &Names, top: &[u8], front: &Front) -> Result<Text, NoMemory>
     ensures written { IfOk result (λ t. IsEmitted top.now t) }
 {
-    let module = blocks(alloc, names, &front.core, &front.order, front.splits.as_slice())?;
+    let module = blocks(
+        alloc,
+        names,
+        &front.core,
+        &front.order,
+        front.splits.as_slice(),
+    )?;
     let text = print(alloc, &module)?;
     looked_at(alloc, top, &module, text)
 }

@@ -8,10 +8,10 @@ use scc_svread::read;
 use scc_svtree::SvModule;
 use std::alloc::Global;
 
-fn is_named(module: &SvModule, top: &[u8]) -> bool
-    ensures { result ≡ true → module.now.name ≡ top.now }
+fn is_named(written: &SvModule, top: &[u8]) -> bool
+    ensures { result ≡ true → written.now.name ≡ top.now }
 {
-    module.name.bytes() == top
+    written.name.bytes() == top
 }
 
 // Whether the reader says that a part of the text stands too deep for it.
@@ -26,9 +26,9 @@ fn is_depth(stop: &Stop) -> bool
 
 // Whether the text of a module is read back.
 #[tactic(auto, using(crate::proofs::Looking::is_sound, crate::proofs::Looking::is_deep))]
-fn is_read_back(alloc: Global, top: &[u8], module: &SvModule, text: &[u8]) -> bool
-    requires text { text.now ≡ module_text module.now }
-    requires named { module.now.name ≡ top.now }
+fn is_read_back(alloc: Global, top: &[u8], written: &SvModule, text: &[u8]) -> bool
+    requires text { text.now ≡ module_text written.now }
+    requires named { written.now.name ≡ top.now }
     ensures { result ≡ true → IsEmitted top.now text.now }
 {
     match read(alloc, text) {
@@ -42,16 +42,16 @@ fn is_read_back(alloc: Global, top: &[u8], module: &SvModule, text: &[u8]) -> bo
 pub fn looked_at(
     alloc: Global,
     top: &[u8],
-    module: &SvModule,
+    written: &SvModule,
     text: Text,
 ) -> Result<Text, NoMemory>
-    requires { text ≡ module_text module.now }
+    requires { text ≡ module_text written.now }
     ensures { IfOk result (λ t. IsEmitted top.now t) }
 {
-    if !is_named(module, top) {
+    if !is_named(written, top) {
         return Err(lost());
     }
-    if is_read_back(alloc, top, module, text.bytes()) {
+    if is_read_back(alloc, top, written, text.bytes()) {
         Ok(text)
     } else {
         Err(lost())
