@@ -1,5 +1,5 @@
 -- Why a command has no output, by the stage that stops it.
-use Rattle.std.specs.Prelude.{◌≡◌, true, List, Option, None}
+use Rattle.std.specs.Prelude.{◌≡◌, true, false, List, Option, None}
 use Rattle.scc_base.specs.declared.code.Code.{Code}
 use Rattle.scc_base.specs.declared.refusal.Place.{Place}
 use Rattle.scc_tokens.specs.declared.file.Source.{Source}
@@ -29,7 +29,7 @@ IsRefusedAs sources j (stopped.Failed name) = ⊥
 
 -- a refusal of a stage behind the grammar, at a place of the files
 abbrev pub RefusesLater : List Source → Code → Spot → Option Spot → Type 0
-RefusesLater sources code spot other = (is_later code ≡ true) × IsSpotOf sources spot × IsOtherOf sources other
+RefusesLater sources code spot other = (is_later false code ≡ true) × IsSpotOf sources spot × IsOtherOf sources other
 
 -- such a refusal, unless memory ran out
 abbrev pub IsLater : List Source → Stopped → Type 0

@@ -1,5 +1,5 @@
 //! What the stages behind the grammar answer, as a command says it.
-ghost use Rattle.std.specs.Prelude.{◌≡◌, true, IfOk, IfErr};
+ghost use Rattle.std.specs.Prelude.{◌≡◌, true, false, IfOk, IfErr};
 ghost use Rattle.scc_drive.specs.Spots.{IsOtherOf};
 ghost use Rattle.scc_drive.specs.Stops.{IsLater};
 ghost use Rattle.scc_stages.specs.Emitted.{IsEmitted};
@@ -32,7 +32,7 @@ pub fn compiled_later(
 }
 
 fn refused_later(alloc: Global, sources: &[Source], refusal: Refusal) -> Stopped
-    requires { is_later refusal.code ≡ true }
+    requires { is_later false refusal.code ≡ true }
     ensures { IsLater sources.now result }
 {
     let code = refusal.code;

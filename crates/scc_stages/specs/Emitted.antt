@@ -1,5 +1,5 @@
 -- What a text is that was looked at before it was given.
-use Rattle.std.specs.Prelude.{◌≡◌, ℕ, List, false}
+use Rattle.std.specs.Prelude.{◌≡◌, ℕ, List, Bool, false, nat_eq}
 use Rattle.scc_base.specs.Code.{code_number}
 use Rattle.scc_base.specs.declared.refusal.Stop.{Stop}
 use Rattle.scc_base.specs.declared.refusal.Stop.TheVariants as stop
@@ -19,7 +19,7 @@ pub data IsEmitted (top bytes : List ℕ) : Type 0 where
   sound : (m : SvModule) → SvReads false bytes m → m.name ≡ top → IsEmitted top bytes
   deep : (m : SvModule) → bytes ≡ module_text m → m.name ≡ top → StandsDeep bytes → IsEmitted top bytes
 
--- the number of a refusal's code, 0 where memory ran out
-abbrev pub number_of : Stop → ℕ
-number_of (stop.Refused r) = code_number r.code
-number_of stop.NoMemory = 0
+-- a refusal because a part stands too deep
+abbrev pub is_too_deep : Stop → Bool
+is_too_deep (stop.Refused r) = nat_eq (code_number r.code) 706
+is_too_deep stop.NoMemory = false

@@ -1,5 +1,5 @@
 //! From a file to the text of its module.
-ghost use Rattle.std.specs.Prelude.{◌≡◌, true, IfOk, IfErr};
+ghost use Rattle.std.specs.Prelude.{◌≡◌, true, false, IfOk, IfErr};
 ghost use Rattle.scc_stages.specs.Emitted.{IsEmitted};
 ghost use Rattle.scc_stages.specs.Refusals.{may_stop};
 
@@ -18,9 +18,9 @@ use std::alloc::Global;
 /// rules of processes (E501 to E514) or sizes (E601 to E605). Want of memory takes the place of a text that isn't read back.
 pub fn compile(alloc: Global, names: &Names, tree: &FileTree, top: &[u8]) -> Result<Text, Stop>
     ensures written { IfOk result (λ t. IsEmitted top.now t) }
-    ensures refused { IfErr result (λ e. may_stop e ≡ true) }
+    ensures refused { IfErr result (λ e. may_stop false e ≡ true) }
 {
-    let front = front_of(alloc, tree, name_of(names, top))?;
+    let front = front_of(alloc, tree, name_of(names, top), false)?;
     match text_of(alloc, names, top, &front) {
         Ok(text) => Ok(text),
         Err(NoMemory) => Err(Stop::NoMemory),

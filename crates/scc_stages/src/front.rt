@@ -7,7 +7,7 @@ use crate::refusals::allowed;
 use scc_base::{List, Name, Stop};
 use scc_core::{Chain, Core, Pass};
 use scc_design::Design;
-use scc_elab::elaborate;
+use scc_elab::{elaborate, elaborate_many};
 use scc_inline::inline;
 use scc_plain::plain;
 use scc_plaintree::Plain;
@@ -33,19 +33,24 @@ pub struct Front {
     pub splits: List<Split>,
 }
 
-/// What the stages make of a file whose top is the class of this name. The first stage that refuses decides.
-pub fn front_of(alloc: Global, tree: &FileTree, top: Name) -> Result<Front, Stop>
-    ensures refused { IfErr result (λ e. may_stop e ≡ true) }
+/// What the stages make of a file whose top is the class of this name; `many` says whether it may have several clocks. The first
+/// stage that refuses decides.
+pub fn front_of(alloc: Global, tree: &FileTree, top: Name, many: bool) -> Result<Front, Stop>
+    ensures refused { IfErr result (λ e. may_stop many e ≡ true) }
 {
-    match built(alloc, tree, top) {
+    match built(alloc, tree, top, many) {
         Ok(front) => Ok(front),
-        Err(stop) => Err(allowed(stop)),
+        Err(stop) => Err(allowed(many, stop)),
     }
 }
 
-fn built(alloc: Global, tree: &FileTree, top: Name) -> Result<Front, Stop> {
+fn built(alloc: Global, tree: &FileTree, top: Name, many: bool) -> Result<Front, Stop> {
     let plain = plain(alloc, tree, top)?;
-    let design = elaborate(alloc, &plain)?;
+    let design = if many {
+        elaborate_many(alloc, &plain)?
+    } else {
+        elaborate(alloc, &plain)?
+    };
     let core = core_of(alloc, &plain, &design)?;
     let Ordered { order, splits } = check_processes(alloc, &core)?;
     Ok(Front {

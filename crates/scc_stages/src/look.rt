@@ -1,7 +1,7 @@
 //! A look at the text before it is given.
 ghost use Rattle.std.specs.Prelude.{◌≡◌, true, IfOk};
 ghost use Rattle.scc_svtext.specs.ModuleText.{module_text};
-ghost use Rattle.scc_stages.specs.Emitted.{IsEmitted, number_of};
+ghost use Rattle.scc_stages.specs.Emitted.{IsEmitted, is_too_deep};
 
 use scc_base::{NoMemory, Stop, Text, lost};
 use scc_svread::read;
@@ -15,8 +15,8 @@ fn is_named(written: &SvModule, top: &[u8]) -> bool
 }
 
 // Whether the reader says that a part of the text stands too deep for it.
-fn is_depth(stop: &Stop) -> bool
-    ensures { result ≡ true → number_of stop.now ≡ 706 }
+fn is_too_deep(stop: &Stop) -> bool
+    ensures { result ≡ is_too_deep stop.now }
 {
     match stop {
         Stop::Refused(refusal) => refusal.code.number() == 706,
@@ -25,7 +25,6 @@ fn is_depth(stop: &Stop) -> bool
 }
 
 // Whether the text of a module is read back.
-#[tactic(auto, using(crate::proofs::Looking::is_sound, crate::proofs::Looking::is_deep))]
 fn is_read_back(alloc: Global, top: &[u8], written: &SvModule, text: &[u8]) -> bool
     requires text { text.now ≡ module_text written.now }
     requires named { written.now.name ≡ top.now }
@@ -33,7 +32,7 @@ fn is_read_back(alloc: Global, top: &[u8], written: &SvModule, text: &[u8]) -> b
 {
     match read(alloc, text) {
         Ok(found) => is_named(&found, top),
-        Err(stop) => is_depth(&stop),
+        Err(stop) => is_too_deep(&stop),
     }
 }
 
