@@ -72,7 +72,8 @@ const SIZES_TEXT: &str = "module And (
 endmodule
 ";
 
-fn words(alloc: Global, texts: &[&str]) -> Result<Vec<String>, AllocError> {
+/// Words of a command.
+pub fn words(alloc: Global, texts: &[&str]) -> Result<Vec<String>, AllocError> {
     let mut words = Vec::new(alloc);
     for text in texts {
         words.push(String::from_str(alloc, text)?)?;
@@ -82,11 +83,20 @@ fn words(alloc: Global, texts: &[&str]) -> Result<Vec<String>, AllocError> {
 
 /// The statuses and the texts of `compile And and.cpp` where the file holds these bytes.
 fn compiles(alloc: Global, source: &[u8]) -> Result<(u8, CalmSink, CalmSink), Fail> {
+    compiles_top(alloc, "And", source)
+}
+
+/// The same of another top.
+pub fn compiles_top(
+    alloc: Global,
+    top: &str,
+    source: &[u8],
+) -> Result<(u8, CalmSink, CalmSink), Fail> {
     let mut files = CalmFiles::new(alloc);
     files.add("and.cpp", source)?;
     let mut out = CalmSink::new(alloc);
     let mut err = CalmSink::new(alloc);
-    let words = words(alloc, &["compile", "And", "and.cpp"])?;
+    let words = words(alloc, &["compile", top, "and.cpp"])?;
     let status = run(alloc, words.as_slice(), &mut files, &mut out, &mut err);
     Ok((status.number(), out, err))
 }
