@@ -5,7 +5,6 @@ use Rattle.std.specs.declared.alloc.Global.{Global}
 use Rattle.scc_base.specs.Names.{fixed_names}
 use Rattle.scc_base.specs.Outside.{Shelf, Told, Rose}
 use Rattle.scc_base.specs.declared.code.Code.{Code}
-use Rattle.scc_base.specs.declared.refusal.Place.{Place}
 use Rattle.scc_base.specs.declared.refusal.Refusal.{Refusal}
 use Rattle.scc_base.specs.declared.refusal.Stop.TheVariants as stop
 use Rattle.scc_tokens.specs.declared.file.Source.{Source}
@@ -120,7 +119,7 @@ module _ (words : List (String Global)) (good : are_words words ≡ true) (names
   answers_joined held m m' f f' j (Ok text) says told some made =
       (good, λ shelf e. record { outcome = made.0; comes = of_joined shelf j made.0 says (told shelf e) made.1; writes = made.2 })
   answers_joined held m m' f f' j (Err (stopped.Refused code spot other)) says told some made =
-      (good, (some.0, made.0, of_joined some.0 j made.0 says some.1 made.1, made.2), λ shelf e. (made.0, of_joined shelf j made.0 says (told shelf e) made.1, made.2))
+      (good, (some.0, (made.0, of_joined some.0 j made.0 says some.1 made.1, made.2)), λ shelf e. (made.0, of_joined shelf j made.0 says (told shelf e) made.1, made.2))
   answers_joined held m m' f f' j (Err stopped.NoMemory) says told some made = good
   answers_joined held m m' f f' j (Err stopped.BadWords) says told some made = absurd made
   answers_joined held m m' f f' j (Err (stopped.Missing n)) says told some made = absurd made

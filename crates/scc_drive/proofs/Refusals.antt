@@ -1,7 +1,6 @@
 -- What compiling joined tokens answers, by what they come to.
 use Rattle.std.proofs.Common.{◌≡◌, ℕ, List, Option, Some, None, Result, Ok, Err, ap, refl, sym, subst}
 use Rattle.std.specs.Prelude.{IfErr, IfOk}
-use Rattle.scc_base.specs.declared.code.Code.{Code}
 use Rattle.scc_svtext.specs.ModuleText.{module_text}
 use Rattle.scc_tokens.specs.declared.file.Source.{Source}
 use Rattle.scc_tokens.specs.declared.joining.Joined.{Joined}
@@ -9,10 +8,9 @@ use Rattle.scc_tree.specs.declared.item.FileTree.{FileTree}
 use Rattle.scc_grammar.specs.Claim.{IsReadFile}
 use Rattle.scc_stages.specs.Emitted.{IsEmitted}
 use Rattle.scc_thin.specs.declared.design.Design.{Design}
-use Rattle.scc_drive.specs.declared.spots.Spot.{Spot}
 use Rattle.scc_drive.specs.declared.stopped.Stopped.{Stopped}
 use Rattle.scc_drive.specs.declared.stopped.Stopped.TheVariants as stopped
-use Rattle.scc_drive.specs.Answer.{Outcome, Compiles, WritesBy, RefusesBy, JoinedComes, reads, faulty, refusal, compiles, wider, outcome_of_design}
+use Rattle.scc_drive.specs.Answer.{Compiles, JoinedComes, reads, faulty, refusal, compiles, wider, outcome_of_design}
 use Rattle.scc_drive.specs.Stops.{IsRefusedAs, IsLater}
 use Rattle.scc_thinmodule.specs.Emitted.{module_of}
 use Rattle.scc_thinmodule.specs.Identifiers.{AreIdentifiers}

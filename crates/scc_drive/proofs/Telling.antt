@@ -7,7 +7,7 @@ use Rattle.scc_base.specs.declared.code.Code.{Code}
 use Rattle.scc_drive.specs.declared.spots.Spot.{Spot}
 use Rattle.scc_drive.specs.declared.stopped.Stopped.{Stopped}
 use Rattle.scc_drive.specs.declared.stopped.Stopped.TheVariants.{BadWords, Refused, Missing, Failed, NoMemory}
-use Rattle.scc_drive.specs.Answer.{Answers, Tells, IsRefused, IsMissing, HasFailed, Outcome, bad, refusal, absent, compiles, wider, Comes, ComesRefused, RefusesBy, WritesBy, EndsBy, Ends}
+use Rattle.scc_drive.specs.Answer.{Answers, Tells, IsRefused, IsMissing, HasFailed, Outcome, bad, refusal, absent, compiles, wider, Comes, RefusesBy, WritesBy, EndsBy, Ends}
 use Rattle.scc_drive.specs.Said.{Said}
 use Rattle.scc_drive.specs.Words.{are_words, word_at}
 use Rattle.scc_drive.proofs.Answering.{of_bad, one_outcome, good_words}

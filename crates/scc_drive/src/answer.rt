@@ -1,5 +1,5 @@
 //! What a command answers over files.
-ghost use Rattle.std.specs.Prelude.{◌≡◌, IfOk, IfErr};
+ghost use Rattle.std.specs.Prelude.{◌≡◌, ◌<◌, ◌^◌, length, IfOk, IfErr};
 ghost use Rattle.scc_grammar.specs.Claim.{IsReadFile};
 ghost use Rattle.scc_drive.specs.Answer.{Compiles, Answers};
 ghost use Rattle.scc_drive.specs.Stops.{IsRefusedAs, Stops};
@@ -98,6 +98,7 @@ fn compiled(
 
 // The text of the module of the design of a thin text.
 fn printed(alloc: Global, design: &Design) -> Result<Text, Stopped>
+    requires { length design.now.ports < 2 ^ 32 }
     ensures text { IfOk result (λ t. t ≡ module_text (module_of design.now)) }
     ensures memory { IfErr result (λ s. s ≡ stopped.NoMemory) }
 {

@@ -1,5 +1,5 @@
 -- What the reader's answer says of a text.
-use Rattle.std.proofs.Common.{◌≡◌, ◌⊎◌, inl, inr, ℕ, List, false, true, ap, sym, ◌∙◌}
+use Rattle.std.proofs.Common.{◌≡◌, inl, inr, ℕ, List, false, true, ap, sym, ◌∙◌}
 use Rattle.scc_base.specs.declared.refusal.Stop.{Stop}
 use Rattle.scc_svtree.specs.declared.module.SvModule.{SvModule}
 use Rattle.scc_svgrammar.specs.declared.halt.Halt.{Halt}
