@@ -5,7 +5,6 @@ use Rattle.std.specs.declared.alloc.Global.{Global}
 use Rattle.scc_base.specs.Names.{fixed_names}
 use Rattle.scc_base.specs.Outside.{Shelf, Told, Rose}
 use Rattle.scc_base.specs.declared.code.Code.{Code}
-use Rattle.scc_base.specs.declared.refusal.Place.{Place}
 use Rattle.scc_base.specs.declared.refusal.Refusal.{Refusal}
 use Rattle.scc_base.specs.declared.refusal.Stop.TheVariants as stop
 use Rattle.scc_tokens.specs.declared.file.Source.{Source}
@@ -19,7 +18,8 @@ use Rattle.scc_thin.specs.declared.design.Design.{Design}
 use Rattle.scc_drive.specs.declared.spots.Spot.{Spot}
 use Rattle.scc_drive.specs.declared.stopped.Stopped.{Stopped}
 use Rattle.scc_drive.specs.declared.stopped.Stopped.TheVariants as stopped
-use Rattle.scc_drive.specs.Answer.{Outcome, bad, refusal, absent, compiles, first_place, outcome_of_design, JoinedComes, reads, faulty, FoundComes, FilesCome, ComesBy, roots_of, Comes, Compiles, Stops, Answers}
+use Rattle.scc_drive.specs.Answer.{Outcome, bad, refusal, absent, compiles, wider, outcome_of_design, JoinedComes, reads, faulty, FoundComes, FilesCome, ComesBy, roots_of, Comes, ComesRefused, Compiles, Answers}
+use Rattle.scc_drive.specs.Stops.{Stops}
 use Rattle.scc_drive.specs.Spots.{spot_of}
 use Rattle.scc_thin.specs.Thin.{thin_of}
 use Rattle.scc_drive.specs.Words.{word_at, are_words}
@@ -36,14 +36,15 @@ is_bad bad = true
 is_bad (refusal code spot) = false
 is_bad (absent name) = false
 is_bad (compiles design) = false
+is_bad (wider sources) = false
 
 module _ (top : List ℕ) (names : List (List ℕ)) (sources : List Source) where
-  design_not_bad : (place : Place) (o : Option Design) → is_bad (outcome_of_design sources place o) ≡ false
-  design_not_bad place None = refl
-  design_not_bad place (Some d) = refl
+  design_not_bad : (o : Option Design) → is_bad (outcome_of_design sources o) ≡ false
+  design_not_bad None = refl
+  design_not_bad (Some d) = refl
 
   joined_not_bad : (j : Joined) (o : Outcome) → JoinedComes top names sources j o → is_bad o ≡ false
-  joined_not_bad j _ (reads file f) = design_not_bad (first_place j.tokens j.end) (thin_of names top j.tokens)
+  joined_not_bad j _ (reads file f) = design_not_bad (thin_of names top j.tokens)
   joined_not_bad j _ (faulty code place f) = refl
 
   found_not_bad : (r : Result Joined join.Stopped) (o : Outcome) → FoundComes top names sources r o → is_bad o ≡ false
@@ -116,23 +117,26 @@ module _ (words : List (String Global)) (good : are_words words ≡ true) (names
   pub answers_joined : (held : Option Shelf) (m m' f f' : ℕ) (j : Joined) (r : Result (List ℕ) Stopped) → Said words names sources (Ok j) → ToldAll held sources
       → Somewhere sources (Ok j) → Compiles (word_at words 1) names sources j r → Answers words held m m' f f' r
   answers_joined held m m' f f' j (Ok text) says told some made =
-      (good, λ shelf e. record { design = made.0; denotes = of_joined shelf j (compiles made.0) says (told shelf e) made.1; is = made.2 })
-  answers_joined held m m' f f' j (Err (stopped.Refused code spot)) says told some made =
-      (good, (some.0, of_joined some.0 j (refusal code spot) says some.1 made), λ shelf e. of_joined shelf j (refusal code spot) says (told shelf e) made)
+      (good, λ shelf e. record { outcome = made.0; comes = of_joined shelf j made.0 says (told shelf e) made.1; writes = made.2 })
+  answers_joined held m m' f f' j (Err (stopped.Refused code spot other)) says told some made =
+      (good, (some.0, (made.0, of_joined some.0 j made.0 says some.1 made.1, made.2)), λ shelf e. (made.0, of_joined shelf j made.0 says (told shelf e) made.1, made.2))
   answers_joined held m m' f f' j (Err stopped.NoMemory) says told some made = good
   answers_joined held m m' f f' j (Err stopped.BadWords) says told some made = absurd made
   answers_joined held m m' f f' j (Err (stopped.Missing n)) says told some made = absurd made
   answers_joined held m m' f f' j (Err (stopped.Failed n)) says told some made = absurd made
 
-  same_refusal : (shelf : Shelf) (x : Refusal) (code : Code) (spot : Spot) → Said words names sources (Err (fault.Stop (stop.Refused x))) → HoldsAll (first_part shelf) sources
-      → code ≡ x.code → spot ≡ spot_of sources x.place → Comes shelf words (refusal code spot)
-  same_refusal shelf x code spot says holds p q =
-      of_files shelf (Err (join.Refuses x.code x.place)) (refusal code spot) (says (first_part shelf) holds).0 (ap (refusal code) q ∙ ap (λ c. refusal c (spot_of sources x.place)) p)
+  same_refusal : (shelf : Shelf) (x : Refusal) (code : Code) (spot : Spot) (other : Option Spot) → Said words names sources (Err (fault.Stop (stop.Refused x)))
+      → HoldsAll (first_part shelf) sources → code ≡ x.code → spot ≡ spot_of sources x.place → other ≡ None → ComesRefused shelf words code spot other
+  same_refusal shelf x code spot other says holds p q r = (
+    refusal code spot,
+    of_files shelf (Err (join.Refuses x.code x.place)) (refusal code spot) (says (first_part shelf) holds).0 (ap (refusal code) q ∙ ap (λ c. refusal c (spot_of sources x.place)) p),
+    (refl, refl, r),
+  )
 
   pub answers_refused : (held : Option Shelf) (m m' f f' : ℕ) (x : Refusal) (s : Stopped) → Said words names sources (Err (fault.Stop (stop.Refused x))) → ToldAll held sources
       → Somewhere sources (Err (fault.Stop (stop.Refused x))) → Stops sources x.place x.code s → Answers words held m m' f f' (Err s)
-  answers_refused held m m' f f' x (stopped.Refused code spot) says told some h =
-      (good, (some.0, same_refusal some.0 x code spot says some.1 h.0 h.1), λ shelf e. same_refusal shelf x code spot says (told shelf e) h.0 h.1)
+  answers_refused held m m' f f' x (stopped.Refused code spot other) says told some h =
+      (good, (some.0, same_refusal some.0 x code spot other says some.1 h.0 h.1 h.2), λ shelf e. same_refusal shelf x code spot other says (told shelf e) h.0 h.1 h.2)
   answers_refused held m m' f f' x stopped.NoMemory says told some h = good
   answers_refused held m m' f f' x stopped.BadWords says told some h = absurd h
   answers_refused held m m' f f' x (stopped.Missing n) says told some h = absurd h

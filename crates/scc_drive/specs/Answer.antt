@@ -1,17 +1,16 @@
 -- What a command comes to, and how the program ends.
-use Rattle.std.specs.Prelude.{◌≡◌, ◌⊎◌, ℕ, List, [], ◌∷◌, map, drop, Bool, true, false, String, string_bytes, Option, Some, None, Result, Ok, Err}
+use Rattle.std.specs.Prelude.{◌≡◌, ◌⊎◌, ℕ, List, map, drop, Bool, true, false, String, string_bytes, Option, Some, None, Result, Ok, Err}
 use Rattle.std.specs.Io.KnownBytes.{Appends}
 use Rattle.std.specs.declared.alloc.Global.{Global}
 use Rattle.scc_base.specs.Names.{fixed_names}
 use Rattle.scc_base.specs.Outside.{Rose, Shelf, Told, AppendsPart}
 use Rattle.scc_base.specs.declared.code.Code.{Code}
-use Rattle.scc_base.specs.declared.code.Code.TheVariants.{NotYet}
 use Rattle.scc_base.specs.declared.refusal.Place.{Place}
 use Rattle.scc_svtree.specs.declared.module.SvModule.{SvModule}
+use Rattle.scc_stages.specs.Emitted.{IsEmitted}
 use Rattle.scc_svtext.specs.Emitted.{SvReads}
 use Rattle.scc_tokens.specs.declared.file.Source.{Source}
 use Rattle.scc_tokens.specs.declared.joining.Joined.{Joined}
-use Rattle.scc_tokens.specs.declared.token.Token.{Token}
 use Rattle.scc_tokens.specs.Files.{first_part}
 use Rattle.scc_tokens.specs.Join.{join_of}
 use Rattle.scc_tokens.specs.Steps as join
@@ -24,6 +23,7 @@ use Rattle.scc_drive.specs.declared.stopped.Stopped.TheVariants as stopped
 use Rattle.scc_thinmodule.specs.Same.{Matches, ShowsTheSame}
 use Rattle.scc_drive.specs.Said.{Said}
 use Rattle.scc_drive.specs.Spots.{spot_of}
+use Rattle.scc_drive.specs.Stops.{RefusesLater}
 use Rattle.scc_drive.specs.Texts.{refusal_text, words_text, missing_text, failed_text}
 use Rattle.scc_thin.specs.Thin.{thin_of}
 use Rattle.scc_drive.specs.Words.{word_at, are_words}
@@ -34,20 +34,17 @@ pub data Outcome : Type 0 where
   refusal : Code → Spot → Outcome
   absent : List ℕ → Outcome
   compiles : Design → Outcome
+  -- these files are read by the grammar and are no thin text: which of the later stages refuses them is not defined here
+  wider : List Source → Outcome
 
--- the first joined token, or the end of the last root
-abbrev pub first_place : List Token → Place → Place
-first_place [] end = end
-first_place (t ∷ ts) end = t.place
-
--- joined tokens that are no thin text are not compiled yet
-abbrev pub outcome_of_design : List Source → Place → Option Design → Outcome
-outcome_of_design sources place None = refusal NotYet (spot_of sources place)
-outcome_of_design sources place (Some d) = compiles d
+-- a thin text, or a wider one
+abbrev pub outcome_of_design : List Source → Option Design → Outcome
+outcome_of_design sources None = wider sources
+outcome_of_design sources (Some d) = compiles d
 
 -- what joined tokens of the grammar come to
 abbrev pub outcome_of_file : List ℕ → List (List ℕ) → List Source → Joined → Outcome
-outcome_of_file top names sources j = outcome_of_design sources (first_place j.tokens j.end) (thin_of names top j.tokens)
+outcome_of_file top names sources j = outcome_of_design sources (thin_of names top j.tokens)
 
 -- a file of the grammar, and what it comes to; or the first fault
 pub data JoinedComes (top : List ℕ) (names : List (List ℕ)) (sources : List Source) (j : Joined) : Outcome → Type 0 where
@@ -76,9 +73,21 @@ ComesBy true shelf words outcome = FilesCome (word_at words 1) (join_of (first_p
 unfoldable pub Comes : Shelf → List (String Global) → Outcome → Type 0
 Comes shelf words outcome = ComesBy (are_words words) shelf words outcome
 
+-- as what a command is refused, by what it comes to
+abbrev pub RefusesBy : Outcome → Code → Spot → Option Spot → Type 0
+RefusesBy bad code spot other = ⊥
+RefusesBy (refusal c s) code spot other = (code ≡ c) × (spot ≡ s) × (other ≡ None)
+RefusesBy (absent name) code spot other = ⊥
+RefusesBy (compiles design) code spot other = ⊥
+RefusesBy (wider sources) code spot other = RefusesLater sources code spot other
+
+-- what a command comes to is refused so
+abbrev pub ComesRefused : Shelf → List (String Global) → Code → Spot → Option Spot → Type 0
+ComesRefused shelf words code spot other = (outcome : Outcome) × Comes shelf words outcome × RefusesBy outcome code spot other
+
 -- some files would be refused so
-abbrev pub MayRefuse : List (String Global) → Code → Spot → Type 0
-MayRefuse words code spot = (shelf : Shelf) × Comes shelf words (refusal code spot)
+abbrev pub MayRefuse : List (String Global) → Code → Spot → Option Spot → Type 0
+MayRefuse words code spot other = (shelf : Shelf) × ComesRefused shelf words code spot other
 
 -- where the file of this name were missing, it would be asked for
 abbrev pub MayMiss : List (String Global) → List ℕ → Type 0
@@ -91,32 +100,24 @@ pub record IsTextOf (design : Design) (text : List ℕ) : Type 0 where
   pub matches : Matches design emitted
   pub shows : ShowsTheSame design emitted
 
--- the command comes to a design, and the text is that of its module
+-- the text that is written, by what a command comes to
+abbrev pub WritesBy : List ℕ → Outcome → List ℕ → Type 0
+WritesBy top bad text = ⊥
+WritesBy top (refusal code spot) text = ⊥
+WritesBy top (absent name) text = ⊥
+WritesBy top (compiles design) text = IsTextOf design text
+WritesBy top (wider sources) text = IsEmitted top text
+
+-- the command comes to something for which this text is written
 pub record IsOutput (shelf : Shelf) (words : List (String Global)) (text : List ℕ) : Type 0 where
-  pub design : Design
-  pub denotes : Comes shelf words (compiles design)
-  pub is : IsTextOf design text
-
--- a refusal at this place, unless memory ran out
-abbrev pub Stops : List Source → Place → Code → Stopped → Type 0
-Stops sources place code (stopped.Refused c spot) = (c ≡ code) × (spot ≡ spot_of sources place)
-Stops sources place code stopped.NoMemory = Unit {0}
-Stops sources place code stopped.BadWords = ⊥
-Stops sources place code (stopped.Missing name) = ⊥
-Stops sources place code (stopped.Failed name) = ⊥
-
--- the first fault of joined tokens as a refusal, unless memory ran out
-abbrev pub IsRefusedAs : List Source → Joined → Stopped → Type 0
-IsRefusedAs sources j (stopped.Refused code spot) = (place : Place) × IsFault j code place × (spot ≡ spot_of sources place)
-IsRefusedAs sources j stopped.NoMemory = Unit {0}
-IsRefusedAs sources j stopped.BadWords = ⊥
-IsRefusedAs sources j (stopped.Missing name) = ⊥
-IsRefusedAs sources j (stopped.Failed name) = ⊥
+  pub outcome : Outcome
+  pub comes : Comes shelf words outcome
+  pub writes : WritesBy (word_at words 1) outcome text
 
 -- what compiling joined tokens answers
 abbrev pub Compiles : List ℕ → List (List ℕ) → List Source → Joined → Result (List ℕ) Stopped → Type 0
-Compiles top names sources j (Ok text) = (design : Design) × JoinedComes top names sources j (compiles design) × IsTextOf design text
-Compiles top names sources j (Err (stopped.Refused code spot)) = JoinedComes top names sources j (refusal code spot)
+Compiles top names sources j (Ok text) = (outcome : Outcome) × JoinedComes top names sources j outcome × WritesBy top outcome text
+Compiles top names sources j (Err (stopped.Refused code spot other)) = (outcome : Outcome) × JoinedComes top names sources j outcome × RefusesBy outcome code spot other
 Compiles top names sources j (Err stopped.NoMemory) = Unit {0}
 Compiles top names sources j (Err stopped.BadWords) = ⊥
 Compiles top names sources j (Err (stopped.Missing name)) = ⊥
@@ -126,14 +127,14 @@ Compiles top names sources j (Err (stopped.Failed name)) = ⊥
 abbrev pub Answers : List (String Global) → Option Shelf → (misses misses' faults faults' : ℕ) → Result (List ℕ) Stopped → Type 0
 Answers words held m m' f f' (Ok text) = (are_words words ≡ true) × Told held (λ shelf. IsOutput shelf words text)
 Answers words held m m' f f' (Err stopped.BadWords) = are_words words ≡ false
-Answers words held m m' f f' (Err (stopped.Refused code spot)) = (are_words words ≡ true) × MayRefuse words code spot × Told held (λ shelf. Comes shelf words (refusal code spot))
+Answers words held m m' f f' (Err (stopped.Refused code spot other)) = (are_words words ≡ true) × MayRefuse words code spot other × Told held (λ shelf. ComesRefused shelf words code spot other)
 Answers words held m m' f f' (Err (stopped.Missing name)) = (are_words words ≡ true) × Rose m m' × MayMiss words name × Told held (λ shelf. Comes shelf words (absent name))
 Answers words held m m' f f' (Err (stopped.Failed name)) = (are_words words ≡ true) × Rose f f' × MayMiss words name
 Answers words held m m' f f' (Err stopped.NoMemory) = are_words words ≡ true
 
 abbrev pub Tells : Stopped → (old new : Option (List ℕ)) → (faults faults' result : ℕ) → Type 0
 Tells stopped.BadWords = Said 2 words_text
-Tells (stopped.Refused code spot) = Said 1 (refusal_text spot.file spot.line spot.column code)
+Tells (stopped.Refused code spot other) = Said 1 (refusal_text code spot other)
 Tells (stopped.Missing name) = Said 3 (missing_text name)
 Tells (stopped.Failed name) = Said 3 (failed_text name)
 Tells stopped.NoMemory = λ old new f f' result. (result ≡ 4) ⊎ ((result ≡ 5) × Rose f f')
@@ -150,9 +151,10 @@ IsPartOfOutput shelf words old new = (new ≡ old) ⊎ ((text : List ℕ) × IsO
 pub record IsRefused (words : List (String Global)) (held : Option Shelf) (old new : Option (List ℕ)) : Type 0 where
   pub code : Code
   pub spot : Spot
-  pub may : MayRefuse words code spot
-  pub refused : Told held (λ shelf. Comes shelf words (refusal code spot))
-  pub told : Appends old new (refusal_text spot.file spot.line spot.column code)
+  pub other : Option Spot
+  pub may : MayRefuse words code spot other
+  pub refused : Told held (λ shelf. ComesRefused shelf words code spot other)
+  pub told : Appends old new (refusal_text code spot other)
 
 -- 3: a file is missing, or failed
 pub record IsMissing (words : List (String Global)) (held : Option Shelf) (m m' : ℕ) (old new : Option (List ℕ)) : Type 0 where
@@ -174,6 +176,7 @@ EndsBy bad f f' status = (status ≡ 2) ⊎ (status ≡ 4) ⊎ (status ≡ 5)
 EndsBy (refusal code spot) f f' status = (status ≡ 1) ⊎ (status ≡ 4) ⊎ (status ≡ 5) ⊎ ((status ≡ 3) × Rose f f')
 EndsBy (absent name) f f' status = (status ≡ 3) ⊎ (status ≡ 4) ⊎ (status ≡ 5)
 EndsBy (compiles design) f f' status = (status ≡ 0) ⊎ (status ≡ 4) ⊎ (status ≡ 5) ⊎ ((status ≡ 3) × Rose f f')
+EndsBy (wider sources) f f' status = (status ≡ 0) ⊎ (status ≡ 1) ⊎ (status ≡ 4) ⊎ (status ≡ 5) ⊎ ((status ≡ 3) × Rose f f')
 
 -- whatever the command comes to
 abbrev pub Ends : Shelf → List (String Global) → (faults faults' status : ℕ) → Type 0

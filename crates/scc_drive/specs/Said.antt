@@ -3,10 +3,11 @@ use Rattle.std.specs.Prelude.{◌≡◌, ◌⊎◌, ℕ, zero, suc, List, Option
 use Rattle.std.specs.Io.KnownBytes.{Appends, Keeps}
 use Rattle.scc_base.specs.Outside.{Rose, AppendsPart}
 use Rattle.scc_base.specs.declared.code.Code.{Code}
+use Rattle.scc_drive.specs.declared.spots.Spot.{Spot}
 use Rattle.scc_drive.specs.Texts.{refusal_text, words_text, missing_text, failed_text, memory_text, output_text}
 
 pub data Saying : Type 0 where
-  refused : List ℕ → ℕ → ℕ → Code → Saying
+  refused : Code → Spot → Option Spot → Saying
   bad_words : Saying
   missing : List ℕ → Saying
   failed : List ℕ → Saying
@@ -14,7 +15,7 @@ pub data Saying : Type 0 where
   output_failed : Saying
 
 abbrev pub text_of : Saying → List ℕ
-text_of (refused name line column code) = refusal_text name line column code
+text_of (refused code spot other) = refusal_text code spot other
 text_of bad_words = words_text
 text_of (missing name) = missing_text name
 text_of (failed name) = failed_text name

@@ -1,5 +1,5 @@
 -- Where a place stands in its file, as a refusal says it.
-use Rattle.std.specs.Prelude.{ℕ, ◌+◌, List, [], ◌∷◌, take, if◌then◌else◌, ◌==◌, Option, Some, None, slice_get}
+use Rattle.std.specs.Prelude.{◌≡◌, ◌≤◌, ℕ, ◌+◌, List, [], ◌∷◌, take, length, if◌then◌else◌, ◌==◌, Option, Some, None, slice_get}
 use Rattle.scc_base.specs.declared.refusal.Place.{Place}
 use Rattle.scc_tokens.specs.declared.file.Source.{Source}
 use Rattle.scc_drive.specs.declared.spots.Spot.{Spot}
@@ -19,3 +19,16 @@ spot_in (Some s) at = record { file = s.name; line = (position_at s.bytes at).0;
 
 abbrev pub spot_of : List Source → Place → Spot
 spot_of sources place = spot_in (slice_get sources place.file) place.at
+
+-- the place is a byte of one of the files, or its end
+abbrev pub IsPlaceOf : List Source → Place → Type 0
+IsPlaceOf sources place = (source : Source) × (slice_get sources place.file ≡ Some source) × (place.at ≤ length source.bytes)
+
+-- some place of the files stands here
+abbrev pub IsSpotOf : List Source → Spot → Type 0
+IsSpotOf sources spot = (place : Place) × IsPlaceOf sources place × (spot ≡ spot_of sources place)
+
+-- the same of a second place, where there is one
+abbrev pub IsOtherOf : List Source → Option Spot → Type 0
+IsOtherOf sources None = Unit {0}
+IsOtherOf sources (Some spot) = IsSpotOf sources spot

@@ -1,12 +1,21 @@
 -- What the program says where it does not end with status 0.
-use Rattle.std.specs.Prelude.{ℕ, List, ◌++◌, codes, decimal}
+use Rattle.std.specs.Prelude.{ℕ, List, [], ◌++◌, codes, decimal, Option, Some, None}
 use Rattle.scc_base.specs.declared.code.Code.{Code}
 use Rattle.scc_base.specs.Code.{code_number, code_text}
+use Rattle.scc_drive.specs.declared.spots.Spot.{Spot}
 
--- a refusal of a file, at a line and a column
-unfoldable pub refusal_text : List ℕ → ℕ → ℕ → Code → List ℕ
-refusal_text file line column code =
-    file ++ codes ":" ++ decimal line ++ codes ":" ++ decimal column ++ codes ": E" ++ decimal (code_number code) ++ codes " " ++ code_text code ++ codes "\n"
+-- a file, a line and a column
+abbrev pub spot_text : Spot → List ℕ
+spot_text spot = spot.file ++ codes ":" ++ decimal spot.line ++ codes ":" ++ decimal spot.column
+
+-- the second place of a refusal, where it speaks of one
+abbrev pub other_text : Option Spot → List ℕ
+other_text None = []
+other_text (Some spot) = codes " (see " ++ spot_text spot ++ codes ")"
+
+-- a refusal at a place
+unfoldable pub refusal_text : Code → Spot → Option Spot → List ℕ
+refusal_text code spot other = spot_text spot ++ codes ": E" ++ decimal (code_number code) ++ codes " " ++ code_text code ++ other_text other ++ codes "\n"
 
 unfoldable pub words_text : List ℕ
 words_text = codes "scc: bad words\n"

@@ -1,18 +1,24 @@
 //! What a command answers over files.
-ghost use Rattle.std.specs.Prelude.{◌≡◌, IfErr, OnOk};
+ghost use Rattle.std.specs.Prelude.{◌≡◌, ◌<◌, ◌^◌, length, IfOk, IfErr};
 ghost use Rattle.scc_grammar.specs.Claim.{IsReadFile};
-ghost use Rattle.scc_drive.specs.Answer.{Compiles, Answers, IsRefusedAs, Stops, first_place};
+ghost use Rattle.scc_drive.specs.Answer.{Compiles, Answers};
+ghost use Rattle.scc_drive.specs.Stops.{IsRefusedAs, Stops};
+ghost use Rattle.scc_drive.specs.declared.stopped.Stopped.TheVariants as stopped;
+ghost use Rattle.scc_svtext.specs.ModuleText.{module_text};
+ghost use Rattle.scc_thinmodule.specs.Emitted.{module_of};
 ghost use Rattle.scc_thinmodule.specs.Identifiers.{AreIdentifiers};
 
+use crate::later::compiled_later;
 use crate::spots::locate;
 use crate::stopped::Stopped;
 use crate::words::{are_words, roots, word};
 use scc_base::{Code, Files, List, Names, NoMemory, Place, Refusal, Stop, Text};
 use scc_grammar::parse;
 use scc_svtext::print;
-use scc_thin::{Halt, read_design};
+use scc_thin::{Design, Halt, read_design};
 use scc_thinmodule::module_of;
-use scc_tokens::{JoinFault, Joined, Source, Token, join};
+use scc_tokens::{JoinFault, Joined, Source, join};
+use scc_tree::FileTree;
 use std::alloc::Global;
 
 /// The output of a command, or why there is none.
@@ -48,28 +54,22 @@ fn refused(alloc: Global, sources: &[Source], place: Place, code: Code) -> Stopp
     ensures { Stops sources.now place code result }
 {
     match locate(alloc, sources, place) {
-        Ok(spot) => Stopped::Refused { code, spot },
+        Ok(spot) => Stopped::Refused {
+            code,
+            spot,
+            other: None,
+        },
         Err(NoMemory) => Stopped::NoMemory,
     }
 }
 
-// The first token, or the end of the last file.
-fn first_place(tokens: &[Token], end: Place) -> Place
-    ensures { result ≡ first_place tokens.now end }
-{
-    match tokens {
-        [] => end,
-        [first, ..] => first.place,
-    }
-}
-
-// Whether the joined tokens are a file of the grammar.
-fn check(alloc: Global, sources: &[Source], joined: &Joined) -> Result<(), Stopped>
-    ensures read { OnOk result ((file : _) × IsReadFile joined.now file) }
+// The tree of the joined tokens, where they are a file of the grammar.
+fn tree_of(alloc: Global, sources: &[Source], joined: &Joined) -> Result<FileTree, Stopped>
+    ensures read { IfOk result (IsReadFile joined.now) }
     ensures fault { IfErr result (IsRefusedAs sources.now joined.now) }
 {
     match parse(alloc, joined) {
-        Ok(_) => Ok(()),
+        Ok(tree) => Ok(tree),
         Err(Stop::Refused(Refusal { code, place, .. })) => Err(refused(
             alloc, sources, place, code,
         )),
@@ -77,7 +77,7 @@ fn check(alloc: Global, sources: &[Source], joined: &Joined) -> Result<(), Stopp
     }
 }
 
-// The text of the module of the joined tokens.
+// The text of the module of the joined tokens: by what is proved of thin texts where they are one, else by the later stages.
 fn compiled(
     alloc: Global,
     top: &[u8],
@@ -88,17 +88,21 @@ fn compiled(
     requires { AreIdentifiers names.now }
     ensures { Compiles top.now names.now sources.now joined.now result }
 {
-    check(alloc, sources, joined)?;
-    let tokens = joined.tokens.as_slice();
-    let design = match read_design(alloc, top, names, tokens) {
-        Ok(design) => design,
-        Err(Halt::Other) => {
-            let place = first_place(tokens, joined.end);
-            return Err(refused(alloc, sources, place, Code::NotYet));
-        }
-        Err(Halt::Memory) => return Err(Stopped::NoMemory),
-    };
-    let Ok(module) = module_of(alloc, &design) else {
+    let tree = tree_of(alloc, sources, joined)?;
+    match read_design(alloc, top, names, joined.tokens.as_slice()) {
+        Ok(design) => printed(alloc, &design),
+        Err(Halt::Other) => compiled_later(alloc, top, names, sources, &tree),
+        Err(Halt::Memory) => Err(Stopped::NoMemory),
+    }
+}
+
+// The text of the module of the design of a thin text.
+fn printed(alloc: Global, design: &Design) -> Result<Text, Stopped>
+    requires { length design.now.ports < 2 ^ 32 }
+    ensures text { IfOk result (λ t. t ≡ module_text (module_of design.now)) }
+    ensures memory { IfErr result (λ s. s ≡ stopped.NoMemory) }
+{
+    let Ok(module) = module_of(alloc, design) else {
         return Err(Stopped::NoMemory);
     };
     match print(alloc, &module) {

@@ -4,6 +4,7 @@
 mod answer;
 mod bytes;
 mod command;
+mod later;
 mod say;
 mod spots;
 mod stopped;

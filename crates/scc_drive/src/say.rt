@@ -71,9 +71,8 @@ pub fn tell<E: Sink>(alloc: Global, err: &mut E, stopped: Stopped) -> Status
 {
     match stopped {
         Stopped::BadWords => say(err, texts::bad_words(), 2),
-        Stopped::Refused { code, spot } => {
-            let text = texts::refusal(alloc, spot.file.bytes(), spot.line, spot.column, code);
-            say_made(err, text, 1)
+        Stopped::Refused { code, spot, other } => {
+            say_made(err, texts::refusal(alloc, code, &spot, &other), 1)
         }
         Stopped::Missing(name) => say_made(err, texts::missing(alloc, name.bytes()), 3),
         Stopped::Failed(name) => say_made(err, texts::failed(alloc, name.bytes()), 3),

@@ -1,13 +1,13 @@
 //! Where a place stands in its file, as a refusal says it.
-ghost use Rattle.std.specs.Prelude.{◌≡◌, ◌≤◌, ◌<◌, ◌^◌, length, take, IfOk};
-ghost use Rattle.scc_drive.specs.Spots.{moved, position_at, spot_of};
+ghost use Rattle.std.specs.Prelude.{◌≡◌, ◌≤◌, ◌<◌, ◌^◌, length, take, IfOk, true};
+ghost use Rattle.scc_drive.specs.Spots.{moved, position_at, spot_of, IsPlaceOf, IsSpotOf};
 
-use scc_base::{NoMemory, Place, Text};
+use scc_base::{NoMemory, Place, Text, lost};
 use scc_tokens::Source;
 use std::alloc::Global;
 
 /// A place by its file's name, its line and its column, both from 1.
-#[derive(Debug, Drop)]
+#[derive(Drop)]
 pub struct Spot {
     pub file: Text,
     pub line: usize,
@@ -54,4 +54,23 @@ pub fn locate(alloc: Global, sources: &[Source], place: Place) -> Result<Spot, N
             column: 1,
         }),
     }
+}
+
+fn is_place_of(sources: &[Source], place: Place) -> bool
+    ensures { result ≡ true → IsPlaceOf sources.now place }
+{
+    match sources.get(place.file as usize) {
+        Some(source) => place.at as usize <= source.bytes.bytes().len(),
+        None => false,
+    }
+}
+
+/// Where a place of these files stands.
+pub fn locate_in(alloc: Global, sources: &[Source], place: Place) -> Result<Spot, NoMemory>
+    ensures spot { IfOk result (IsSpotOf sources.now) }
+{
+    if !is_place_of(sources, place) {
+        return Err(lost());
+    }
+    locate(alloc, sources, place)
 }

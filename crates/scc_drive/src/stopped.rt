@@ -2,12 +2,16 @@ use crate::spots::Spot;
 use scc_base::{Code, Text};
 
 /// Why a command has no output.
-#[derive(Debug, Drop)]
+#[derive(Drop)]
 pub enum Stopped {
     /// The words are no command.
     BadWords,
-    /// A refusal, and where it stands.
-    Refused { code: Code, spot: Spot },
+    /// A refusal, where it stands, and the second place of which it speaks.
+    Refused {
+        code: Code,
+        spot: Spot,
+        other: Option<Spot>,
+    },
     /// The file of this name is missing.
     Missing(Text),
     /// The file of this name could not be read.

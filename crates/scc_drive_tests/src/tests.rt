@@ -72,9 +72,8 @@ const SIZES_TEXT: &str = "module And (
 endmodule
 ";
 
-const NOT_YET: &str = "and.cpp:2:1: E901 not yet\n";
-
-fn words(alloc: Global, texts: &[&str]) -> Result<Vec<String>, AllocError> {
+/// Words of a command.
+pub fn words(alloc: Global, texts: &[&str]) -> Result<Vec<String>, AllocError> {
     let mut words = Vec::new(alloc);
     for text in texts {
         words.push(String::from_str(alloc, text)?)?;
@@ -84,11 +83,20 @@ fn words(alloc: Global, texts: &[&str]) -> Result<Vec<String>, AllocError> {
 
 /// The statuses and the texts of `compile And and.cpp` where the file holds these bytes.
 fn compiles(alloc: Global, source: &[u8]) -> Result<(u8, CalmSink, CalmSink), Fail> {
+    compiles_top(alloc, "And", source)
+}
+
+/// The same of another top.
+pub fn compiles_top(
+    alloc: Global,
+    top: &str,
+    source: &[u8],
+) -> Result<(u8, CalmSink, CalmSink), Fail> {
     let mut files = CalmFiles::new(alloc);
     files.add("and.cpp", source)?;
     let mut out = CalmSink::new(alloc);
     let mut err = CalmSink::new(alloc);
-    let words = words(alloc, &["compile", "And", "and.cpp"])?;
+    let words = words(alloc, &["compile", top, "and.cpp"])?;
     let status = run(alloc, words.as_slice(), &mut files, &mut out, &mut err);
     Ok((status.number(), out, err))
 }
@@ -137,7 +145,7 @@ const IN_OUT: &str = "sc_in<sc_uint<8> > a, b; sc_out<sc_uint<8> > y;";
 
 const COPY: &str = "y.write(a.read());";
 
-/// Each row but the accepted ones differs from one of them in one thing. An empty text stands for status 0.
+/// Each row differs from a thin text in one thing, and goes on to the later stages. An empty text stands for status 0.
 #[test]
 fn keeps_the_form(rt: HostRuntime) -> Result<(), Fail> {
     for (text, ports, function, body, senses) in [
@@ -154,13 +162,37 @@ fn keeps_the_form(rt: HostRuntime) -> Result<(), Fail> {
         ("", IN_OUT, "f", "y.write(/* a copy */ a.read());", "<< a"),
         ("", "sc_in<sc_uint<64>> a;", "f", "", "<< a"),
         // names that are equal: two ports, a port and the function, a port and the module
-        (NOT_YET, "sc_in<sc_uint<8> > a, a;", "f", "", "<< a"),
-        (NOT_YET, "sc_in<sc_uint<8> > a, f;", "f", "", "<< a"),
-        (NOT_YET, "sc_in<sc_uint<8> > a, And;", "f", "", "<< a"),
-        (NOT_YET, IN, "And", "", "<< a"),
+        (
+            "and.cpp:2:40: E302 duplicate name (see and.cpp:2:37)\n",
+            "sc_in<sc_uint<8> > a, a;",
+            "f",
+            "",
+            "<< a",
+        ),
+        (
+            "and.cpp:2:48: E302 duplicate name (see and.cpp:2:40)\n",
+            "sc_in<sc_uint<8> > a, f;",
+            "f",
+            "",
+            "<< a",
+        ),
+        (
+            "and.cpp:2:67: E302 duplicate name (see and.cpp:2:40)\n",
+            "sc_in<sc_uint<8> > a, And;",
+            "f",
+            "",
+            "<< a",
+        ),
+        (
+            "and.cpp:2:64: E302 duplicate name (see and.cpp:2:45)\n",
+            IN,
+            "And",
+            "",
+            "<< a",
+        ),
         // names that are words of SystemVerilog
-        (NOT_YET, "sc_in<sc_uint<8> > wor;", "f", "", "<< wor"),
-        (NOT_YET, IN, "always_comb", "", "<< a"),
+        ("", "sc_in<sc_uint<8> > wor;", "f", "", "<< wor"),
+        ("", IN, "always_comb", "", "<< a"),
         // words in place of names, and a macro without tokens
         (
             "and.cpp:2:37: E201 unexpected\n",
@@ -206,58 +238,80 @@ fn keeps_the_form(rt: HostRuntime) -> Result<(), Fail> {
             "",
             "<< a",
         ),
-        (NOT_YET, "sc_in<sc_uint<0> > a;", "f", "", "<< a"),
-        (NOT_YET, "sc_in<sc_uint<65> > a;", "f", "", "<< a"),
-        (NOT_YET, "sc_in<sc_uint<07> > a;", "f", "", "<< a"),
-        (NOT_YET, "sc_in<sc_uint<8u> > a;", "f", "", "<< a"),
-        (NOT_YET, "sc_in<sc_uint<8l> > a;", "f", "", "<< a"),
-        (NOT_YET, "sc_in<sc_uint<0x8> > a;", "f", "", "<< a"),
-        (NOT_YET, "sc_in<sc_uint<010> > a;", "f", "", "<< a"),
+        (
+            "and.cpp:2:32: E303 width\n",
+            "sc_in<sc_uint<0> > a;",
+            "f",
+            "",
+            "<< a",
+        ),
+        (
+            "and.cpp:2:32: E303 width\n",
+            "sc_in<sc_uint<65> > a;",
+            "f",
+            "",
+            "<< a",
+        ),
+        ("", "sc_in<sc_uint<07> > a;", "f", "", "<< a"),
+        ("", "sc_in<sc_uint<8u> > a;", "f", "", "<< a"),
+        ("", "sc_in<sc_uint<0x8> > a;", "f", "", "<< a"),
         // a sensitivity to nothing, to an output, to a port twice, and without a port that is read
         ("and.cpp:2:93: E201 unexpected\n", IN, "f", "", ""),
-        (NOT_YET, IN_OUT, "f", COPY, "<< a << y"),
-        (NOT_YET, IN_OUT, "f", COPY, "<< a << a"),
+        ("", IN_OUT, "f", COPY, "<< a << y"),
+        ("", IN_OUT, "f", COPY, "<< a << a"),
         (
-            NOT_YET,
+            "and.cpp:2:96: E503 missing sensitivity\n",
             IN_OUT,
             "f",
             "y.write(a.read() & b.read());",
             "<< a",
         ),
         (
-            NOT_YET,
+            "and.cpp:2:85: E503 missing sensitivity\n",
             IN_OUT,
             "f",
             "y.write(a.read() & b.read());",
             "<< b",
         ),
         // a write to an input, a read of an output, an output that is written twice, and one that is not written
-        (NOT_YET, IN, "f", "a.write(a.read());", "<< a"),
-        (NOT_YET, IN_OUT, "f", "y.write(y.read());", "<< a"),
         (
-            NOT_YET,
+            "and.cpp:2:51: E304 mismatch\n",
+            IN,
+            "f",
+            "a.write(a.read());",
+            "<< a",
+        ),
+        (
+            "and.cpp:2:85: E503 missing sensitivity\n",
+            IN_OUT,
+            "f",
+            "y.write(y.read());",
+            "<< a",
+        ),
+        (
+            "",
             IN_OUT,
             "f",
             "y.write(a.read()); y.write(a.read());",
             "<< a",
         ),
-        (NOT_YET, IN_OUT, "f", "", "<< a"),
+        ("", IN_OUT, "f", "", "<< a"),
         // a name that is not declared, a third read, another operator
-        (NOT_YET, IN_OUT, "f", "z.write(a.read());", "<< a"),
         (
-            NOT_YET,
+            "and.cpp:2:77: E301 unknown name\n",
+            IN_OUT,
+            "f",
+            "z.write(a.read());",
+            "<< a",
+        ),
+        (
+            "",
             IN_OUT,
             "f",
             "y.write(a.read() & a.read() & a.read());",
             "<< a",
         ),
-        (
-            NOT_YET,
-            IN_OUT,
-            "f",
-            "y.write(a.read() + a.read());",
-            "<< a",
-        ),
+        ("", IN_OUT, "f", "y.write(a.read() + a.read());", "<< a"),
     ] {
         let source = thin_text(rt.alloc(), ports, function, body, senses)?;
         let (status, out, err) = compiles(rt.alloc(), source.bytes())?;
@@ -271,20 +325,20 @@ fn keeps_the_form(rt: HostRuntime) -> Result<(), Fail> {
     }
     for (text, source) in [
         // no tokens: the place is the end
-        ("and.cpp:1:1: E901 not yet\n", ""),
-        ("and.cpp:1:21: E901 not yet\n", "#include <systemc.h>"),
-        ("and.cpp:2:1: E901 not yet\n", "#include <systemc.h>\n"),
+        ("and.cpp:1:1: E301 unknown name\n", ""),
+        ("and.cpp:1:21: E301 unknown name\n", "#include <systemc.h>"),
+        ("and.cpp:2:1: E301 unknown name\n", "#include <systemc.h>\n"),
         // another module's name, in either place, and another function
         (
-            NOT_YET,
+            "and.cpp:3:1: E301 unknown name\n",
             "#include <systemc.h>\nSC_MODULE(Or) { sc_in<sc_uint<8> > a; void f() { } SC_CTOR(And) { SC_METHOD(f); sensitive << a; } };\n",
         ),
         (
-            NOT_YET,
+            "and.cpp:2:61: E301 unknown name\n",
             "#include <systemc.h>\nSC_MODULE(And) { sc_in<sc_uint<8> > a; void f() { } SC_CTOR(Or) { SC_METHOD(f); sensitive << a; } };\n",
         ),
         (
-            NOT_YET,
+            "and.cpp:2:78: E301 unknown name\n",
             "#include <systemc.h>\nSC_MODULE(And) { sc_in<sc_uint<8> > a; void f() { } SC_CTOR(And) { SC_METHOD(g); sensitive << a; } };\n",
         ),
         // more behind the module
@@ -319,13 +373,13 @@ fn push_names(text: &mut Text, count: u32, length: usize) -> Result<(), NoMemory
     Ok(())
 }
 
-/// 1,000 ports and names of 255 bytes are the most. The function's name is `f` and so many letters.
+/// 1,000 ports are the most of a thin text; names of 255 bytes are the longest. The function's name is `f` and so many letters.
 #[test]
 fn keeps_the_limits(rt: HostRuntime) -> Result<(), Fail> {
     let alloc = rt.alloc();
     for (number, count, port, function) in [
         (0, 1000, 1, 0),
-        (1, 1001, 1, 0),
+        (0, 1001, 1, 0),
         (0, 2, 255, 0),
         (1, 2, 256, 0),
         (0, 2, 1, 254),
@@ -355,7 +409,7 @@ fn keeps_the_limits(rt: HostRuntime) -> Result<(), Fail> {
 fn refuses_a_long_file(rt: HostRuntime) -> Result<(), Fail> {
     for (length, text) in [
         (1_048_577, "and.cpp:1:1: E108 file too long\n"),
-        (1_048_576, "and.cpp:1:1048577: E901 not yet\n"),
+        (1_048_576, "and.cpp:1:1048577: E301 unknown name\n"),
     ] {
         let source = Vec::from_elem(rt.alloc(), b' ', length)?;
         let (status, out, err) = compiles(rt.alloc(), source.as_slice())?;
@@ -429,7 +483,7 @@ SC_MODULE(And) {
         (1, "b.cpp:2:1: E201 unexpected\n", AND, "int\n;"),
         (1, "b.cpp:3:1: E201 unexpected\n", AND, "int\nx\n"),
         // no tokens in two files
-        (1, "b.cpp:3:2: E901 not yet\n", "\n", "\n\n "),
+        (1, "b.cpp:3:2: E301 unknown name\n", "\n", "\n\n "),
     ] {
         let (number, out, err) = joins(
             rt.alloc(),

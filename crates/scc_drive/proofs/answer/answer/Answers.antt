@@ -2,7 +2,8 @@ use Rattle.std.proofs.Common.{◌≡◌, ◌∙◌, true, rules, refl, ap, subst
 use Rattle.scc_base.specs.declared.refusal.Stop.TheVariants as stop
 use Rattle.scc_tokens.specs.declared.joining.JoinFault.TheVariants as fault
 use Rattle.scc_tokens.specs.Join.{Somewhere}
-use Rattle.scc_drive.specs.Answer.{Compiles, Stops}
+use Rattle.scc_drive.specs.Answer.{Compiles}
+use Rattle.scc_drive.specs.Stops.{Stops}
 use Rattle.scc_drive.specs.Words.{are_words}
 use Rattle.scc_drive.proofs.Answering.{said, all_identifiers, answers_joined, answers_refused, answers_missing, answers_failed}
 use Rattle.scc_drive.proofs.answer.answer.Goals as goal
