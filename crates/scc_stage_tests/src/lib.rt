@@ -1,5 +1,14 @@
-//! Tests of the stages behind the grammar over whole sources, in a crate of their own, so that each stage is proved once.
+//! Tests of the stages behind the grammar, in a crate of their own, so that each stage is proved once: the smallest sources for
+//! each cause of a refusal, and worked designs.
 #![tactic(auto)]
 
 #[cfg(test)]
-mod tests;
+mod command;
+#[cfg(test)]
+mod construction;
+#[cfg(test)]
+mod designs;
+#[cfg(test)]
+mod processes;
+#[cfg(test)]
+mod program;
