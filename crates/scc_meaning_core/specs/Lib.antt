@@ -1,0 +1,10 @@
+pub mod Term
+pub mod Code
+pub mod Program
+pub mod Named
+pub mod Static
+pub mod Live
+pub mod Segments
+pub mod Uses
+pub mod Sizes
+pub mod Worked

@@ -1,0 +1,53 @@
+-- Bodies worked by hand: the counting thread, a thread with three states of which one stands in a branch, a kept and an unkept local.
+use Rattle.std.specs.Prelude.{ℕ, zero, suc, Bool, true, false, List, [], ◌∷◌, Option, Some, None}
+use Rattle.scc_base.specs.declared.refusal.Place.{Place}
+use Rattle.scc_bits.specs.declared.kind.Kind.{Kind}
+use Rattle.scc_bits.specs.declared.kind.Kind.TheVariants as kind
+use Rattle.scc_bits.specs.declared.op.Op.TheVariants as op
+use Rattle.scc_meaning.specs.Location.{Part}
+use Rattle.scc_meaning.specs.Location as location
+use Rattle.scc_meaning_core.specs.Term.{Term, Literal, Load, Read, Convert, Unary, Binary, Left, Pick, Whole, CellName}
+use Rattle.scc_meaning_core.specs.Term as term
+use Rattle.scc_meaning_core.specs.Code.{Code, End, Put, If, Block, Loop, Exit, Wait}
+use Rattle.scc_meaning_core.specs.Program.{Cell, Sort, Input, Output, Variable, Local, Process}
+
+abbrev pub here : Place
+here = record { file = 0; at = 0 }
+
+abbrev pub named : ℕ → CellName
+named n = record { path = location.Member n ∷ []; own = None; indices = [] }
+
+abbrev pub cell : ℕ → Kind → Sort → Cell
+cell n k s = record { name = named n; kind = k; sort = s; place = here }
+
+-- `sc_in<bool> clk, rst; sc_out<sc_uint<8> > q; sc_uint<8> n;`
+abbrev pub count_cells : List Cell
+count_cells = cell 0 kind.Bool Input ∷ cell 1 kind.Bool Input ∷ cell 2 (kind.Uint 8) Output ∷ cell 3 (kind.Uint 8) (Variable 0 false) ∷ []
+
+abbrev pub put : ℕ → Term → Code → Code
+put c e r = Put here (term.Cell here c) Whole e r
+
+abbrev pub byte : ℕ → Term
+byte w = Literal here (kind.Uint 8) w
+
+abbrev pub load : ℕ → Term
+load c = Load here (kind.Uint 8) (term.Cell here c)
+
+abbrev pub yes : Term
+yes = Literal here kind.Bool 1
+
+-- `n + 1` in 8 bits
+abbrev pub one_more : Term
+one_more = Convert here (kind.Uint 8) (Binary here (kind.Native 64 false) op.Add (load 3) (byte 1))
+
+-- `while (true) BODY`, before what follows
+abbrev pub forever : Code → Code → Code
+forever body rest = Block here (Loop here None (If here yes End (Exit here 0 End) (Block here body End)) End) rest
+
+-- `n = 0; q.write(0); wait(); while (true) { n++; q.write(n); wait(); }`
+abbrev pub count_body : Code
+count_body = Block here (put 3 (byte 0) (put 2 (byte 0) (Wait here 0 1 (forever (put 3 one_more (put 2 (load 3) (Wait here 0 1 End))) End)))) End
+
+-- `if (rst) wait(); n = 0; wait(); while (true) { q.write(n); n++; wait(); }`: three states
+abbrev pub branch_body : Code
+branch_body = Block here (If here (Read here kind.Bool (term.Cell here 1)) (Wait here 0 1 End) End (put 3 (byte 0) (Wait here 0 1 (forever (put 2 (load 3) (put 3 one_more (Wait here 0 1 End))) End)))) End
