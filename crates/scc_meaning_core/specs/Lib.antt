@@ -7,4 +7,17 @@ pub mod Live
 pub mod Segments
 pub mod Uses
 pub mod Sizes
+pub mod First
+pub mod Paths
+pub mod Flow
+pub mod Kept
+pub mod Clashes
+pub mod Feeding
+pub mod Rules
+pub mod Split
+pub mod Counted
+pub mod Unrolled
+pub mod Resolved
+pub mod Unpointed
+pub mod Renumbered
 pub mod Worked
