@@ -20,4 +20,7 @@ pub mod Unrolled
 pub mod Resolved
 pub mod Unpointed
 pub mod Renumbered
+pub mod Source
+pub mod Constants
 pub mod Worked
+pub mod WorkedRun

@@ -19,6 +19,7 @@ ghost use Rattle.scc_base.specs.declared.code.Code.TheVariants as reason;
 ghost use Rattle.scc_meaning_core.specs.Resolved.{Made, Stopped};
 ghost use Rattle.scc_meaning_core.specs.Unpointed.{unpointed};
 ghost use Rattle.scc_meaning_core.specs.Renumbered.{resolved_program};
+ghost use Rattle.scc_meaning_core.specs.WorkedRun.{counts};
 ghost use Rattle.scc_meaning_core.specs.Worked.{here, count_cells, count_body, branch_body, put, byte, load, one_more, local_cells, local_body, process, turn_cells, turn_body, turn_written, number, pointer_cells, through};
 
 /// The counting thread: 12 statements, one loop that waits, at most 72 steps, two states, 9 statements in its segments.
@@ -70,4 +71,9 @@ pub fn pointers_give_way_to_objects()
 /// No processes, no pointers.
 pub fn nothing_has_no_pointers()
     ensures { resolved_program (record { top = 0; cells = pointer_cells; vectors = []; processes = [] }) ≡ Made (record { top = 0; cells = drop 2 pointer_cells; vectors = []; processes = [] }) }
+{}
+
+/// The counting thread as a design shows 0, 1 and 2 after its edges, whatever storage held at first.
+pub fn the_counting_thread_counts()
+    ensures { counts ≡ (0 ∷ []) ∷ (1 ∷ []) ∷ (2 ∷ []) ∷ [] }
 {}

@@ -1,0 +1,21 @@
+//! Laws that cite the definitions.
+ghost use Rattle.std.specs.Prelude.{◌≡◌, ℕ, List, [], ◌∷◌, length, Option, Some, None, true, false};
+ghost use Rattle.scc_running.specs.Design.{Design};
+ghost use Rattle.scc_running.specs.Process.{State, Well};
+ghost use Rattle.scc_running.specs.Run.{shown};
+ghost use Rattle.scc_running.specs.Start.{IsStart, FindsResets};
+ghost use Rattle.scc_running.specs.Same.{SameDesign};
+ghost use Rattle.scc_running.specs.Schedule.{AnyOrder, SameShown};
+
+/// No steps show nothing.
+pub fn a_design_without_processes_shows_its_ports()
+    ensures none { (d : Design) (s : State) → shown (λ i. 0) d [] s ≡ Well [] }
+    ensures resets { (d : Design) → FindsResets d [] [] [] }
+{}
+
+/// Where nothing is shown, nothing differs; and any order is any order.
+pub fn nothing_differs_from_nothing()
+    ensures nothing { SameShown (λ l. true) [] [] }
+    ensures order { (d : Design) → AnyOrder (λ l. true) d → AnyOrder (λ l. true) d }
+    ensures same { (d : Design) → SameDesign 1 d d → SameDesign 1 d d }
+{}
