@@ -17,6 +17,7 @@ pub mod Rules
 pub mod Split
 pub mod Counted
 pub mod Unrolled
+pub mod Fold
 pub mod Resolved
 pub mod Unpointed
 pub mod Renumbered

@@ -6,11 +6,12 @@ use Rattle.scc_base.specs.declared.refusal.Place.{Place}
 use Rattle.scc_base.specs.declared.refusal.Refusal.{Refusal}
 use Rattle.scc_base.specs.declared.code.Code.TheVariants as reason
 use Rattle.scc_meaning.specs.Location.{Part}
-use Rattle.scc_meaning_core.specs.Term.{Term, Literal, Load, Read, Convert, Unary, Binary, Choose, Bit, Range, Join, Left, Cell, Prefix, Null, Follow, Member, Index, Pick, Whole, OneBit, Bits, place_at}
+use Rattle.scc_meaning_core.specs.Term.{Term, Literal, Load, Read, Convert, Unary, Binary, Choose, Bit, Range, Join, Left, Cell, Prefix, Null, Follow, Member, Index, place_at}
 use Rattle.scc_meaning_core.specs.Program.{Vector, Pointer, Sort}
 use Rattle.scc_meaning_core.specs.Named.{Step, cell_at, fits, path_steps, is_open, chooses_object}
 use Rattle.scc_meaning_core.specs.Static.{Cells, pattern}
-use Rattle.scc_meaning_core.specs.Uses.{root_of, sort_at}
+use Rattle.scc_meaning_core.specs.Uses.{sort_at}
+use Rattle.scc_meaning_core.specs.Fold.{as_name, member_of, element_of, whole}
 use Rattle.scc_meaning_core.specs.First.{refused}
 
 -- it went well, or a refusal was met first
@@ -41,17 +42,6 @@ placed p (Follow q s l) = Follow p s l
 placed p (Member l n) = Member (placed p l) n
 placed p (Index l size e) = Index (placed p l) size e
 
--- a vector's number of elements, 2^32 - 1 until its path is known
-abbrev pub unknown : ℕ
-unknown = 4294967295
-
-abbrev pub size_at : List Vector → List Step → ℕ
-size_at [] p = 0
-size_at (v ∷ vs) p = if fits p (path_steps v.path) then v.size else size_at vs p
-
-abbrev pub size_of : Leads → ℕ → Left → ℕ
-size_of s size l = if nat_eq size unknown then unwrap_or (option_map (size_at s.vectors) (pattern s.cells l)) 0 else size
-
 -- where construction left a pointer
 abbrev pub left_by : Place → Option Sort → Option Left
 left_by p (Some (Pointer (Some path))) = Some (Prefix p (record { path = path; own = None; indices = [] }))
@@ -70,12 +60,9 @@ abbrev pub pointed : Leads → Left → Tried (Option Left)
 pointed s l = if unwrap_or (option_map is_open (pattern s.cells l)) false then Stopped (refused reason.StaticIndex (place_at l))
     else Made (option_and_then (leads_to s (place_at l)) (option_and_then (pointer_of s l) (pattern s.cells l)))
 
--- a location that names a cell is that cell, a port below the top its root's; an object that an index which isn't static chooses is refused
-abbrev pub folded : Leads → Left → Left
-folded s l = unwrap_or (option_map (λ n. Cell (place_at l) (root_of s.cells n)) (option_and_then (λ p. if is_open p then None else cell_at false 0 p s.cells) (pattern s.cells l))) l
-
+-- an object that an index which isn't static chooses is refused; a whole name is its cell
 abbrev pub looked : Leads → Left → Tried Left
-looked s l = if unwrap_or (option_map chooses_object (pattern s.cells l)) false then Stopped (refused reason.StaticIndex (place_at l)) else Made (folded s l)
+looked s l = if unwrap_or (option_map chooses_object (pattern s.cells l)) false then Stopped (refused reason.StaticIndex (place_at l)) else Made (whole s.cells s.vectors false l)
 
 -- null that is followed is refused (E405); in a target it is null
 abbrev pub or_null : Bool → Place → Option Left → (Left → Tried (Option Left)) → Tried (Option Left)
@@ -112,5 +99,5 @@ abbrev mutual
   walked s soft (Prefix p n) = Made (Some (Prefix p n))
   walked s soft (Null p) = Made None
   walked s soft (Follow p own l) = and_made (walked s (soft || own) l) (λ o. and_made (behind o (pointed s)) (λ t. or_null soft p t (λ m. Made (Some (placed p m)))))
-  walked s soft (Member l n) = and_made (walked s soft l) (λ o. behind o (λ m. Made (Some (Member m n))))
-  walked s soft (Index l size e) = and_made (walked s soft l) (λ o. behind o (λ m. made_map (λ x. Some (Index m (size_of s size m) x)) (resolved s e)))
+  walked s soft (Member l n) = and_made (walked s soft l) (λ o. behind o (λ m. Made (Some (member_of s.cells s.vectors (as_name s.cells s.vectors m) n))))
+  walked s soft (Index l size e) = and_made (walked s soft l) (λ o. behind o (λ m. made_map (λ x. Some (element_of s.cells s.vectors (as_name s.cells s.vectors m) size x)) (resolved s e)))
