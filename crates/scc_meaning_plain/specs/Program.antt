@@ -8,7 +8,7 @@ use Rattle.scc_meaning_plain.specs.Term.{Term, Left, Pick, Target, Argument}
 -- what stands where a member or local is declared
 pub data Base : Type 0 where
   Number : (kind : Kind) → Base
-  Class : (class : ℕ) → Base
+  OfClass : (class : ℕ) → Base
   Input : (kind : Kind) → Base
   Output : (kind : Kind) → Base
   Signal : (kind : Kind) → Base

@@ -3,7 +3,7 @@ use Rattle.std.specs.Prelude.{ℕ, zero, suc, ◌+◌, Bool, true, false, not, �
 use Rattle.std.specs.List.{list_any}
 use Rattle.scc_meaning_plain.specs.Term.{Term, Left, Local, Answer, This, Follow, Index, Target, Null, Address, Copy, Argument, Value, Leads, ModuleName}
 use Rattle.scc_meaning_plain.specs.Term as term
-use Rattle.scc_meaning_plain.specs.Program.{Base, Number, Class, Reach, Direct, Pointer, Reference, Shape, Member, Code, Function, Plain}
+use Rattle.scc_meaning_plain.specs.Program.{Base, Number, OfClass, Reach, Direct, Pointer, Reference, Shape, Member, Code, Function, Plain}
 use Rattle.scc_meaning_plain.specs.Program as code
 
 abbrev pub is_direct : Reach → Bool
@@ -15,7 +15,7 @@ is_reference Reference = true
 is_reference r = false
 
 abbrev pub class_in : Option Base → Option ℕ
-class_in (Some (Class c)) = Some c
+class_in (Some (OfClass c)) = Some c
 class_in b = None
 
 abbrev pub member_at : Plain → Option ℕ → ℕ → Option Member
@@ -28,7 +28,7 @@ base_of_member m = option_map (λ m. m.shape.base) m
 abbrev pub base_at : Plain → Function → Left → Option Base
 base_at p f (Local q n) = base_of_member (slice_get f.locals n)
 base_at p f (Answer q n) = None
-base_at p f (This q) = option_map Class f.class
+base_at p f (This q) = option_map OfClass f.class
 base_at p f (Follow q l) = base_at p f l
 base_at p f (term.Member l m) = base_of_member (member_at p (class_in (base_at p f l)) m)
 base_at p f (Index l e) = base_at p f l

@@ -1,0 +1,10 @@
+pub mod Term
+pub mod Program
+pub mod Design
+pub mod Types
+pub mod Cells
+pub mod Numbering
+pub mod Copied
+pub mod Bodies
+pub mod Inlined
+pub mod Worked

@@ -1,0 +1,14 @@
+//! Laws that cite the definitions.
+ghost use Rattle.std.specs.Prelude.{◌≡◌, ℕ, List, [], ◌∷◌, length, Option, Some, None, true, false};
+ghost use Rattle.scc_bits.specs.declared.op.Op.TheVariants as op;
+ghost use Rattle.scc_meaning_core.specs.Term as core;
+ghost use Rattle.scc_meaning_core.specs.Code as stmt;
+ghost use Rattle.scc_meaning_plain.specs.Inlined.{copied_body, core_cells, too_large};
+ghost use Rattle.scc_meaning_plain.specs.Worked.{here, int, program, made, copied, load};
+
+/// `m = pick(1) + pick(0)`: each call is copied with a result and a parameter of its own.
+pub fn calls_are_copied()
+    ensures cells { length (core_cells program made) ≡ 5 }
+    ensures body { copied_body program made 0 (record { object = 0; function = 0; place = here; is_thread = false; senses = []; edge = None; reset = None }) ≡ copied }
+    ensures size { too_large program made 0 (record { object = 0; function = 0; place = here; is_thread = false; senses = []; edge = None; reset = None }) ≡ None }
+{}
