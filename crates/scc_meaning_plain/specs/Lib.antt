@@ -7,4 +7,11 @@ pub mod Numbering
 pub mod Copied
 pub mod Bodies
 pub mod Inlined
+pub mod Grown
+pub mod Worth
+pub mod Binding
+pub mod Construct
+pub mod Made
+pub mod After
+pub mod Elaborated
 pub mod Worked

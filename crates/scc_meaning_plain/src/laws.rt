@@ -1,9 +1,13 @@
 //! Laws that cite the definitions.
-ghost use Rattle.std.specs.Prelude.{◌≡◌, ℕ, List, [], ◌∷◌, length, Option, Some, None, true, false};
+ghost use Rattle.std.specs.Prelude.{◌≡◌, ℕ, List, [], ◌∷◌, length, option_map, Option, Some, None, true, false};
 ghost use Rattle.scc_bits.specs.declared.op.Op.TheVariants as op;
 ghost use Rattle.scc_meaning_core.specs.Term as core;
 ghost use Rattle.scc_meaning_core.specs.Code as stmt;
 ghost use Rattle.scc_meaning_plain.specs.Inlined.{copied_body, core_cells, too_large};
+ghost use Rattle.scc_meaning_plain.specs.Grown.{nothing};
+ghost use Rattle.scc_meaning_plain.specs.Made.{built, none_given, grown_of};
+ghost use Rattle.scc_meaning_plain.specs.Elaborated.{elaborated};
+ghost use Rattle.scc_meaning_core.specs.Resolved.{Made};
 ghost use Rattle.scc_meaning_plain.specs.Worked.{here, int, program, made, copied, load};
 
 /// `m = pick(1) + pick(0)`: each call is copied with a result and a parameter of its own.
@@ -11,4 +15,14 @@ pub fn calls_are_copied()
     ensures cells { length (core_cells program made) ≡ 5 }
     ensures body { copied_body program made 0 (record { object = 0; function = 0; place = here; is_thread = false; senses = []; edge = None; reset = None }) ≡ copied }
     ensures size { too_large program made 0 (record { object = 0; function = 0; place = here; is_thread = false; senses = []; edge = None; reset = None }) ≡ None }
+{}
+
+/// The top of that program has its one variable, which is 0.
+pub fn the_top_is_made()
+    ensures { option_map (λ g. length g.objects) (grown_of (built program 2 nothing [] here 0 none_given)) ≡ Some 2 }
+{}
+
+/// Its design: the top, its variable, and no process, since its constructor declares none.
+pub fn the_top_is_elaborated()
+    ensures { elaborated false program ≡ Some (Made (record { objects = made.objects; processes = []; targets = []; vectors = [] })) }
 {}

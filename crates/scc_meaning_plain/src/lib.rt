@@ -2,4 +2,4 @@
 #![tactic(auto)]
 
 mod laws;
-pub use laws::{calls_are_copied};
+pub use laws::{calls_are_copied, the_top_is_elaborated, the_top_is_made};

@@ -1,0 +1,214 @@
+-- Objects: their members in declaration order, each with its initialisers, then what belongs to no member, then the constructor's body (ISO C++
+-- [class.base.init]; IEEE 1666-2011, 4.2).
+use Rattle.std.specs.Prelude.{ℕ, zero, suc, ◌+◌, ◌-◌, min, Bool, true, false, not, ◌&&◌, ◌||◌, nat_eq, List, [], ◌∷◌, ◌++◌, map, length, Option, Some, None, option_map, option_and_then, slice_get, unwrap_or, is_some, if◌then◌else◌}
+use Rattle.std.specs.List.{range_with_len}
+use Rattle.scc_base.specs.declared.refusal.Place.{Place}
+use Rattle.scc_base.specs.declared.code.Code.TheVariants as reason
+use Rattle.scc_meaning.specs.Location.{Location, Part, Element}
+use Rattle.scc_meaning.specs.Location as location
+use Rattle.scc_meaning_core.specs.First.{refused}
+use Rattle.scc_meaning_core.specs.Resolved.{Tried, Made, Stopped, and_made, made_map}
+use Rattle.scc_meaning_plain.specs.Term.{Left, This, Index, Argument}
+use Rattle.scc_meaning_plain.specs.Term as term
+use Rattle.scc_meaning_plain.specs.Program.{Base, Number, OfClass, Input, Output, Signal, Named, Code, End, Declare, Assign, Point, Write, Call, If, Loop, Block, Exit, Return, Wait, Make, Bind, Process, Sensitive, Quiet, Reset, Member, Class, Function, Plain}
+use Rattle.scc_meaning_plain.specs.Design as design
+use Rattle.scc_meaning_plain.specs.Types.{is_direct}
+use Rattle.scc_meaning_plain.specs.Bodies.{elements}
+use Rattle.scc_meaning_plain.specs.Grown.{Grown, added, at_path, local_of, with_word, with_target, with_vector}
+use Rattle.scc_meaning_plain.specs.Worth.{Site, at_now}
+use Rattle.scc_meaning_plain.specs.Construct.{Now, Ran, Fell, Left_out, Halted, Given, Word, Place_given, given, Making, ran}
+
+-- the member of the object at hand that a location begins with
+abbrev pub first_member : Left → Option ℕ
+first_member (term.Member (This p) m) = Some m
+first_member (term.Member l m) = first_member l
+first_member (Index l e) = first_member l
+first_member l = None
+
+abbrev pub belongs : Option ℕ → Option ℕ → Bool
+belongs (Some m) (Some n) = nat_eq m n
+belongs None None = true
+belongs m n = false
+
+abbrev pub either : Option ℕ → Option ℕ → Option ℕ
+either (Some m) n = Some m
+either None n = n
+
+-- the member that a list of initialisers begins with: what belongs to none goes with what follows it
+abbrev pub owner : Code → Option ℕ
+owner End = None
+owner (Declare p n r) = owner r
+owner (Assign p l k e r) = either (first_member l) (owner r)
+owner (Point p l t r) = either (first_member l) (owner r)
+owner (Write p l e r) = owner r
+owner (Call p n f o args r) = owner r
+owner (If p t a b r) = owner r
+owner (Loop p c b r) = owner r
+owner (Block p b r) = owner r
+owner (Exit p d r) = owner r
+owner (Return p v r) = owner r
+owner (Wait p n r) = owner r
+owner (Make p l base args r) = either (first_member l) (owner r)
+owner (Bind p port to r) = either (first_member port) (owner r)
+owner (Process p t f e r) = owner r
+owner (Sensitive p items r) = owner r
+owner (Quiet p r) = owner r
+owner (Reset p s e a r) = owner r
+
+abbrev pub kept_if : Bool → (Code → Code) → Code → Code
+kept_if true s rest = s rest
+kept_if false s rest = rest
+
+-- the initialisers of a member, or those of none; of one that makes an object in place the first counts, where it is made
+abbrev pub inits_of : Option ℕ → Code → Code
+inits_of m End = End
+inits_of m (Declare p n r) = kept_if (belongs m (owner r)) (Declare p n) (inits_of m r)
+inits_of m (Assign p l k e r) = kept_if (belongs m (owner (Assign p l k e r))) (Assign p l k e) (inits_of m r)
+inits_of m (Point p l t r) = kept_if (belongs m (owner (Point p l t r))) (Point p l t) (inits_of m r)
+inits_of m (Write p l e r) = kept_if (belongs m (owner r)) (Write p l e) (inits_of m r)
+inits_of m (Call p n f o args r) = kept_if (belongs m (owner r)) (Call p n f o args) (inits_of m r)
+inits_of m (If p t a b r) = kept_if (belongs m (owner r)) (If p t a b) (inits_of m r)
+inits_of m (Loop p c b r) = kept_if (belongs m (owner r)) (Loop p c b) (inits_of m r)
+inits_of m (Block p b r) = kept_if (belongs m (owner r)) (Block p b) (inits_of m r)
+inits_of m (Exit p d r) = kept_if (belongs m (owner r)) (Exit p d) (inits_of m r)
+inits_of m (Return p v r) = kept_if (belongs m (owner r)) (Return p v) (inits_of m r)
+inits_of m (Wait p n r) = kept_if (belongs m (owner r)) (Wait p n) (inits_of m r)
+inits_of m (Make p l base args r) = kept_if (belongs m (owner (Make p l base args r))) (Make p l base args) (inits_of m r)
+inits_of m (Bind p port to r) = kept_if (belongs m (owner (Bind p port to r))) (Bind p port to) (inits_of m r)
+inits_of m (Process p t f e r) = kept_if (belongs m (owner r)) (Process p t f e) (inits_of m r)
+inits_of m (Sensitive p items r) = kept_if (belongs m (owner r)) (Sensitive p items) (inits_of m r)
+inits_of m (Quiet p r) = kept_if (belongs m (owner r)) (Quiet p) (inits_of m r)
+inits_of m (Reset p s e a r) = kept_if (belongs m (owner r)) (Reset p s e a) (inits_of m r)
+
+-- the arguments of the first `Make` among some initialisers, and the initialisers without any
+abbrev pub first_make : Code → Option (List Argument)
+first_make (Make p l base args r) = Some args
+first_make (Assign p l k e r) = first_make r
+first_make (Point p l t r) = first_make r
+first_make (Bind p port to r) = first_make r
+first_make (Declare p n r) = first_make r
+first_make (Call p n f o args r) = first_make r
+first_make c = None
+
+abbrev pub without_make : Code → Code
+without_make (Make p l base args r) = without_make r
+without_make (Assign p l k e r) = Assign p l k e (without_make r)
+without_make (Point p l t r) = Point p l t (without_make r)
+without_make (Bind p port to r) = Bind p port to (without_make r)
+without_make (Declare p n r) = Declare p n (without_make r)
+without_make (Call p n f o args r) = Call p n f o args (without_make r)
+without_make c = c
+
+-- what is made so far after some statements; blocks that they would leave there are none
+abbrev pub grown_by : Ran → Tried Grown
+grown_by (Fell n) = Made n.grown
+grown_by (Left_out d n) = Made n.grown
+grown_by (Halted r) = Stopped r
+
+-- the parameters take the arguments in order, a module's name none
+abbrev pub is_name : Base → Bool
+is_name Named = true
+is_name b = false
+
+abbrev pub param_given : Grown → ℕ → ℕ → Given → Grown
+param_given g object n (Word w) = with_word g (local_of object n []) w
+param_given g object n (Place_given t) = with_target g (local_of object n []) t
+
+abbrev pub params_given : ℕ → ℕ → ℕ → List Member → List Given → Grown → Grown
+params_given object n zero ms gs g = g
+params_given object n (suc left) [] gs g = g
+params_given object n (suc left) (m ∷ ms) [] g = g
+params_given object n (suc left) (m ∷ ms) (x ∷ xs) g = if is_name m.shape.base then params_given object (n + 1) left ms (x ∷ xs) g
+    else params_given object (n + 1) left ms xs (param_given g object n x)
+
+abbrev pub last_word : List Given → ℕ
+last_word [] = 0
+last_word (Word w ∷ []) = w
+last_word (x ∷ xs) = last_word xs
+
+abbrev pub over_elements : {A : Type 0} → (Grown → A → Tried Grown) → List A → Grown → Tried Grown
+over_elements f [] g = Made g
+over_elements f (x ∷ xs) g = and_made (f g x) (over_elements f xs)
+
+abbrev pub none_given : Grown → Tried (List Given)
+none_given g = Made []
+
+abbrev pub word_if : List Given → Location → Grown → Grown
+word_if [] l g = g
+word_if (x ∷ xs) l g = with_word g l (last_word (x ∷ xs))
+
+-- one thing of a base at a path, by how objects of a class are made
+abbrev pub Building : Type 0
+Building = Grown → List Part → Place → ℕ → (Grown → Tried (List Given)) → Tried Grown
+
+abbrev pub made_one : Building → Grown → List Part → Place → Base → (Grown → Tried (List Given)) → Tried Grown
+made_one build g path p (OfClass c) args = build g path p c args
+made_one build g path p (Number k) args = and_made (added g path p (design.Variable k 0)) (λ g. and_made (args g) (λ gs. Made (word_if gs (at_path path) (with_word g (at_path path) 0))))
+made_one build g path p (Signal k) args = added g path p (design.Signal k)
+made_one build g path p (Input k) args = added g path p (design.Port k false (length g.objects))
+made_one build g path p (Output k) args = added g path p (design.Port k true (length g.objects))
+made_one build g path p Named args = Made g
+
+-- a vector has as many elements as its last argument says, read without sign; what passes the limit on objects is refused there
+abbrev pub made_vector : Building → Grown → List Part → Place → Base → ℕ → Tried Grown
+made_vector build g path p base n = over_elements (λ g i. made_one build g (path ++ Element i ∷ []) p base none_given) (range_with_len 0 (min n 65537)) (with_vector g path n)
+
+abbrev pub making : Building → Making
+making build g path p base true args = and_made (args g) (λ gs. made_vector build g path p base (last_word gs))
+making build g path p base false args = made_one build g path p base args
+
+abbrev pub elements_at : List Part → List ℕ → List (List Part)
+elements_at path sizes = map (λ is. path ++ map Element is) (elements sizes)
+
+abbrev pub run_inits : Making → Site → Code → Grown → Tried Grown
+run_inits make s c g = grown_by (ran make s c (record { grown = g; last = None }))
+
+-- a member: pointers are null, numbers 0; its initialisers run before a thing is made by arguments, and behind one that is made empty
+abbrev pub by_arguments : Building → Site → Member → List Part → Code → Option (List Argument) → Grown → Tried Grown
+by_arguments build s m path inits None g = and_made (over_elements (λ g q. making build g q m.place m.shape.base m.shape.vector none_given) (elements_at path m.shape.sizes) g) (run_inits (making build) s inits)
+by_arguments build s m path inits (Some args) g = and_made (run_inits (making build) s (without_make inits) g) (λ g.
+    over_elements (λ g q. making build g q m.place m.shape.base m.shape.vector (λ g. given (at_now s g) args)) (elements_at path m.shape.sizes) g)
+
+abbrev pub made_member : Building → Site → Member → List Part → Code → Grown → Tried Grown
+made_member build s m path inits g = if is_direct m.shape.reach then by_arguments build s m path inits (first_make inits) g
+    else and_made (over_elements (λ g q. added g q m.place (design.Pointer None)) (elements_at path m.shape.sizes) g) (run_inits (making build) s inits)
+
+abbrev pub made_members : Building → Site → ℕ → List Member → Code → Grown → Tried Grown
+made_members build s n [] inits g = Made g
+made_members build s n (m ∷ ms) inits g = and_made (made_member build s m (s.path ++ location.Member m.name ∷ []) (inits_of (Some n) inits) g) (made_members build s (n + 1) ms inits)
+
+-- the last process is the constructor's own: initialisers that belong to no member and the body share it
+abbrev pub run_rest : Making → Site → Code → Code → Grown → Tried Grown
+run_rest make s inits body g = grown_by (then_body (ran make s inits (record { grown = g; last = None })))
+  where
+    then_body : Ran → Ran
+    then_body (Fell n) = ran make s body n
+    then_body r = r
+
+abbrev pub nowhere : Function
+nowhere = record { name = 0; place = record { file = 0; at = 0 }; class = None; params = 0; locals = []; result = None; inits = End; body = End }
+
+abbrev pub function_of : Plain → Class → Function
+function_of p c = unwrap_or (option_and_then (λ n. slice_get p.functions n) c.constructor) nowhere
+
+abbrev pub site_of : Plain → Function → ℕ → List Part → Grown → Site
+site_of p f object path g = record { plain = p; function = f; object = object; path = path; now = g }
+
+-- an object of a class: itself, its parameters, its members, then the rest
+abbrev pub built_in : Plain → Building → Class → ℕ → Building
+built_in p inner c number g path place n args = and_made (added g path place (design.Module number)) (λ g.
+    let f = function_of p c in let object = length g.objects - 1 in
+    and_made (args g) (λ gs. let s = site_of p f object path g in
+    and_made (made_members inner s 0 c.members f.inits (params_given object 0 f.params f.locals gs g)) (run_rest (making inner) s (inits_of None f.inits) f.body)))
+
+-- A path has at most 64 parts, so objects stand at most so deep in one another.
+abbrev pub built : Plain → ℕ → Building
+built p zero g path place n args = Stopped (refused reason.TooManyObjects place)
+built p (suc levels) g path place n args = unwrap_or (option_map (λ c. built_in p (built p levels) c n g path place n args) (slice_get p.classes n)) (Made g)
+
+abbrev pub object_levels : ℕ
+object_levels = 66
+
+abbrev pub grown_of : Tried Grown → Option Grown
+grown_of (Made g) = Some g
+grown_of (Stopped r) = None
