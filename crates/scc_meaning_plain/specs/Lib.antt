@@ -14,4 +14,7 @@ pub mod Construct
 pub mod Made
 pub mod After
 pub mod Elaborated
+pub mod Meant
 pub mod Worked
+pub mod WorkedMade
+pub mod WorkedRun

@@ -8,6 +8,9 @@ ghost use Rattle.scc_meaning_plain.specs.Grown.{nothing};
 ghost use Rattle.scc_meaning_plain.specs.Made.{built, none_given, grown_of};
 ghost use Rattle.scc_meaning_plain.specs.Elaborated.{elaborated};
 ghost use Rattle.scc_meaning_core.specs.Resolved.{Made};
+ghost use Rattle.scc_meaning_plain.specs.WorkedMade.{pointers, nodes_of};
+ghost use Rattle.scc_meaning_plain.specs.WorkedRun.{word_after};
+ghost use Rattle.scc_meaning_plain.specs.Design as design;
 ghost use Rattle.scc_meaning_plain.specs.Worked.{here, int, program, made, copied, load};
 
 /// `m = pick(1) + pick(0)`: each call is copied with a result and a parameter of its own.
@@ -25,4 +28,15 @@ pub fn the_top_is_made()
 /// Its design: the top, its variable, and no process, since its constructor declares none.
 pub fn the_top_is_elaborated()
     ensures { elaborated false program ≡ Some (Made (record { objects = made.objects; processes = []; targets = []; vectors = [] })) }
+{}
+
+/// Objects are made in order, a pointer leads to what `new` makes at its path, and a member that a pointer leads to keeps what was written: 3 + 0 + 1,
+/// and 4 more.
+pub fn pointers_lead_to_what_is_made()
+    ensures { nodes_of (elaborated false pointers) ≡ design.Module 1 ∷ design.Pointer (Some 5) ∷ design.Module 0 ∷ design.Variable int 4 ∷ design.Pointer (Some 3) ∷ design.Module 0 ∷ design.Variable int 8 ∷ [] }
+{}
+
+/// The method runs its calls: 1 and 0 are 1.
+pub fn a_method_with_calls_runs()
+    ensures { word_after ≡ Some 1 }
 {}
