@@ -13,7 +13,7 @@ use Rattle.scc_meaning_plain.specs.Program.{Base, Code, End, Declare, Assign, Po
 use Rattle.scc_meaning_plain.specs.Types.{declared_at, is_direct}
 use Rattle.scc_meaning_plain.specs.Bodies.{elements}
 use Rattle.scc_meaning_plain.specs.Grown.{Grown, at_path, local_of, pointer_at, with_word, with_target, with_made, with_turn, with_declared}
-use Rattle.scc_meaning_plain.specs.Worth.{Site, at_now, spot, worth, target, assigned, local_there}
+use Rattle.scc_meaning_plain.specs.Worth.{Site, at_now, spot, worth, target, assigned, local_there, Given, given}
 use Rattle.scc_meaning_plain.specs.Binding.{bind, items_of, declare, channel, changed_at, with_items, with_reset}
 
 -- What stands while a constructor runs: what is made, and the last process that it declared.
@@ -43,17 +43,6 @@ from_tried (Stopped r) f = Halted r
 
 abbrev pub grow : Now → Tried Grown → (Now → Ran) → Ran
 grow n t f = from_tried t (λ g. f (record { grown = g; last = n.last }))
-
--- an argument as a constructor takes it
-pub data Given : Type 0 where
-  Word : (word : ℕ) → Given
-  Place_given : (target : Option Location) → Given
-
-abbrev pub given : Site → List Argument → Tried (List Given)
-given s [] = Made []
-given s (Value e ∷ args) = and_made (worth s e) (λ w. made_map (λ gs. Word w ∷ gs) (given s args))
-given s (Leads t ∷ args) = and_made (target s t) (λ o. made_map (λ gs. Place_given o ∷ gs) (given s args))
-given s (ModuleName ∷ args) = given s args
 
 -- How a thing of a base is made at a path, by arguments that are evaluated once the thing is there.
 abbrev pub Making : Type 0

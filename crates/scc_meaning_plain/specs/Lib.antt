@@ -11,9 +11,12 @@ pub mod Grown
 pub mod Worth
 pub mod Binding
 pub mod Construct
+pub mod Inits
 pub mod Made
 pub mod After
 pub mod Elaborated
+pub mod Static
+pub mod Spoken
 pub mod Meant
 pub mod Worked
 pub mod WorkedMade

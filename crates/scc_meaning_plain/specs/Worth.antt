@@ -121,3 +121,14 @@ assigned s l k e = and_made (spot s false true l) (λ o. and_made (worth s e) (�
     put_at : Option Location → ℕ → Tried Grown
     put_at None x = Made s.now
     put_at (Some l) x = put_word l x (kind_there s l)
+
+-- an argument as a constructor takes it
+pub data Given : Type 0 where
+  Word : (word : ℕ) → Given
+  Place_given : (target : Option Location) → Given
+
+abbrev pub given : Site → List Argument → Tried (List Given)
+given s [] = Made []
+given s (Value e ∷ args) = and_made (worth s e) (λ w. made_map (λ gs. Word w ∷ gs) (given s args))
+given s (Leads t ∷ args) = and_made (target s t) (λ o. made_map (λ gs. Place_given o ∷ gs) (given s args))
+given s (ModuleName ∷ args) = given s args

@@ -3,7 +3,8 @@ ghost use Rattle.std.specs.Prelude.{◌≡◌, ℕ, List, [], ◌∷◌, length,
 ghost use Rattle.scc_bits.specs.declared.op.Op.TheVariants as op;
 ghost use Rattle.scc_meaning_core.specs.Term as core;
 ghost use Rattle.scc_meaning_core.specs.Code as stmt;
-ghost use Rattle.scc_meaning_plain.specs.Inlined.{copied_body, core_cells, too_large};
+ghost use Rattle.scc_meaning_plain.specs.Static.{inlined};
+ghost use Rattle.scc_meaning_plain.specs.Inlined.{copied_program, copied_body, core_cells, too_large};
 ghost use Rattle.scc_meaning_plain.specs.Grown.{nothing};
 ghost use Rattle.scc_meaning_plain.specs.Made.{built, none_given, grown_of};
 ghost use Rattle.scc_meaning_plain.specs.Elaborated.{elaborated};
@@ -39,4 +40,9 @@ pub fn pointers_lead_to_what_is_made()
 /// The method runs its calls: 1 and 0 are 1.
 pub fn a_method_with_calls_runs()
     ensures { word_after ≡ Some 1 }
+{}
+
+/// Nothing is refused of that program's method.
+pub fn calls_are_accepted()
+    ensures { inlined program made ≡ Made (copied_program program made) }
 {}

@@ -1,12 +1,12 @@
 -- The machine: one statement a step, over frames of statements still to do (IEEE 1666-2011, 5.2: processes and wait).
 use Rattle.std.specs.Prelude.{ℕ, zero, suc, Bool, true, false, List, [], ◌∷◌, Option, Some, None}
-use Rattle.scc_meaning.specs.Location.{Location, Local, Answer}
+use Rattle.scc_meaning.specs.Location.{Location}
 use Rattle.scc_meaning.specs.Design.{Thing, Number, Signal, Port, Places}
 use Rattle.scc_meaning.specs.Body.{Expr, Left, Argument, Value, Place}
 use Rattle.scc_meaning.specs.Store.{Store, changed}
 use Rattle.scc_meaning.specs.Value.{Names, Scene, followed}
 use Rattle.scc_running.specs.Body.{Body, End, Assign, Point, Clear, If, Block, Loop, Exit, Call, Begin, Pass, Return, Wait}
-use Rattle.scc_running.specs.Value.{locate, value, target_of, Held, with_words, with_targets, put_at}
+use Rattle.scc_running.specs.Value.{locate, value, target_of, Held, with_words, with_targets, put_at, local, answer, called, object_of}
 
 -- what the frame's statements stand behind, when the frame above them is left
 pub data Mark : Type 0 where
@@ -83,20 +83,6 @@ zeroed _ h l = h
 
 abbrev pub cleared : Places → Held → Location → Held
 cleared places h l = pointed_at (places.pointers l) (zeroed (places.things l) h l) l None
-
-abbrev pub local : Names → ℕ → Location
-local names d = record { root = Local names.process names.calls d; path = [] }
-
-abbrev pub answer : Names → Location
-answer names = record { root = Answer names.process names.calls; path = [] }
-
--- the names inside a call
-abbrev pub called : Names → ℕ → Option Location → Names
-called names number object = record { process = names.process; calls = number ∷ names.calls; object = object }
-
-abbrev pub object_of : Scene → Option Left → Option (Option Location)
-object_of s None = Some s.names.object
-object_of s (Some left) = locate s left
 
 -- the machine's surroundings in one resume: the design's places and functions, and the signals' words, which stay
 module _ (places : Places) (functions : ℕ → Body) (signals : Location → ℕ) where

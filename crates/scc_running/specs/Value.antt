@@ -75,3 +75,18 @@ put_at (Some (Number k)) s h l p new = option_map (λ w. with_words h (changed l
 put_at (Some (Signal k)) s h l p new = option_map (λ w. asked h l new) (picked s k p 0 new)
 put_at (Some (Port k root)) s h l p new = option_map (λ w. asked h root new) (picked s k p 0 new)
 put_at None s h l p new = option_map (λ w. h) (picked s kind.Bool p 0 new)
+
+-- a local and the result of the function at hand
+abbrev pub local : Names → ℕ → Location
+local names d = record { root = Local names.process names.calls d; path = [] }
+
+abbrev pub answer : Names → Location
+answer names = record { root = Answer names.process names.calls; path = [] }
+
+-- the names inside a call
+abbrev pub called : Names → ℕ → Option Location → Names
+called names number object = record { process = names.process; calls = number ∷ names.calls; object = object }
+
+abbrev pub object_of : Scene → Option Left → Option (Option Location)
+object_of s None = Some s.names.object
+object_of s (Some left) = locate s left
