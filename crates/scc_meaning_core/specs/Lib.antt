@@ -25,3 +25,4 @@ pub mod Source
 pub mod Constants
 pub mod Worked
 pub mod WorkedRun
+pub mod WorkedRules

@@ -1,13 +1,15 @@
 //! Laws that cite the definitions.
 ghost use Rattle.std.specs.Prelude.{◌≡◌, ℕ, List, [], ◌∷◌, length, drop, Option, Some, None, true, false};
 ghost use Rattle.scc_base.specs.declared.refusal.Refusal.{Refusal};
-ghost use Rattle.scc_meaning_core.specs.Term.{Term};
+ghost use Rattle.scc_meaning_core.specs.Term.{Cell, Read, Term};
+ghost use Rattle.scc_bits.specs.declared.kind.Kind.TheVariants as kind;
+ghost use Rattle.scc_meaning_core.specs.WorkedRules.{at, keeping, latching, may_not_wait, sharing};
 ghost use Rattle.scc_meaning_core.specs.Code.{Code, End, If, Block, numbered, size};
 ghost use Rattle.scc_meaning_core.specs.Program.{Program, Process};
 ghost use Rattle.scc_meaning_core.specs.Static.{static, Cells};
 ghost use Rattle.scc_meaning_core.specs.Segments.{Plain, Test, Halt, Finish, segment, segments, all_segments};
 ghost use Rattle.scc_meaning_core.specs.Sizes.{bound, loops_deep, states, thread_statements, live_body};
-ghost use Rattle.scc_meaning_core.specs.First.{first_of, refused, TellsFirst};
+ghost use Rattle.scc_meaning_core.specs.First.{first_of, refused, refused_beside, TellsFirst};
 ghost use Rattle.scc_meaning_core.specs.Paths.{Misses};
 ghost use Rattle.scc_meaning_core.specs.Flow.{TellsMisses, TellsIdle};
 ghost use Rattle.scc_meaning_core.specs.Kept.{kept, is_kept, TellsKept};
@@ -76,4 +78,22 @@ pub fn nothing_has_no_pointers()
 /// The counting thread as a design shows 0, 1 and 2 after its edges, whatever storage held at first.
 pub fn the_counting_thread_counts()
     ensures { counts ≡ (0 ∷ []) ∷ (1 ∷ []) ∷ (2 ∷ []) ∷ [] }
+{}
+
+/// A thread with a wait in a branch: three states, and the rest behind each way.
+pub fn a_wait_in_a_branch_is_cut()
+    ensures waits { states count_cells branch_body ≡ 3 }
+    ensures cut { all_segments (live_body count_cells branch_body) ≡
+        Test here (Read here kind.Bool (Cell here 1)) (Halt here 0 1) (Plain (put 3 (byte 0) End) (Halt here 1 1))
+        ∷ Plain (put 3 (byte 0) End) (Halt here 1 1)
+        ∷ Plain (put 2 (load 3) End) (Plain (put 3 one_more End) (Halt here 2 1))
+        ∷ Plain (put 2 (load 3) End) (Plain (put 3 one_more End) (Halt here 2 1)) ∷ [] }
+{}
+
+/// What is refused of bodies, and where.
+pub fn broken_rules_are_refused()
+    ensures shared { first_rule sharing ≡ Some (refused_beside reason.SharedVariable (at 3) (at 2)) }
+    ensures idle { first_rule may_not_wait ≡ Some (refused reason.LoopMayNotWait (at 8)) }
+    ensures latch { first_rule latching ≡ Some (refused reason.Latch (at 5)) }
+    ensures kept { first_rule keeping ≡ Some (refused reason.CombState here) }
 {}

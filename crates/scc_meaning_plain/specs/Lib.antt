@@ -18,6 +18,7 @@ pub mod Elaborated
 pub mod Static
 pub mod Spoken
 pub mod Meant
+pub mod Stages
 pub mod Worked
 pub mod WorkedMade
 pub mod WorkedRun

@@ -8,10 +8,11 @@ ghost use Rattle.scc_meaning_plain.specs.Inlined.{copied_program, copied_body, c
 ghost use Rattle.scc_meaning_plain.specs.Grown.{nothing};
 ghost use Rattle.scc_meaning_plain.specs.Made.{built, none_given, grown_of};
 ghost use Rattle.scc_meaning_plain.specs.Elaborated.{elaborated};
-ghost use Rattle.scc_meaning_core.specs.Resolved.{Made};
+ghost use Rattle.scc_meaning_core.specs.Resolved.{and_made, made_map, Made};
 ghost use Rattle.scc_meaning_plain.specs.WorkedMade.{pointers, nodes_of};
 ghost use Rattle.scc_meaning_plain.specs.WorkedRun.{word_after};
 ghost use Rattle.scc_meaning_plain.specs.Design as design;
+ghost use Rattle.scc_meaning_plain.specs.Stages.{accepted, compiled};
 ghost use Rattle.scc_meaning_plain.specs.Worked.{here, int, program, made, copied, load};
 
 /// `m = pick(1) + pick(0)`: each call is copied with a result and a parameter of its own.
@@ -45,4 +46,10 @@ pub fn a_method_with_calls_runs()
 /// Nothing is refused of that program's method.
 pub fn calls_are_accepted()
     ensures { inlined program made ≡ Made (copied_program program made) }
+{}
+
+/// The method with its calls goes through all stages behind construction; a top without processes through all.
+pub fn the_stages_accept()
+    ensures calls { and_made (inlined program made) accepted ≡ Made (copied_program program made) }
+    ensures top { option_map (λ t. made_map (λ c. c.processes) t) (compiled false program) ≡ Some (Made []) }
 {}
