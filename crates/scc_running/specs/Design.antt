@@ -1,8 +1,8 @@
 -- Designs: what stands at their locations, the ports of the top, and the processes (IEEE 1666-2011, 4.2 and 5.2).
-use Rattle.std.specs.Prelude.{ℕ, Bool, true, false, not, ◌&&◌, ◌||◌, List, [], ◌∷◌, map, filter, Option, Some, None}
+use Rattle.std.specs.Prelude.{ℕ, Bool, true, false, not, List, [], ◌∷◌, map, filter, Option}
 use Rattle.std.specs.List.{list_any}
 use Rattle.scc_meaning.specs.Location.{Location, same}
-use Rattle.scc_meaning.specs.Design.{Thing, Places, Edge, Reset, Sort, Combinational, Clocked, Thread}
+use Rattle.scc_meaning.specs.Design.{Places, Edge, Sort, Combinational, Clocked, Thread}
 use Rattle.scc_running.specs.Body.{Body}
 
 pub record Process : Type 0 where

@@ -7,3 +7,4 @@ pub mod Run
 pub mod Start
 pub mod Same
 pub mod Schedule
+pub mod Statement

@@ -1,9 +1,9 @@
 -- The machine: one statement a step, over frames of statements still to do (IEEE 1666-2011, 5.2: processes and wait).
-use Rattle.std.specs.Prelude.{ℕ, zero, suc, Bool, true, false, List, [], ◌∷◌, Option, Some, None}
+use Rattle.std.specs.Prelude.{ℕ, zero, suc, Bool, true, false, Option, Some, None}
 use Rattle.scc_meaning.specs.Location.{Location}
-use Rattle.scc_meaning.specs.Design.{Thing, Number, Signal, Port, Places}
-use Rattle.scc_meaning.specs.Body.{Expr, Left, Argument, Value, Place}
-use Rattle.scc_meaning.specs.Store.{Store, changed}
+use Rattle.scc_meaning.specs.Design.{Thing, Number, Places}
+use Rattle.scc_meaning.specs.Body.{Expr, Argument, Value, Place}
+use Rattle.scc_meaning.specs.Store.{changed}
 use Rattle.scc_meaning.specs.Value.{Names, Scene, followed}
 use Rattle.scc_running.specs.Body.{Body, End, Assign, Point, Clear, If, Block, Loop, Exit, Call, Begin, Pass, Return, Wait}
 use Rattle.scc_running.specs.Value.{locate, value, target_of, Held, with_words, with_targets, put_at, local, answer, called, object_of}

@@ -1,13 +1,12 @@
 -- Steps of a design, what is observed in them, and starts (IEEE 1666-2011, 4.2.1; a step and what it shows are this project's own).
-use Rattle.std.specs.Prelude.{◌≡◌, ℕ, ◌+◌, ◌<◌, ◌^◌, List, [], ◌∷◌, ◌++◌, map, Bool, true, false, not, ◌&&◌, Option, Some, None}
+use Rattle.std.specs.Prelude.{◌≡◌, ℕ, ◌<◌, ◌^◌, List, [], ◌∷◌, map, Bool, true, false, ◌&&◌, Option, Some, None}
 use Rattle.std.specs.List.{list_any}
 use Rattle.scc_bits.specs.Kinds.{width_of}
 use Rattle.scc_meaning.specs.Location.{Location, same}
 use Rattle.scc_meaning.specs.Design.{Thing, Number, Signal, Port, Sort, Combinational, Clocked, Thread}
 use Rattle.scc_meaning.specs.Store.{changed}
 use Rattle.scc_running.specs.Design.{Process, Design, clocks, inputs, outputs}
-use Rattle.scc_running.specs.Machine.{Frames}
-use Rattle.scc_running.specs.Process.{State, Went, Well, and_then, is_active, first_frames, phase, settle}
+use Rattle.scc_running.specs.Process.{State, Went, Well, and_then, is_active, phase, settle}
 
 -- One word for each input but the clocks; and the clocks that have their edge, or None for a step without an edge. A design without
 -- clocks has an edge that no process meets.

@@ -1,9 +1,8 @@
 -- What a process shows over a list of resumes, and when two designs mean the same, process by process. This project's own.
-use Rattle.std.specs.Prelude.{◌≡◌, ℕ, ◌+◌, ◌*◌, Bool, true, false, List, [], ◌∷◌, map, length, Option, Some, None, if◌then◌else◌, slice_get}
+use Rattle.std.specs.Prelude.{◌≡◌, ℕ, ◌+◌, ◌*◌, Bool, List, [], ◌∷◌, map, Option, Some, None, if◌then◌else◌}
 use Rattle.scc_meaning.specs.Location.{Location}
-use Rattle.scc_meaning.specs.Design.{Places, Sort}
 use Rattle.scc_meaning.specs.Store.{Request}
-use Rattle.scc_running.specs.Design.{Process, Design, TopPort}
+use Rattle.scc_running.specs.Design.{Process, Design}
 use Rattle.scc_running.specs.Value.{Held}
 use Rattle.scc_running.specs.Machine.{Frames, Stop, Outcome, Suspended, Ended, Stuck, Unfinished, run}
 use Rattle.scc_running.specs.Process.{first_frames}

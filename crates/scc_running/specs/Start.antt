@@ -1,9 +1,9 @@
 -- Starts, and that each clock's first edge finds the declared resets active. This project's own: the initialization phase of IEEE 1666-2011, 4.2.1.1
 -- isn't run, and storage may hold anything.
-use Rattle.std.specs.Prelude.{◌≡◌, ℕ, ◌+◌, Bool, true, false, not, ◌&&◌, ◌||◌, List, [], ◌∷◌, ◌++◌, Option, Some, None, unwrap_or, if◌then◌else◌}
+use Rattle.std.specs.Prelude.{◌≡◌, ℕ, ◌+◌, Bool, true, not, ◌||◌, List, [], ◌∷◌, ◌++◌, Option, Some, None, unwrap_or}
 use Rattle.std.specs.List.{list_any, list_all}
 use Rattle.scc_meaning.specs.Location.{Location, same}
-use Rattle.scc_meaning.specs.Design.{Thing, Reset, Sort, Combinational, Clocked, Thread}
+use Rattle.scc_meaning.specs.Design.{Sort, Thread}
 use Rattle.scc_running.specs.Design.{Process, Design}
 use Rattle.scc_running.specs.Machine.{Frames}
 use Rattle.scc_running.specs.Process.{State, is_active, first_frames}

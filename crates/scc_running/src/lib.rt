@@ -2,4 +2,4 @@
 #![tactic(auto)]
 
 mod laws;
-pub use laws::{a_design_without_processes_shows_its_ports, nothing_differs_from_nothing};
+pub use laws::{a_design_without_processes_shows_its_ports, nothing_differs_from_nothing, nothing_is_shown_alike};
