@@ -1,6 +1,6 @@
 -- Two processes that meet in one root or variable. IEEE 1666-2011, 6.4.4 has one writer of a signal; that variables are not shared is
 -- this project's own.
-use Rattle.std.specs.Prelude.{ℕ, Bool, true, false, ◌&&◌, ◌||◌, List, [], ◌∷◌, ◌++◌, map, flat_map, Option, Some, None, option_map, option_and_then}
+use Rattle.std.specs.Prelude.{ℕ, Bool, ◌&&◌, ◌||◌, List, [], ◌∷◌, ◌++◌, map, flat_map, Option, None}
 use Rattle.std.specs.List.{list_any}
 use Rattle.scc_base.specs.declared.refusal.Refusal.{Refusal}
 use Rattle.scc_base.specs.declared.code.Code.{Code as Reason}

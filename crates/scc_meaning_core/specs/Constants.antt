@@ -1,7 +1,6 @@
 -- What no process writes is constant: a variable holds what construction left, a signal or output 0. And the text of a name in emitted text. This
 -- project's own.
-use Rattle.std.specs.Prelude.{ℕ, ◌+◌, Bool, true, false, not, List, [], ◌∷◌, ◌++◌, map, flat_map, decimal, Option, Some, None, option_and_then}
-use Rattle.std.specs.List.{range_with_len}
+use Rattle.std.specs.Prelude.{ℕ, ◌+◌, Bool, true, false, List, [], ◌∷◌, ◌++◌, flat_map, decimal, Option, Some, None}
 use Rattle.scc_meaning.specs.Location.{Location, Part, Member, Element, same}
 use Rattle.scc_meaning_core.specs.Term.{CellName, Own}
 use Rattle.scc_meaning_core.specs.Program.{Program, Process, Sort, Input, Output, Signal, Variable}

@@ -1,11 +1,10 @@
 -- Which combinational method feeds which, cycles of them, and their order (IEEE 1666-2011, 4.2.1: the evaluation phase runs methods in any
 -- order; that there is no cycle is this project's own).
-use Rattle.std.specs.Prelude.{◌≡◌, ◌⊎◌, ◌<◌, ℕ, zero, suc, Bool, true, false, ◌&&◌, ◌||◌, not, nat_eq, nat_lt, List, [], ◌∷◌, ◌++◌, flat_map, filter, length, Option, Some, None, option_map, slice_get, unwrap_or}
+use Rattle.std.specs.Prelude.{◌≡◌, ◌⊎◌, ◌<◌, ℕ, zero, suc, Bool, true, false, ◌&&◌, ◌||◌, not, nat_eq, List, [], ◌∷◌, ◌++◌, flat_map, filter, length, option_map, slice_get, unwrap_or}
 use Rattle.std.specs.List.{list_any, list_all, range_with_len}
 use Rattle.scc_meaning_core.specs.Program.{Process, Program, is_root, is_combinational}
-use Rattle.scc_meaning_core.specs.Static.{Cells}
 use Rattle.scc_meaning_core.specs.Live.{live}
-use Rattle.scc_meaning_core.specs.Uses.{Act, acts, reads_of, writes_of, among, has_sort}
+use Rattle.scc_meaning_core.specs.Uses.{acts, reads_of, writes_of, among, has_sort}
 
 -- a property of the process of that number
 abbrev pub of_process : {A : Type 0} → A → (Process → A) → Program → ℕ → A

@@ -1,13 +1,12 @@
 -- One walk forward with sets of cells, those that some path to here hasn't written whole; and the loops through whose bodies a path
 -- goes without a wait. What they tell of paths is said by `TellsMisses`, `TellsEarly` and `TellsIdle`.
-use Rattle.std.specs.Prelude.{◌≡◌, ℕ, suc, Bool, true, false, ◌||◌, ◌&&◌, not, nat_eq, List, [], ◌∷◌, ◌++◌, Option, Some, None, filter, map}
+use Rattle.std.specs.Prelude.{◌≡◌, ℕ, suc, Bool, true, false, ◌||◌, ◌&&◌, not, nat_eq, List, [], ◌∷◌, ◌++◌, filter, map}
 use Rattle.std.specs.List.{list_any}
 use Rattle.scc_base.specs.declared.refusal.Place.{Place}
-use Rattle.scc_meaning_core.specs.Term.{Term, Left, Pick}
 use Rattle.scc_meaning_core.specs.Code.{Code, End, Put, Aim, If, Block, Loop, Exit, Wait}
 use Rattle.scc_meaning_core.specs.Static.{Cells}
 use Rattle.scc_meaning_core.specs.Uses.{Use, loads, inside, picked, cells_of, whole_writes, among}
-use Rattle.scc_meaning_core.specs.Paths.{Misses, Early, MayNotWait}
+use Rattle.scc_meaning_core.specs.Paths.{Misses, MayNotWait}
 
 abbrev pub CellSet : Type 0
 CellSet = ℕ → Bool

@@ -1,14 +1,13 @@
 -- Locations as far as their names are known: members and static indices in range go into the name, a whole name is its cell, and a port below the
 -- top its root's. This project's own.
-use Rattle.std.specs.Prelude.{ℕ, ◌+◌, Bool, true, false, ◌&&◌, nat_eq, nat_lt, List, [], ◌∷◌, ◌++◌, Option, Some, None, option_map, option_and_then, slice_get, unwrap_or, if◌then◌else◌}
-use Rattle.scc_base.specs.declared.refusal.Place.{Place}
+use Rattle.std.specs.Prelude.{ℕ, Bool, nat_eq, nat_lt, List, [], ◌∷◌, ◌++◌, Option, Some, None, option_map, slice_get, unwrap_or, if◌then◌else◌}
 use Rattle.scc_meaning.specs.Location.{Part, Element}
 use Rattle.scc_meaning.specs.Location as location
 use Rattle.scc_meaning.specs.Value.{index_of}
-use Rattle.scc_meaning_core.specs.Term.{Term, Left, Cell, Prefix, Null, Follow, Member, Index, CellName, Own, kind_of}
+use Rattle.scc_meaning_core.specs.Term.{Term, Left, Cell, Prefix, Member, Index, CellName, Own, kind_of}
 use Rattle.scc_meaning_core.specs.Program.{Vector}
 use Rattle.scc_meaning_core.specs.Named.{Step, steps_of, cell_at, path_steps, fits}
-use Rattle.scc_meaning_core.specs.Static.{Cells, static, pattern}
+use Rattle.scc_meaning_core.specs.Static.{Cells, static}
 use Rattle.scc_meaning_core.specs.Uses.{root_of}
 
 -- a name with one more part: behind a local an index of it

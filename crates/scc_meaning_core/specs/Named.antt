@@ -1,5 +1,5 @@
 -- Names by patterns: which cells a location may name, whatever its indices that are not static are.
-use Rattle.std.specs.Prelude.{ℕ, zero, suc, ◌+◌, ◌*◌, Bool, true, false, not, ◌&&◌, ◌||◌, nat_eq, nat_lt, List, [], ◌∷◌, ◌++◌, map, Option, Some, None, if◌then◌else◌}
+use Rattle.std.specs.Prelude.{ℕ, ◌+◌, ◌*◌, Bool, true, false, not, ◌&&◌, nat_eq, nat_lt, List, [], ◌∷◌, ◌++◌, map, Option, Some, None, if◌then◌else◌}
 use Rattle.scc_meaning.specs.Location.{Part}
 use Rattle.scc_meaning.specs.Location as location
 use Rattle.scc_meaning_core.specs.Term.{CellName, Own}

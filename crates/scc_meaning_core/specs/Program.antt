@@ -1,5 +1,5 @@
 -- A core: its cells and processes (IEEE 1666-2011, 5.2 processes, 6.4 signals, 6.5 ports).
-use Rattle.std.specs.Prelude.{ℕ, Bool, true, false, Option, Some, None, List, [], ◌∷◌}
+use Rattle.std.specs.Prelude.{ℕ, Bool, true, false, Option, None, List}
 use Rattle.scc_base.specs.declared.refusal.Place.{Place}
 use Rattle.scc_bits.specs.declared.kind.Kind.{Kind}
 use Rattle.scc_meaning.specs.Location.{Part}

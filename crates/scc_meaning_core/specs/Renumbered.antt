@@ -1,12 +1,11 @@
 -- A core without pointers: the cells that are no pointers keep their order and are numbered anew.
-use Rattle.std.specs.Prelude.{ℕ, ◌+◌, Bool, true, false, not, List, [], ◌∷◌, map, filter, length, take, Option, Some, None, option_map}
-use Rattle.scc_base.specs.declared.refusal.Refusal.{Refusal}
+use Rattle.std.specs.Prelude.{ℕ, Bool, not, List, [], ◌∷◌, map, filter, length, take, option_map}
 use Rattle.scc_meaning_core.specs.Term.{Term, Literal, Load, Read, Convert, Unary, Binary, Choose, Bit, Range, Join, Left, Cell, Prefix, Null, Follow, Member, Index, Pick, Whole, OneBit, Bits}
 use Rattle.scc_meaning_core.specs.Code.{Code, Count, Pointed, Declared, Assigned, End, Put, Aim, If, Block, Loop, Exit, Wait}
 use Rattle.scc_meaning_core.specs.Program.{Process, Program, Edge, Reset, is_pointer}
 use Rattle.scc_meaning_core.specs.Program as program
 use Rattle.scc_meaning_core.specs.Static.{Cells}
-use Rattle.scc_meaning_core.specs.Resolved.{Tried, Made, Stopped, and_made, made_map}
+use Rattle.scc_meaning_core.specs.Resolved.{Tried, Made, and_made, made_map}
 use Rattle.scc_meaning_core.specs.Unpointed.{unpointed, at_first}
 
 abbrev pub is_kept_cell : program.Cell → Bool

@@ -1,14 +1,12 @@
 -- Resolved bodies: objects in place of the pointers and references that lead to them (ISO C++ [dcl.ref], [dcl.ptr]), and what is refused. This
 -- project's own: where each leads is known before anything runs.
-use Rattle.std.specs.Prelude.{ℕ, suc, ◌+◌, Bool, true, false, not, ◌&&◌, ◌||◌, nat_eq, List, [], ◌∷◌, ◌++◌, map, Option, Some, None, option_map, option_and_then, slice_get, unwrap_or, if◌then◌else◌}
-use Rattle.std.specs.List.{list_any}
+use Rattle.std.specs.Prelude.{ℕ, Bool, true, false, ◌||◌, List, [], Option, Some, None, option_map, option_and_then, unwrap_or, if◌then◌else◌}
 use Rattle.scc_base.specs.declared.refusal.Place.{Place}
 use Rattle.scc_base.specs.declared.refusal.Refusal.{Refusal}
 use Rattle.scc_base.specs.declared.code.Code.TheVariants as reason
-use Rattle.scc_meaning.specs.Location.{Part}
 use Rattle.scc_meaning_core.specs.Term.{Term, Literal, Load, Read, Convert, Unary, Binary, Choose, Bit, Range, Join, Left, Cell, Prefix, Null, Follow, Member, Index, place_at}
 use Rattle.scc_meaning_core.specs.Program.{Vector, Pointer, Sort}
-use Rattle.scc_meaning_core.specs.Named.{Step, cell_at, fits, path_steps, is_open, chooses_object}
+use Rattle.scc_meaning_core.specs.Named.{Step, cell_at, is_open, chooses_object}
 use Rattle.scc_meaning_core.specs.Static.{Cells, pattern}
 use Rattle.scc_meaning_core.specs.Uses.{sort_at}
 use Rattle.scc_meaning_core.specs.Fold.{as_name, member_of, element_of, whole}

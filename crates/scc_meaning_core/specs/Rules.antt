@@ -1,17 +1,17 @@
 -- The rules of processes, code by code in the order of their numbers, within a code process by process and statement by statement.
 -- What they read and write is taken from live parts, E507 and E513 from whole bodies.
-use Rattle.std.specs.Prelude.{ℕ, suc, Bool, true, false, ◌&&◌, ◌||◌, not, nat_eq, List, [], ◌∷◌, ◌++◌, map, flat_map, filter, Option, Some, None, option_map, unwrap_or, slice_get, if◌then◌else◌}
-use Rattle.std.specs.List.{list_any, list_all}
+use Rattle.std.specs.Prelude.{ℕ, Bool, ◌&&◌, ◌||◌, not, nat_eq, List, [], ◌∷◌, ◌++◌, flat_map, Option, Some, None, if◌then◌else◌}
+use Rattle.std.specs.List.{list_any}
 use Rattle.scc_base.specs.declared.refusal.Place.{Place}
 use Rattle.scc_base.specs.declared.refusal.Refusal.{Refusal}
 use Rattle.scc_base.specs.declared.code.Code.{Code as Reason}
 use Rattle.scc_base.specs.declared.code.Code.TheVariants as reason
-use Rattle.scc_meaning_core.specs.Term.{Left, Pick, place_at}
+use Rattle.scc_meaning_core.specs.Term.{place_at}
 use Rattle.scc_meaning_core.specs.Code.{Code, End, Put, Aim, If, Block, Loop, Exit, Wait}
 use Rattle.scc_meaning_core.specs.Program.{Process, Program, Edge, Reset, is_root, is_variable, is_local, is_combinational}
 use Rattle.scc_meaning_core.specs.Static.{Cells}
 use Rattle.scc_meaning_core.specs.Live.{alive, live}
-use Rattle.scc_meaning_core.specs.Uses.{Use, Act, acts, loads, inside, picked, cells_of, is_single, writes_of, among, has_sort}
+use Rattle.scc_meaning_core.specs.Uses.{Use, Act, loads, inside, picked, cells_of, is_single, writes_of, among, has_sort}
 use Rattle.scc_meaning_core.specs.Flow.{flow, every, idle_loops}
 use Rattle.scc_meaning_core.specs.Kept.{written_by}
 use Rattle.scc_meaning_core.specs.Feeding.{methods, feeds, reaches_in, of_process}
@@ -59,7 +59,7 @@ place_in p i = of_process [] (λ q. q.place ∷ []) p i
 abbrev pub comb_loop : Program → Option Refusal
 comb_loop p = first_of (λ i. if reaches_in p i i
     then first_of (λ j. if feeds p i j && (nat_eq j i || reaches_in p j i)
-        then first_of (λ a. first_of (λ b. Some (refused_beside reason.CombLoop a b)) (place_in p j)) (place_in p i) else None) (methods p) else None) (methods p)
+    then first_of (λ a. first_of (λ b. Some (refused_beside reason.CombLoop a b)) (place_in p j)) (place_in p i) else None) (methods p) else None) (methods p)
 
 -- E506: a combinational method reads a variable that some process writes, or any method a local, before it was written whole
 abbrev pub some_write : Program → List ℕ

@@ -1,5 +1,5 @@
 -- Segments of a live body: the code from a point to the next wait. This project's own way from `wait` (IEEE 1666-2011, 5.2.11) to states.
-use Rattle.std.specs.Prelude.{ℕ, zero, suc, ◌+◌, max, Bool, true, false, not, ◌||◌, nat_lt, List, [], ◌∷◌, ◌++◌, map, sum, length}
+use Rattle.std.specs.Prelude.{ℕ, zero, suc, ◌+◌, max, Bool, true, false, not, ◌||◌, nat_lt, List, [], ◌∷◌, ◌++◌, map, sum}
 use Rattle.scc_base.specs.declared.refusal.Place.{Place}
 use Rattle.scc_meaning_core.specs.Term.{Term}
 use Rattle.scc_meaning_core.specs.Code.{Code, End, Put, Aim, If, Block, Loop, Exit, Wait, size, height}

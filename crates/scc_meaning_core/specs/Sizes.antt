@@ -1,13 +1,13 @@
 -- Sizes of bodies and the bound on steps: this project's own.
-use Rattle.std.specs.Prelude.{ℕ, ◌+◌, ◌*◌, max, Bool, true, false, List, [], ◌∷◌, ◌++◌, map, sum, flat_map, Option, Some, None, option_map, unwrap_or, if◌then◌else◌}
+use Rattle.std.specs.Prelude.{ℕ, ◌+◌, ◌*◌, max, List, [], ◌∷◌, ◌++◌, map, sum, flat_map, Option, Some, None, option_map, unwrap_or, if◌then◌else◌}
 use Rattle.scc_meaning_core.specs.Term.{Left, Pick}
 use Rattle.scc_meaning_core.specs.Code.{Code, End, Put, Aim, If, Block, Loop, Exit, Wait, size, waits_in, holds_wait, numbered}
 use Rattle.scc_meaning_core.specs.Program.{Process, Program}
 use Rattle.scc_meaning_core.specs.Named.{Step, elements, open_count}
 use Rattle.scc_meaning_core.specs.Static.{Cells, pattern}
 use Rattle.scc_meaning_core.specs.Live.{live}
-use Rattle.scc_meaning_core.specs.Segments.{Segment, all_segments, segment_code, statements}
-use Rattle.scc_meaning_core.specs.Uses.{Use, Act, acts}
+use Rattle.scc_meaning_core.specs.Segments.{all_segments, segment_code, statements}
+use Rattle.scc_meaning_core.specs.Uses.{Act, acts}
 
 -- the greatest depth of loops that hold a wait, inside each other
 abbrev pub loops_deep : Code → ℕ

@@ -1,10 +1,10 @@
 -- What is refused of a thread that is cut into segments, and of the elements under indices that aren't static. The limits are this
 -- project's own.
-use Rattle.std.specs.Prelude.{ℕ, zero, suc, ◌+◌, ◌-◌, Bool, true, false, ◌&&◌, ◌||◌, not, nat_eq, nat_lt, List, [], ◌∷◌, ◌++◌, map, flat_map, length, drop, Option, Some, None, option_map, unwrap_or, if◌then◌else◌, is_some}
+use Rattle.std.specs.Prelude.{ℕ, zero, suc, ◌+◌, ◌-◌, Bool, true, false, ◌&&◌, ◌||◌, not, nat_eq, nat_lt, List, [], ◌∷◌, ◌++◌, flat_map, drop, Option, Some, None, option_map, unwrap_or, if◌then◌else◌, is_some}
 use Rattle.scc_base.specs.declared.refusal.Place.{Place}
 use Rattle.scc_base.specs.declared.refusal.Refusal.{Refusal}
 use Rattle.scc_base.specs.declared.code.Code.TheVariants as reason
-use Rattle.scc_meaning_core.specs.Term.{Term, Left, Pick, Whole, OneBit, Bits}
+use Rattle.scc_meaning_core.specs.Term.{Term, Left, Pick}
 use Rattle.scc_meaning_core.specs.Code.{Code, End, Put, Aim, If, Block, Loop, Exit, Wait}
 use Rattle.scc_meaning_core.specs.Program.{Process, Program, Reset}
 use Rattle.scc_meaning_core.specs.Static.{Cells, static, goes}

@@ -1,7 +1,6 @@
 -- Static values: of literals and of variables that no process can change. This project's own rule; C++ has constant expressions
 -- ([expr.const]) alone.
-use Rattle.std.specs.Prelude.{ℕ, zero, suc, Bool, true, false, List, [], ◌∷◌, ◌++◌, Option, Some, None, option_map, option_and_then, slice_get, find, nat_eq, if◌then◌else◌}
-use Rattle.scc_base.specs.declared.refusal.Place.{Place}
+use Rattle.std.specs.Prelude.{ℕ, zero, suc, Bool, true, false, List, [], ◌∷◌, ◌++◌, Option, Some, None, option_map, option_and_then, slice_get, find, if◌then◌else◌}
 use Rattle.scc_bits.specs.declared.kind.Kind.{Kind}
 use Rattle.scc_bits.specs.Kinds.{width_of, number_of, stored}
 use Rattle.scc_bits.specs.Values.{applied}

@@ -1,18 +1,16 @@
 -- Resolved processes: statements in their order, each with its left side before its value. A pointer that is declared leads where it is given,
 -- and an empty block stands in its place.
-use Rattle.std.specs.Prelude.{ℕ, zero, suc, ◌+◌, Bool, true, false, not, ◌&&◌, ◌||◌, nat_eq, List, [], ◌∷◌, map, filter, length, take, Option, Some, None, option_map, unwrap_or, if◌then◌else◌}
-use Rattle.std.specs.List.{list_any}
+use Rattle.std.specs.Prelude.{ℕ, Bool, true, false, ◌&&◌, nat_eq, Option, Some, None, option_map, unwrap_or, if◌then◌else◌}
 use Rattle.scc_base.specs.declared.refusal.Place.{Place}
 use Rattle.scc_base.specs.declared.refusal.Refusal.{Refusal}
 use Rattle.scc_base.specs.declared.code.Code.{Code as Reason}
 use Rattle.scc_base.specs.declared.code.Code.TheVariants as reason
-use Rattle.scc_meaning_core.specs.Term.{Term, Literal, Load, Read, Convert, Unary, Binary, Choose, Bit, Range, Join, Left, Cell, Prefix, Null, Follow, Member, Index, Pick, Whole, OneBit, Bits, place_at}
-use Rattle.scc_meaning_core.specs.Code.{Code, Count, Pointed, Declared, Assigned, End, Put, Aim, If, Block, Loop, Exit, Wait}
-use Rattle.scc_meaning_core.specs.Program.{Process, Program, Edge, Reset, is_pointer}
-use Rattle.scc_meaning_core.specs.Program as program
+use Rattle.scc_meaning_core.specs.Term.{Left, Pick, Whole, OneBit, Bits, place_at}
+use Rattle.scc_meaning_core.specs.Code.{Code, Count, Declared, Assigned, End, Put, Aim, If, Block, Loop, Exit, Wait}
+use Rattle.scc_meaning_core.specs.Program.{Program}
 use Rattle.scc_meaning_core.specs.Named.{is_open}
-use Rattle.scc_meaning_core.specs.Static.{Cells, pattern}
-use Rattle.scc_meaning_core.specs.First.{or_else, refused}
+use Rattle.scc_meaning_core.specs.Static.{pattern}
+use Rattle.scc_meaning_core.specs.First.{refused}
 use Rattle.scc_meaning_core.specs.Resolved.{Leads, Tried, Made, Stopped, and_made, made_map, resolved, walked, looked, sure, behind}
 
 abbrev pub resolved_left : Leads → Left → Pick → (Left → Pick → Tried Code) → Tried Code

@@ -1,14 +1,14 @@
 -- Unrolled bodies: counted loops written out turn by turn, and what is refused of them. This project's own.
-use Rattle.std.specs.Prelude.{ℕ, suc, ◌+◌, Bool, true, false, ◌||◌, nat_lt, List, [], ◌∷◌, ◌++◌, map, flat_map, filter, Option, Some, None, option_map, unwrap_or, slice_get, is_some, if◌then◌else◌}
+use Rattle.std.specs.Prelude.{ℕ, ◌+◌, Bool, true, false, nat_lt, List, [], ◌∷◌, ◌++◌, map, flat_map, Option, Some, None, option_map, unwrap_or, slice_get, if◌then◌else◌}
 use Rattle.scc_base.specs.declared.refusal.Place.{Place}
 use Rattle.scc_base.specs.declared.refusal.Refusal.{Refusal}
 use Rattle.scc_base.specs.declared.code.Code.TheVariants as reason
-use Rattle.scc_meaning_core.specs.Term.{Term, Literal, Left, Pick, Whole, place_of}
-use Rattle.scc_meaning_core.specs.Code.{Code, Count, Pointed, Declared, Assigned, End, Put, Aim, If, Block, Loop, Exit, Wait, append, size, holds_wait}
+use Rattle.scc_meaning_core.specs.Term.{Literal, Whole, place_of}
+use Rattle.scc_meaning_core.specs.Code.{Code, Count, Pointed, Declared, Assigned, End, Put, Aim, If, Block, Loop, Exit, Wait, size, holds_wait}
 use Rattle.scc_meaning_core.specs.Program.{Process, Program}
 use Rattle.scc_meaning_core.specs.Static.{Cells}
 use Rattle.scc_meaning_core.specs.Counted.{Counter, Turn, Turning, counting, counting_left, counting_pick, counted_by, turns_of, turning_of, inside_turn, kind_at}
-use Rattle.scc_meaning_core.specs.First.{or_else, first_of, first_some, when, refused}
+use Rattle.scc_meaning_core.specs.First.{or_else, first_of, when, refused}
 
 abbrev pub counting_count : List Counter → Count → Count
 counting_count ns c = record { cell = c.cell; start = counting ns c.start; compare = c.compare; bound = counting ns c.bound; step_op = c.step_op; step = counting ns c.step }

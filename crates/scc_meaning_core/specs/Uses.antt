@@ -1,14 +1,12 @@
 -- What a statement reads and writes, in the order of the walk: operands before operators, left before right, the indices of a
 -- location before it. This project's own order of refusals.
-use Rattle.std.specs.Prelude.{ℕ, Bool, true, false, ◌&&◌, ◌||◌, not, nat_eq, List, [], ◌∷◌, ◌++◌, ◌+◌, map, flat_map, Option, Some, None, option_map, slice_get, unwrap_or, length, if◌then◌else◌}
+use Rattle.std.specs.Prelude.{ℕ, Bool, true, false, ◌&&◌, ◌||◌, not, nat_eq, List, [], ◌∷◌, ◌++◌, ◌+◌, map, flat_map, Option, Some, None, option_map, slice_get, unwrap_or, if◌then◌else◌}
 use Rattle.std.specs.List.{list_any}
 use Rattle.scc_base.specs.declared.refusal.Place.{Place}
 use Rattle.scc_bits.specs.Kinds.{width_of}
-use Rattle.scc_meaning.specs.Location.{Part}
 use Rattle.scc_meaning_core.specs.Term.{Term, Literal, Load, Read, Convert, Unary, Binary, Choose, Bit, Range, Join, Left, Cell, Prefix, Null, Follow, Member, Index, Pick, Whole, OneBit, Bits}
-use Rattle.scc_meaning_core.specs.Code.{Code, End, Put, Aim, If, Block, Loop, Exit, Wait, Pointed, Declared, Assigned}
-use Rattle.scc_meaning_core.specs.Program as program
-use Rattle.scc_meaning_core.specs.Program.{Sort, Port, is_root, is_variable, is_local}
+use Rattle.scc_meaning_core.specs.Code.{Code, End, Put, Aim, If, Block, Loop, Exit, Wait}
+use Rattle.scc_meaning_core.specs.Program.{Sort, Port, is_root}
 use Rattle.scc_meaning_core.specs.Named.{cell_at, cells_at, path_steps, is_open}
 use Rattle.scc_meaning_core.specs.Static.{Cells, static, pattern}
 

@@ -1,5 +1,5 @@
 -- Bodies worked by hand: the counting thread, a thread with three states of which one stands in a branch, a kept and an unkept local.
-use Rattle.std.specs.Prelude.{ℕ, zero, suc, Bool, true, false, List, [], ◌∷◌, Option, Some, None}
+use Rattle.std.specs.Prelude.{ℕ, suc, Bool, true, false, List, [], ◌∷◌, Some, None}
 use Rattle.scc_base.specs.declared.refusal.Place.{Place}
 use Rattle.scc_bits.specs.declared.kind.Kind.{Kind}
 use Rattle.scc_bits.specs.declared.kind.Kind.TheVariants as kind

@@ -1,5 +1,5 @@
 -- The counting thread runs: a reset, then two counts.
-use Rattle.std.specs.Prelude.{ℕ, Bool, true, false, List, [], ◌∷◌, map, Option, Some, None, option_map, unwrap_or}
+use Rattle.std.specs.Prelude.{ℕ, true, false, List, [], ◌∷◌, map, Option, Some, None, option_map, unwrap_or}
 use Rattle.scc_meaning.specs.Location.{Location, Root, Local, Member}
 use Rattle.scc_running.specs.Design.{Design}
 use Rattle.scc_running.specs.Machine.{Stop}
@@ -14,8 +14,15 @@ abbrev pub home : ℕ → ℕ → Root
 home i n = Local i [] n
 
 abbrev pub counting_process : Process
-counting_process = record { is_thread = true; name = named 9; place = here; senses = []; edge = Some (record { cell = 0; rising = true });
-    reset = Some (record { cell = 1; level = true; asynchronous = false }); body = count_body }
+counting_process = record {
+  is_thread = true;
+  name = named 9;
+  place = here;
+  senses = [];
+  edge = Some (record { cell = 0; rising = true });
+  reset = Some (record { cell = 1; level = true; asynchronous = false });
+  body = count_body;
+}
 
 abbrev pub counting : Program
 counting = record { top = 8; cells = count_cells; vectors = []; processes = counting_process ∷ [] }

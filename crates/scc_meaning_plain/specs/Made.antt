@@ -68,9 +68,9 @@ made_one build g path p (Input k) args = added g path p (design.Port k false (le
 made_one build g path p (Output k) args = added g path p (design.Port k true (length g.objects))
 made_one build g path p Named args = Made g
 
--- a vector has as many elements as its last argument says, read without sign; what passes the limit on objects is refused there
+-- a vector has as many elements as its last argument says, read without sign; what passes the limit on objects is refused there; an empty one isn't listed
 abbrev pub made_vector : Building → Grown → List Part → Place → Base → ℕ → Tried Grown
-made_vector build g path p base n = over_elements (λ g i. made_one build g (path ++ Element i ∷ []) p base none_given) (range_with_len 0 (min n 65537)) (with_vector g path n)
+made_vector build g path p base n = over_elements (λ g i. made_one build g (path ++ Element i ∷ []) p base none_given) (range_with_len 0 (min n 65537)) (if nat_eq n 0 then g else with_vector g path n)
 
 abbrev pub making : Building → Making
 making build g path p base true args = and_made (args g) (λ gs. made_vector build g path p base (last_word gs))

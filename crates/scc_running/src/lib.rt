@@ -2,4 +2,8 @@
 #![tactic(auto)]
 
 mod laws;
-pub use laws::{a_design_without_processes_shows_its_ports, nothing_differs_from_nothing, nothing_is_shown_alike};
+
+pub use laws::{
+    a_design_without_processes_shows_its_ports, nothing_differs_from_nothing,
+    nothing_is_shown_alike,
+};
