@@ -1,16 +1,14 @@
 -- What is looked for after the run of the top's constructor: construction in other functions (E404), ports without a binding (E401), then process by
 -- process its sensitivity and resets (E406), its clock (E407, E413) and a missing reset (E409). IEEE 1666-2011, 5.2.10 and 6.5; this project's own choice of what is allowed.
-use Rattle.std.specs.Prelude.{ℕ, zero, suc, ◌+◌, Bool, true, false, not, ◌&&◌, ◌||◌, nat_eq, nat_lt, nat_le, List, [], ◌∷◌, ◌++◌, map, filter, length, Option, Some, None, option_map, option_and_then, slice_get, unwrap_or, find, is_some, if◌then◌else◌}
+use Rattle.std.specs.Prelude.{ℕ, zero, suc, Bool, true, false, not, ◌&&◌, ◌||◌, nat_eq, nat_le, List, [], ◌∷◌, ◌++◌, filter, length, Option, Some, None, option_map, option_and_then, unwrap_or, find, is_some, if◌then◌else◌}
 use Rattle.std.specs.List.{list_any}
 use Rattle.scc_base.specs.declared.refusal.Place.{Place}
 use Rattle.scc_base.specs.declared.refusal.Refusal.{Refusal}
 use Rattle.scc_base.specs.declared.code.Code.TheVariants as reason
-use Rattle.scc_bits.specs.declared.kind.Kind.{Kind}
-use Rattle.scc_bits.specs.declared.kind.Kind.TheVariants as kind
 use Rattle.scc_bits.specs.Kinds.{is_bool}
 use Rattle.scc_meaning_core.specs.First.{or_else, first_of, first_numbered, first_some, when, refused, refused_beside}
-use Rattle.scc_meaning_plain.specs.Program.{Code, End, Declare, Assign, Point, Write, Call, If, Loop, Block, Exit, Return, Wait, Make, Bind, Process, Sensitive, Quiet, Reset, Function, Plain}
-use Rattle.scc_meaning_plain.specs.Design.{Object, Node, Port, Signal}
+use Rattle.scc_meaning_plain.specs.Program.{Code, End, Declare, Assign, Point, Write, Call, If, Loop, Block, Exit, Return, Wait, Make, Bind, Process, Sensitive, Quiet, Reset, Plain}
+use Rattle.scc_meaning_plain.specs.Design.{Node, Port, Signal}
 use Rattle.scc_meaning_plain.specs.Types.{is_constructor}
 use Rattle.scc_meaning_plain.specs.Grown.{Grown, Declared, Item, ResetItem, node_of}
 use Rattle.scc_meaning_plain.specs.Binding.{home, is_top, path_of, bound_of}
@@ -116,7 +114,7 @@ roots_once seen (c ∷ cs) = if list_any (nat_eq c.root) seen then roots_once se
 abbrev pub bad_clock : (many : Bool) → Grown → List Clock → Clock → Option Refusal
 bad_clock many g before c = if not (is_top_input g c.root) then Some (refused reason.ClockPort c.place)
     else (if many then unwrap_or (option_map (λ b. when (not (same_way b.rising c.rising)) (refused_beside reason.ClockPort c.place b.place)) (find (λ b. nat_eq b.root c.root) before))
-        (when (nat_le 128 (length (roots_once [] before))) (refused reason.TooManyClocks c.place))
+    (when (nat_le 128 (length (roots_once [] before))) (refused reason.TooManyClocks c.place))
     else unwrap_or (option_map (λ b. when (not (nat_eq b.root c.root && same_way b.rising c.rising)) (refused_beside reason.ClockPort c.place b.place)) (first_clock before)) None)
 
 abbrev pub first_reset : List ResetItem → Option ResetItem

@@ -1,21 +1,19 @@
 -- Bindings, processes and sensitivities in a constructor (IEEE 1666-2011, 4.1.3, 5.2.4, 5.2.9, 5.2.10, 6.5; resets as in 5.2.13).
-use Rattle.std.specs.Prelude.{ℕ, zero, suc, ◌+◌, Bool, true, false, not, ◌&&◌, ◌||◌, nat_eq, nat_lt, List, [], ◌∷◌, ◌++◌, map, length, Option, Some, None, option_map, option_and_then, slice_get, unwrap_or, find, is_some, if◌then◌else◌}
+use Rattle.std.specs.Prelude.{ℕ, zero, suc, Bool, true, false, not, ◌&&◌, ◌||◌, nat_eq, List, [], ◌∷◌, ◌++◌, Option, Some, None, option_map, option_and_then, slice_get, unwrap_or, find, is_some, if◌then◌else◌}
 use Rattle.std.specs.List.{list_any}
 use Rattle.scc_base.specs.declared.refusal.Place.{Place}
 use Rattle.scc_base.specs.declared.code.Code.TheVariants as reason
 use Rattle.scc_bits.specs.declared.kind.Kind.{Kind}
 use Rattle.scc_bits.specs.declared.kind.Kind.TheVariants as kind
-use Rattle.scc_bits.specs.Kinds.{width_of, is_signed}
-use Rattle.scc_meaning.specs.Location.{Location, Part, same_path}
+use Rattle.scc_meaning.specs.Location.{Part, same_path}
 use Rattle.scc_meaning_core.specs.First.{refused, refused_beside}
 use Rattle.scc_meaning_core.specs.Resolved.{Tried, Made, Stopped, and_made, made_map}
-use Rattle.scc_meaning_plain.specs.Term.{Term, Left}
-use Rattle.scc_meaning_plain.specs.Program.{Sense, Function, Plain}
-use Rattle.scc_meaning_plain.specs.Design as design
-use Rattle.scc_meaning_plain.specs.Design.{Object, Node, Module, Port, Signal, Variable, is_module}
-use Rattle.scc_meaning_plain.specs.Cells.{parent_among, is_front}
-use Rattle.scc_meaning_plain.specs.Grown.{Grown, Bound, Item, ResetItem, Declared, thing_at, node_of, with_bound, with_declared, object_at}
-use Rattle.scc_meaning_plain.specs.Worth.{Site, spot, worth}
+use Rattle.scc_meaning_plain.specs.Term.{Left}
+use Rattle.scc_meaning_plain.specs.Program.{Sense, Function}
+use Rattle.scc_meaning_plain.specs.Design.{Node, Port, Signal}
+use Rattle.scc_meaning_plain.specs.Cells.{parent_among}
+use Rattle.scc_meaning_plain.specs.Grown.{Grown, Bound, Item, ResetItem, Declared, thing_at, node_of, with_bound, with_declared}
+use Rattle.scc_meaning_plain.specs.Worth.{Site, spot}
 
 -- the path of the module object around a path, None for the top's own
 abbrev pub home : Grown → List Part → Option (List Part)
@@ -71,6 +69,7 @@ bind s p port to = and_made (spot s false true port) (λ o. and_made (bound_thin
     bound_thing : Option Left → Tried (Option ℕ)
     bound_thing None = Made None
     bound_thing (Some l) = made_map (λ o. option_and_then (thing_at s.now) o) (spot s false true l)
+
     bind_at : Option ℕ → Option ℕ → Tried Grown
     bind_at None m = Made s.now
     bind_at (Some n) m = binding s.now p n m (node_of s.now n) (bound_of s.now n)

@@ -1,5 +1,5 @@
 -- The statements of copied bodies.
-use Rattle.std.specs.Prelude.{ℕ, zero, suc, ◌+◌, Bool, true, false, not, ◌&&◌, ◌||◌, nat_eq, nat_le, nat_lt, List, [], ◌∷◌, ◌++◌, map, flat_map, Option, Some, None, option_map, option_and_then, slice_get, unwrap_or, if◌then◌else◌}
+use Rattle.std.specs.Prelude.{ℕ, suc, Bool, true, false, not, ◌&&◌, nat_eq, nat_le, List, [], ◌∷◌, ◌++◌, map, flat_map, Option, Some, None, option_map, option_and_then, slice_get, unwrap_or, if◌then◌else◌}
 use Rattle.std.specs.List.{list_any, range_with_len}
 use Rattle.scc_base.specs.declared.refusal.Place.{Place}
 use Rattle.scc_bits.specs.declared.kind.Kind.{Kind}
@@ -8,10 +8,10 @@ use Rattle.scc_meaning_core.specs.Term as core
 use Rattle.scc_meaning_core.specs.Term.{CellName}
 use Rattle.scc_meaning_core.specs.Code as stmt
 use Rattle.scc_meaning_core.specs.Fold.{whole}
-use Rattle.scc_meaning_plain.specs.Term.{Term, Left, Local, Target, Argument, Value, Leads, ModuleName}
-use Rattle.scc_meaning_plain.specs.Program.{Base, Number, Code, End, Declare, Assign, Point, Write, Call, If, Loop, Block, Exit, Return, Wait, Make, Bind, Process, Sensitive, Quiet, Reset, Function, Plain, Member}
+use Rattle.scc_meaning_plain.specs.Term.{Left, Local, Argument, Value, Leads, ModuleName}
+use Rattle.scc_meaning_plain.specs.Program.{Base, Number, Code, End, Declare, Assign, Point, Write, Call, If, Loop, Block, Exit, Return, Wait, Make, Bind, Process, Sensitive, Quiet, Reset, Function, Member}
 use Rattle.scc_meaning_plain.specs.Types.{is_direct}
-use Rattle.scc_meaning_plain.specs.Copied.{Here, local_name, answer_name, copied, left_of, pick_of, target_of, count_of}
+use Rattle.scc_meaning_plain.specs.Copied.{Here, local_name, answer_name, copied, left_of, target_of}
 use Rattle.scc_meaning_plain.specs.Numbering.{callee}
 
 -- the indices of all elements of an array, the last running fastest

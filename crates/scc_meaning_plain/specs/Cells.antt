@@ -1,14 +1,11 @@
 -- The cells of a design's objects, in construction order; modules have none. This project's own.
-use Rattle.std.specs.Prelude.{ℕ, zero, suc, ◌+◌, Bool, true, false, not, ◌&&◌, ◌||◌, nat_eq, nat_lt, List, [], ◌∷◌, ◌++◌, map, filter, filter_map, length, take, Option, Some, None, option_map, option_and_then, slice_get, unwrap_or, find, position, if◌then◌else◌}
-use Rattle.std.specs.List.{list_any}
+use Rattle.std.specs.Prelude.{ℕ, suc, Bool, true, false, not, ◌&&◌, nat_eq, nat_lt, List, [], ◌∷◌, filter, length, take, Option, Some, None, option_map, option_and_then, slice_get, unwrap_or, find, position, if◌then◌else◌}
 use Rattle.scc_bits.specs.declared.kind.Kind.{Kind}
 use Rattle.scc_bits.specs.declared.kind.Kind.TheVariants as kind
-use Rattle.scc_meaning.specs.Location.{Part, Member, Element, same_path, same_part}
+use Rattle.scc_meaning.specs.Location.{Part, Member, Element, same_part}
 use Rattle.scc_meaning_core.specs.Program as core
-use Rattle.scc_meaning_core.specs.Term.{CellName}
-use Rattle.scc_meaning_plain.specs.Program.{Plain, Class}
-use Rattle.scc_meaning_plain.specs.Program as plain
-use Rattle.scc_meaning_plain.specs.Design.{Design, Object, Node, Module, Port, Signal, Variable, Pointer, Target, is_module, class_of}
+use Rattle.scc_meaning_plain.specs.Program.{Plain}
+use Rattle.scc_meaning_plain.specs.Design.{Design, Object, Node, Module, Port, Signal, Variable, Pointer, is_module, class_of}
 use Rattle.scc_meaning_plain.specs.Types.{Place, is_direct, is_moved, member_at}
 
 abbrev pub is_front : List Part → List Part → Bool

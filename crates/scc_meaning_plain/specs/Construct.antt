@@ -1,18 +1,18 @@
 -- Statements of a constructor, one after another (IEEE 1666-2011, 4.4; ISO C++ [class.base.init]). This project's own: what a constructor may hold. On the
 -- statements that processes have too it does what their machine does.
-use Rattle.std.specs.Prelude.{ℕ, zero, suc, ◌+◌, Bool, true, false, not, ◌&&◌, ◌||◌, nat_eq, nat_lt, nat_le, List, [], ◌∷◌, ◌++◌, map, flat_map, length, Option, Some, None, option_map, option_and_then, slice_get, unwrap_or, is_some, if◌then◌else◌}
+use Rattle.std.specs.Prelude.{ℕ, zero, suc, Bool, true, false, not, nat_le, List, [], ◌∷◌, map, length, Option, Some, None, option_map, slice_get, unwrap_or, is_some, if◌then◌else◌}
 use Rattle.std.specs.List.{list_any}
 use Rattle.scc_base.specs.declared.refusal.Place.{Place}
 use Rattle.scc_base.specs.declared.refusal.Refusal.{Refusal}
 use Rattle.scc_base.specs.declared.code.Code.TheVariants as reason
-use Rattle.scc_meaning.specs.Location.{Location, Part, Element, Root, Top, Local, Answer, same_path}
+use Rattle.scc_meaning.specs.Location.{Location, Part, Element, Root, Top, same_path}
 use Rattle.scc_meaning_core.specs.First.{refused}
 use Rattle.scc_meaning_core.specs.Resolved.{Tried, Made, Stopped, and_made, made_map}
-use Rattle.scc_meaning_plain.specs.Term.{Term, Left, Whole, Argument, Value, Leads, ModuleName}
-use Rattle.scc_meaning_plain.specs.Program.{Base, Code, End, Declare, Assign, Point, Write, Call, If, Loop, Block, Exit, Return, Wait, Make, Bind, Process, Sensitive, Quiet, Reset, Member, Function, Plain, Shape}
+use Rattle.scc_meaning_plain.specs.Term.{Left, Argument}
+use Rattle.scc_meaning_plain.specs.Program.{Base, Code, End, Declare, Assign, Point, Write, Call, If, Loop, Block, Exit, Return, Wait, Make, Bind, Process, Sensitive, Quiet, Reset, Member}
 use Rattle.scc_meaning_plain.specs.Types.{declared_at, is_direct}
 use Rattle.scc_meaning_plain.specs.Bodies.{elements}
-use Rattle.scc_meaning_plain.specs.Grown.{Grown, at_path, local_of, pointer_at, with_word, with_target, with_made, with_turn, with_declared}
+use Rattle.scc_meaning_plain.specs.Grown.{Grown, local_of, pointer_at, with_word, with_target, with_made, with_turn, with_declared}
 use Rattle.scc_meaning_plain.specs.Worth.{Site, at_now, spot, worth, target, assigned, local_there, Given, given}
 use Rattle.scc_meaning_plain.specs.Binding.{bind, items_of, declare, channel, changed_at, with_items, with_reset}
 

@@ -1,10 +1,7 @@
 -- Copied bodies: calls by what they do, names by cells (ISO C++ [expr.call], [dcl.init.ref]). A call is a block of the assignment of 0 to its result, of
 -- its parameters, and of the function's body; `return` is the assignment of the result and an exit of that block.
-use Rattle.std.specs.Prelude.{ℕ, zero, suc, ◌+◌, ◌*◌, Bool, true, false, not, ◌&&◌, ◌||◌, nat_eq, nat_lt, nat_le, List, [], ◌∷◌, ◌++◌, map, flat_map, Option, Some, None, option_map, option_and_then, slice_get, unwrap_or, if◌then◌else◌}
-use Rattle.std.specs.List.{list_any, range_with_len}
+use Rattle.std.specs.Prelude.{ℕ, Bool, true, false, ◌&&◌, List, [], ◌∷◌, Option, Some, None, option_map, slice_get, unwrap_or, if◌then◌else◌}
 use Rattle.scc_base.specs.declared.refusal.Place.{Place}
-use Rattle.scc_bits.specs.declared.kind.Kind.{Kind}
-use Rattle.scc_bits.specs.declared.kind.Kind.TheVariants as kind
 use Rattle.scc_meaning.specs.Location.{Part, Root}
 use Rattle.scc_meaning.specs.Location as location
 use Rattle.scc_meaning_core.specs.Term as core
@@ -14,8 +11,8 @@ use Rattle.scc_meaning_core.specs.Program as prog
 use Rattle.scc_meaning_core.specs.Fold.{member_of, element_of, whole, unknown}
 use Rattle.scc_meaning_plain.specs.Term.{Term, Literal, Load, Read, Convert, Unary, Binary, Choose, Bit, Range, Join, Left, Local, Answer, This, Follow, Index, Pick, Whole, OneBit, Bits, Target, Null, Address, Copy, Argument, Value, Leads, ModuleName}
 use Rattle.scc_meaning_plain.specs.Term as term
-use Rattle.scc_meaning_plain.specs.Program.{Base, Number, Reach, Code, End, Declare, Assign, Point, Write, Call, If, Loop, Block, Exit, Return, Wait, Make, Bind, Process, Sensitive, Quiet, Reset, Count, Function, Plain, Member}
-use Rattle.scc_meaning_plain.specs.Types.{class_in, base_at, declared_at, member_at, sizes_at, points_at, is_direct, is_reference}
+use Rattle.scc_meaning_plain.specs.Program.{Count, Function, Plain, Member}
+use Rattle.scc_meaning_plain.specs.Types.{declared_at, sizes_at, points_at, is_reference}
 use Rattle.scc_meaning_plain.specs.Numbering.{number_of}
 
 -- what a copy of a function works with

@@ -1,17 +1,16 @@
 -- The design of a program: what the run of its top's constructor leaves, or what is refused first (IEEE 1666-2011, 4.2).
-use Rattle.std.specs.Prelude.{ℕ, zero, suc, ◌+◌, Bool, true, false, not, ◌&&◌, ◌||◌, nat_eq, List, [], ◌∷◌, ◌++◌, map, filter_map, length, take, Option, Some, None, option_map, option_and_then, slice_get, unwrap_or, is_some, if◌then◌else◌}
-use Rattle.std.specs.List.{range_with_len}
+use Rattle.std.specs.Prelude.{ℕ, zero, suc, Bool, true, false, not, ◌&&◌, List, [], ◌∷◌, ◌++◌, map, filter_map, Option, Some, None, option_map, option_and_then, slice_get, unwrap_or, if◌then◌else◌}
 use Rattle.scc_base.specs.declared.refusal.Place.{Place}
 use Rattle.scc_base.specs.declared.refusal.Refusal.{Refusal}
 use Rattle.scc_base.specs.declared.code.Code.TheVariants as reason
 use Rattle.scc_meaning.specs.Location.{Location, Part}
-use Rattle.scc_meaning_core.specs.First.{or_else, first_of, when, refused}
+use Rattle.scc_meaning_core.specs.First.{refused}
 use Rattle.scc_meaning_core.specs.Resolved.{Tried, Made, Stopped, and_made}
-use Rattle.scc_meaning_plain.specs.Program.{Function, Member, Class, Plain}
-use Rattle.scc_meaning_plain.specs.Design.{Design, Object, Node, Module, Port, Signal, Variable, Pointer, Process, Edge, Reset, Target}
-use Rattle.scc_meaning_plain.specs.Grown.{Grown, Declared, Item, ResetItem, nothing, at_path, object_at, is_thing, path_if_top}
+use Rattle.scc_meaning_plain.specs.Program.{Member, Class, Plain}
+use Rattle.scc_meaning_plain.specs.Design.{Design, Object, Node, Module, Port, Variable, Pointer, Process, Reset, Target}
+use Rattle.scc_meaning_plain.specs.Grown.{Grown, Declared, ResetItem, nothing, at_path, object_at, is_thing, path_if_top}
 use Rattle.scc_meaning_plain.specs.Made.{built, object_levels, none_given, is_name, function_of}
-use Rattle.scc_meaning_plain.specs.After.{root, edges, levels, clock_of, first_reset, refused_after}
+use Rattle.scc_meaning_plain.specs.After.{root, levels, clock_of, first_reset, refused_after}
 
 -- a module object or a thing at a path
 abbrev pub is_reached : Node → Bool
@@ -45,7 +44,10 @@ reset_left g r = option_map (λ n. record { root = root g n; level = r.level; as
 
 abbrev pub process_left : Grown → Declared → Process
 process_left g d = record {
-  object = d.object; function = d.function; place = d.place; is_thread = d.is_thread;
+  object = d.object;
+  function = d.function;
+  place = d.place;
+  is_thread = d.is_thread;
   senses = filter_map (λ i. option_map (root g) i.signal) (levels d);
   edge = option_map (λ c. record { root = c.root; rising = c.rising }) (clock_of g d);
   reset = option_and_then (reset_left g) (first_reset d.resets);

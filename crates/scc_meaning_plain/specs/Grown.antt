@@ -1,6 +1,5 @@
 -- What construction has made so far (IEEE 1666-2011, 4.2 and 4.4: elaboration), and its limits, which are this project's own.
-use Rattle.std.specs.Prelude.{ℕ, zero, suc, ◌+◌, Bool, true, false, not, ◌&&◌, ◌||◌, nat_eq, nat_lt, nat_le, List, [], ◌∷◌, ◌++◌, map, length, Option, Some, None, option_map, option_and_then, slice_get, unwrap_or, position, find, if◌then◌else◌}
-use Rattle.std.specs.List.{list_any}
+use Rattle.std.specs.Prelude.{ℕ, ◌+◌, Bool, true, false, ◌&&◌, ◌||◌, nat_lt, nat_le, List, [], ◌∷◌, ◌++◌, length, Option, Some, None, option_map, option_and_then, slice_get, position, if◌then◌else◌}
 use Rattle.scc_base.specs.declared.refusal.Place.{Place}
 use Rattle.scc_base.specs.declared.code.Code.TheVariants as reason
 use Rattle.scc_bits.specs.declared.kind.Kind.{Kind}
@@ -9,7 +8,7 @@ use Rattle.scc_meaning.specs.Location.{Location, Part, Root, Top, Local, same_pa
 use Rattle.scc_meaning.specs.Store.{Store, changed}
 use Rattle.scc_meaning_core.specs.First.{refused}
 use Rattle.scc_meaning_core.specs.Resolved.{Tried, Made, Stopped}
-use Rattle.scc_meaning_plain.specs.Design.{Object, Node, Module, Port, Signal, Variable, Pointer, VectorSize}
+use Rattle.scc_meaning_plain.specs.Design.{Object, Node, Port, Signal, Variable, Pointer, VectorSize}
 
 -- a port's binding: the object that it is bound to, and where
 pub record Bound : Type 0 where

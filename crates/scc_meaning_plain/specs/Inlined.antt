@@ -1,26 +1,22 @@
 -- Copied processes and the core of a design; and what is refused: a body that is too large, a reference or an object that an index which isn't static
 -- chooses. This project's own.
-use Rattle.std.specs.Prelude.{ℕ, zero, suc, ◌+◌, Bool, true, false, not, ◌&&◌, ◌||◌, nat_eq, nat_lt, List, [], ◌∷◌, ◌++◌, map, flat_map, Option, Some, None, option_map, option_and_then, slice_get, unwrap_or, is_some, if◌then◌else◌}
-use Rattle.std.specs.List.{list_any}
-use Rattle.scc_base.specs.declared.refusal.Place.{Place}
+use Rattle.std.specs.Prelude.{ℕ, zero, suc, true, false, ◌||◌, nat_lt, List, [], ◌∷◌, ◌++◌, map, Option, Some, None, option_map, option_and_then, slice_get, unwrap_or, if◌then◌else◌}
 use Rattle.scc_base.specs.declared.refusal.Refusal.{Refusal}
 use Rattle.scc_base.specs.declared.code.Code.TheVariants as reason
 use Rattle.scc_bits.specs.declared.kind.Kind.{Kind}
-use Rattle.scc_bits.specs.declared.kind.Kind.TheVariants as kind
 use Rattle.scc_meaning.specs.Location.{Part, Root}
 use Rattle.scc_meaning.specs.Location as location
 use Rattle.scc_meaning_core.specs.Term as core
 use Rattle.scc_meaning_core.specs.Code as stmt
 use Rattle.scc_meaning_core.specs.Program as prog
-use Rattle.scc_meaning_core.specs.First.{or_else, first_of, when, refused}
-use Rattle.scc_meaning_plain.specs.Term.{Term, Left, Target, Null, Argument}
+use Rattle.scc_meaning_core.specs.First.{when, refused}
 use Rattle.scc_meaning_plain.specs.Program.{Base, Code, End, Declare, Assign, Point, Write, Call, If, Loop, Block, Exit, Return, Wait, Make, Bind, Process, Sensitive, Quiet, Reset, Function, Plain, Member}
 use Rattle.scc_meaning_plain.specs.Program as plain
 use Rattle.scc_meaning_plain.specs.Design as design
 use Rattle.scc_meaning_plain.specs.Design.{Design}
 use Rattle.scc_meaning_plain.specs.Types.{is_direct}
 use Rattle.scc_meaning_plain.specs.Cells.{object_cells, cell_number, path_of}
-use Rattle.scc_meaning_plain.specs.Numbering.{numbered, number_of, function_at, levels}
+use Rattle.scc_meaning_plain.specs.Numbering.{numbered, function_at, levels}
 use Rattle.scc_meaning_plain.specs.Copied.{Here, copied, left_of, pick_of, target_of, count_of, answer_name}
 use Rattle.scc_meaning_plain.specs.Bodies.{Calling, elements, number_kind, cleared, sizes_of, aimed, is_first, pointed, cell_of, result_name, inside, zeroed, passed, object_of, local_as_whole}
 
@@ -89,8 +85,17 @@ abbrev pub core_vectors : Design → List prog.Vector
 core_vectors d = map (λ v. record { path = v.path; size = v.size }) d.vectors
 
 abbrev pub here_of : Plain → Design → ℕ → design.Process → Function → Here
-here_of p d i q f = record { plain = p; cells = core_cells p d; vectors = core_vectors d; process = i; path = process_path p d q; order = numbered p i q.function; calls = [];
-    function = f; this = core.Prefix q.place (record { path = path_of d q.object; own = None; indices = [] }) }
+here_of p d i q f = record {
+  plain = p;
+  cells = core_cells p d;
+  vectors = core_vectors d;
+  process = i;
+  path = process_path p d q;
+  order = numbered p i q.function;
+  calls = [];
+  function = f;
+  this = core.Prefix q.place (record { path = path_of d q.object; own = None; indices = [] });
+}
 
 -- the copied body of a process is one block
 abbrev pub copied_body : Plain → Design → ℕ → design.Process → stmt.Code

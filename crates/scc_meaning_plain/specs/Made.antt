@@ -1,13 +1,13 @@
 -- Objects: their members in declaration order, each with its initialisers, then what belongs to no member, then the constructor's body (ISO C++
 -- [class.base.init]; IEEE 1666-2011, 4.2).
-use Rattle.std.specs.Prelude.{ℕ, zero, suc, ◌+◌, ◌-◌, min, Bool, true, false, not, ◌&&◌, ◌||◌, nat_eq, List, [], ◌∷◌, ◌++◌, map, length, Option, Some, None, option_map, option_and_then, slice_get, unwrap_or, is_some, if◌then◌else◌}
+use Rattle.std.specs.Prelude.{ℕ, zero, suc, ◌+◌, ◌-◌, min, Bool, true, false, nat_eq, List, [], ◌∷◌, ◌++◌, map, length, Option, Some, None, option_map, option_and_then, slice_get, unwrap_or, if◌then◌else◌}
 use Rattle.std.specs.List.{range_with_len}
 use Rattle.scc_base.specs.declared.refusal.Place.{Place}
 use Rattle.scc_base.specs.declared.code.Code.TheVariants as reason
 use Rattle.scc_meaning.specs.Location.{Location, Part, Element}
 use Rattle.scc_meaning.specs.Location as location
 use Rattle.scc_meaning_core.specs.First.{refused}
-use Rattle.scc_meaning_core.specs.Resolved.{Tried, Made, Stopped, and_made, made_map}
+use Rattle.scc_meaning_core.specs.Resolved.{Tried, Made, Stopped, and_made}
 use Rattle.scc_meaning_plain.specs.Term.{Argument}
 use Rattle.scc_meaning_plain.specs.Inits.{inits_of, first_make, without_make}
 use Rattle.scc_meaning_plain.specs.Program.{Base, Number, OfClass, Input, Output, Signal, Named, Code, End, Member, Class, Function, Plain}
@@ -16,7 +16,7 @@ use Rattle.scc_meaning_plain.specs.Types.{is_direct}
 use Rattle.scc_meaning_plain.specs.Bodies.{elements}
 use Rattle.scc_meaning_plain.specs.Grown.{Grown, added, at_path, local_of, with_word, with_target, with_vector}
 use Rattle.scc_meaning_plain.specs.Worth.{Site, at_now, Given, Word, Place_given, given}
-use Rattle.scc_meaning_plain.specs.Construct.{Now, Ran, Fell, Left_out, Halted, Making, ran}
+use Rattle.scc_meaning_plain.specs.Construct.{Ran, Fell, Left_out, Halted, Making, ran}
 
 -- what is made so far after some statements; blocks that they would leave there are none
 abbrev pub grown_by : Ran → Tried Grown

@@ -1,17 +1,13 @@
 -- The locals of a process, numbered as its body with calls copied declares them: for a call first its result, then its parameters, then its body;
 -- a local that is declared without initialiser, or assigned or pointed as a whole for the first time, there; what no statement declares, at the
 -- end of its function. This project's own.
-use Rattle.std.specs.Prelude.{ℕ, zero, suc, ◌+◌, ◌*◌, Bool, true, false, not, ◌&&◌, nat_eq, List, [], ◌∷◌, ◌++◌, map, flat_map, length, Option, Some, None, option_map, option_and_then, slice_get, unwrap_or, position, is_some, if◌then◌else◌}
+use Rattle.std.specs.Prelude.{ℕ, zero, suc, nat_eq, List, [], ◌∷◌, ◌++◌, map, length, Option, Some, None, option_map, option_and_then, slice_get, unwrap_or, position, if◌then◌else◌}
 use Rattle.std.specs.List.{list_any, range_with_len}
 use Rattle.scc_bits.specs.declared.kind.Kind.{Kind}
-use Rattle.scc_bits.specs.declared.kind.Kind.TheVariants as kind
 use Rattle.scc_meaning.specs.Location.{Part, Member, Root, same_root}
 use Rattle.scc_meaning.specs.Location as location
-use Rattle.scc_meaning_core.specs.Program as core
 use Rattle.scc_meaning_plain.specs.Term.{Left, Local}
-use Rattle.scc_meaning_plain.specs.Program.{Base, Number, Code, End, Declare, Assign, Point, Write, Call, If, Loop, Block, Exit, Return, Wait, Make, Bind, Process, Sensitive, Quiet, Reset, Function, Plain}
-use Rattle.scc_meaning_plain.specs.Program as plain
-use Rattle.scc_meaning_plain.specs.Types.{is_direct}
+use Rattle.scc_meaning_plain.specs.Program.{Code, End, Declare, Assign, Point, Write, Call, If, Loop, Block, Exit, Return, Wait, Make, Bind, Process, Sensitive, Quiet, Reset, Function, Plain}
 
 -- the local of process i that a location is as a whole, in the function that these calls lead to
 abbrev pub whole_local : ℕ → List ℕ → Left → List Root

@@ -1,6 +1,6 @@
 -- What is refused where calls are copied, process by process: a body that is too large, then the first reference argument or object of a call that an
 -- index which isn't static chooses, the counters of the counted loops around it taken as literals. This project's own.
-use Rattle.std.specs.Prelude.{ℕ, zero, suc, ◌+◌, Bool, true, false, not, ◌&&◌, ◌||◌, List, [], ◌∷◌, ◌++◌, map, Option, Some, None, option_map, option_and_then, slice_get, unwrap_or, is_some, if◌then◌else◌}
+use Rattle.std.specs.Prelude.{ℕ, zero, suc, Bool, true, not, ◌&&◌, List, [], ◌∷◌, ◌++◌, Option, Some, None, option_map, option_and_then, slice_get, unwrap_or, is_some, if◌then◌else◌}
 use Rattle.scc_base.specs.declared.refusal.Refusal.{Refusal}
 use Rattle.scc_base.specs.declared.refusal.Place.{Place}
 use Rattle.scc_base.specs.declared.code.Code.TheVariants as reason
@@ -11,8 +11,8 @@ use Rattle.scc_meaning_core.specs.Counted.{Counter, counting, counted_by}
 use Rattle.scc_meaning_core.specs.Unrolled.{around}
 use Rattle.scc_meaning_core.specs.First.{or_else, first_of, first_numbered, when, refused}
 use Rattle.scc_meaning_core.specs.Resolved.{Tried, Made, Stopped}
-use Rattle.scc_meaning_plain.specs.Term.{Left, Target, Argument, Value, Leads, ModuleName}
-use Rattle.scc_meaning_plain.specs.Program.{Code, End, Declare, Assign, Point, Write, Call, If, Loop, Block, Exit, Return, Wait, Make, Bind, Process, Sensitive, Quiet, Reset, Function, Plain, Member}
+use Rattle.scc_meaning_plain.specs.Term.{Left, Argument, Leads}
+use Rattle.scc_meaning_plain.specs.Program.{Code, End, Declare, Assign, Point, Write, Call, If, Loop, Block, Exit, Return, Wait, Make, Bind, Process, Sensitive, Quiet, Reset, Plain, Member}
 use Rattle.scc_meaning_plain.specs.Design as design
 use Rattle.scc_meaning_plain.specs.Design.{Design}
 use Rattle.scc_meaning_plain.specs.Types.{is_reference}

@@ -1,6 +1,6 @@
 -- Expressions, locations and targets of a plain program, each with its place and each expression with its kind (ISO C++ [expr]). Conversions are
 -- written out.
-use Rattle.std.specs.Prelude.{ℕ, Option}
+use Rattle.std.specs.Prelude.{ℕ}
 use Rattle.scc_base.specs.declared.refusal.Place.{Place}
 use Rattle.scc_bits.specs.declared.kind.Kind.{Kind}
 use Rattle.scc_bits.specs.declared.kind.Kind.TheVariants as kind

@@ -1,5 +1,5 @@
 -- What stands at a location of a function, by the declarations alone (ISO C++ [expr.ref], [expr.sub]); and which members may move.
-use Rattle.std.specs.Prelude.{ℕ, zero, suc, ◌+◌, Bool, true, false, not, ◌&&◌, ◌||◌, nat_eq, List, [], ◌∷◌, ◌++◌, map, Option, Some, None, option_map, option_and_then, slice_get, unwrap_or, if◌then◌else◌}
+use Rattle.std.specs.Prelude.{ℕ, suc, Bool, true, false, not, ◌&&◌, nat_eq, List, [], ◌∷◌, ◌++◌, Option, Some, None, option_map, option_and_then, slice_get, unwrap_or}
 use Rattle.std.specs.List.{list_any}
 use Rattle.scc_meaning_plain.specs.Term.{Term, Left, Local, Answer, This, Follow, Index, Target, Null, Address, Copy, Argument, Value, Leads, ModuleName}
 use Rattle.scc_meaning_plain.specs.Term as term

@@ -1,5 +1,5 @@
 -- `int pick(int k) { return k; }` and a method `void f() { m = pick(1) + pick(0); }` of a top with an `int m`.
-use Rattle.std.specs.Prelude.{ℕ, Bool, true, false, List, [], ◌∷◌, Option, Some, None}
+use Rattle.std.specs.Prelude.{ℕ, true, false, [], ◌∷◌, Some, None}
 use Rattle.scc_base.specs.declared.refusal.Place.{Place}
 use Rattle.scc_bits.specs.declared.kind.Kind.{Kind}
 use Rattle.scc_bits.specs.declared.kind.Kind.TheVariants as kind
@@ -9,7 +9,7 @@ use Rattle.scc_meaning_core.specs.Term as core
 use Rattle.scc_meaning_core.specs.Code as stmt
 use Rattle.scc_meaning_plain.specs.Term.{Term, Literal, Load, Binary, Left, Local, Answer, This, Whole, Value}
 use Rattle.scc_meaning_plain.specs.Term as term
-use Rattle.scc_meaning_plain.specs.Program.{Base, Number, Direct, Member, End, Assign, Call, Return, Class, Function, Plain}
+use Rattle.scc_meaning_plain.specs.Program.{Base, Number, Direct, Member, End, Assign, Call, Return, Function, Plain}
 use Rattle.scc_meaning_plain.specs.Design as design
 use Rattle.scc_meaning_plain.specs.Design.{Design}
 
@@ -23,8 +23,16 @@ abbrev pub member : ℕ → Base → Member
 member n b = record { name = n; place = here; shape = record { base = b; reach = Direct; vector = false; sizes = [] } }
 
 abbrev pub pick : Function
-pick = record { name = 20; place = here; class = None; params = 1; locals = member 21 (Number int) ∷ []; result = Some int; inits = End;
-    body = Return here (Some (Load here int (Local here 0))) End }
+pick = record {
+  name = 20;
+  place = here;
+  class = None;
+  params = 1;
+  locals = member 21 (Number int) ∷ [];
+  result = Some int;
+  inits = End;
+  body = Return here (Some (Load here int (Local here 0))) End;
+}
 
 abbrev pub number : ℕ → Term
 number w = Literal here int w
@@ -33,9 +41,17 @@ abbrev pub answer : ℕ → Term
 answer n = Load here int (Answer here n)
 
 abbrev pub method : Function
-method = record { name = 22; place = here; class = Some 0; params = 0; locals = []; result = None; inits = End;
-    body = Call here 0 1 None (Value (number 1) ∷ []) (Call here 1 1 None (Value (number 0) ∷ [])
-        (Assign here (term.Member (This here) 0) Whole (Binary here int op.Add (answer 0) (answer 1)) End)) }
+method = record {
+  name = 22;
+  place = here;
+  class = Some 0;
+  params = 0;
+  locals = [];
+  result = None;
+  inits = End;
+  body = Call here 0 1 None (Value (number 1) ∷ []) (Call here 1 1 None (Value (number 0) ∷ [])
+      (Assign here (term.Member (This here) 0) Whole (Binary here int op.Add (answer 0) (answer 1)) End));
+}
 
 abbrev pub program : Plain
 program = record { classes = record { name = 23; place = here; is_module = true; members = member 24 (Number int) ∷ []; constructor = None } ∷ []; functions = method ∷ pick ∷ []; top = 0 }
@@ -44,7 +60,8 @@ abbrev pub made : Design
 made = record {
   objects = record { path = []; place = here; node = design.Module 0 } ∷ record { path = location.Member 24 ∷ []; place = here; node = design.Variable int 0 } ∷ [];
   processes = record { object = 0; function = 0; place = here; is_thread = false; senses = []; edge = None; reset = None } ∷ [];
-  targets = []; vectors = [];
+  targets = [];
+  vectors = [];
 }
 
 abbrev pub put : ℕ → core.Term → stmt.Code → stmt.Code

@@ -3,7 +3,7 @@ use Rattle.std.specs.Prelude.{ℕ, List, [], ◌∷◌, Option, Some, None}
 use Rattle.scc_meaning.specs.Location.{Location}
 use Rattle.scc_meaning.specs.Location as location
 use Rattle.scc_running.specs.Design.{Design, Process}
-use Rattle.scc_running.specs.Machine.{Outcome, Suspended, Ended, Stuck, Unfinished, run}
+use Rattle.scc_running.specs.Machine.{Outcome, Ended, Unfinished, run}
 use Rattle.scc_running.specs.Process.{first_frames}
 use Rattle.scc_meaning_plain.specs.Meant.{design_of}
 use Rattle.scc_meaning_plain.specs.Worked.{program, made}

@@ -1,6 +1,6 @@
 -- Locations and values in a constructor (ISO C++ [expr]), with what is refused: a port or signal is read (E404), null is followed (E405). All parts of an
 -- expression are evaluated.
-use Rattle.std.specs.Prelude.{ℕ, zero, suc, ◌+◌, Bool, true, false, not, ◌&&◌, ◌||◌, nat_eq, nat_lt, List, [], ◌∷◌, ◌++◌, map, length, Option, Some, None, option_map, option_and_then, slice_get, unwrap_or, if◌then◌else◌}
+use Rattle.std.specs.Prelude.{ℕ, Bool, true, false, ◌&&◌, nat_lt, List, [], ◌∷◌, Option, Some, None, option_map, option_and_then, slice_get, unwrap_or, if◌then◌else◌}
 use Rattle.scc_base.specs.declared.refusal.Place.{Place}
 use Rattle.scc_base.specs.declared.code.Code.TheVariants as reason
 use Rattle.scc_bits.specs.declared.kind.Kind.{Kind}
@@ -118,6 +118,7 @@ assigned s l k e = and_made (spot s false true l) (λ o. and_made (worth s e) (�
     put_word : Location → ℕ → Option Kind → Tried Grown
     put_word l x None = Made s.now
     put_word l x (Some j) = made_map (with_word s.now l) (picked s j k (s.now.store.words l) x)
+
     put_at : Option Location → ℕ → Tried Grown
     put_at None x = Made s.now
     put_at (Some l) x = put_word l x (kind_there s l)

@@ -2,4 +2,8 @@
 #![tactic(auto)]
 
 mod laws;
-pub use laws::{the_stages_accept, calls_are_accepted, a_method_with_calls_runs, pointers_lead_to_what_is_made, calls_are_copied, the_top_is_elaborated, the_top_is_made};
+
+pub use laws::{
+    a_method_with_calls_runs, calls_are_accepted, calls_are_copied, pointers_lead_to_what_is_made,
+    the_stages_accept, the_top_is_elaborated, the_top_is_made,
+};

@@ -1,8 +1,8 @@
 -- A value with the walk that finds it: parts, and what comes behind them. There is a value exactly where the walk meets no fault.
-use Rattle.std.specs.Prelude.{ℕ, List, [], ◌∷◌, ◌++◌, Option, Some, None, option_and_then}
+use Rattle.std.specs.Prelude.{List, [], ◌∷◌, ◌++◌, Option, Some, None, option_and_then}
 use Rattle.scc_base.specs.declared.refusal.Place.{Place}
 use Rattle.scc_base.specs.declared.code.Code.{Code as Reason}
-use Rattle.scc_meaning_static.specs.Walk.{Event, Fault, Need, Late, Uses, Needed}
+use Rattle.scc_meaning_static.specs.Walk.{Event, Fault}
 
 pub record Walked (A : Type 0) : Type 0 where
   pub value : Option A

@@ -1,11 +1,11 @@
 -- `template<int N> struct F { static const int v = F<N - 1>::v; };` with `F<0>::v = 1`: a chain of 64 has a value, one of 65 is refused.
-use Rattle.std.specs.Prelude.{ℕ, zero, suc, ◌-◌, true, List, [], ◌∷◌, Option, Some, None}
+use Rattle.std.specs.Prelude.{ℕ, zero, suc, ◌-◌, true, List, []}
 use Rattle.scc_base.specs.declared.refusal.Place.{Place}
 use Rattle.scc_base.specs.declared.code.Code.TheVariants as reason
 use Rattle.scc_bits.specs.declared.kind.Kind.TheVariants as kind
-use Rattle.scc_meaning_static.specs.Walk.{Args, Nil, Cons, Arg, Value, Event, Fault, Need, Late, Needed, Free, Tally}
+use Rattle.scc_meaning_static.specs.Walk.{Args, Nil, Cons, Value}
 use Rattle.scc_meaning_static.specs.Walked.{Walked, pure, fault}
-use Rattle.scc_meaning_static.specs.World.{Key, Constant, Alias, Special, Owner, File, In, Link, World, world}
+use Rattle.scc_meaning_static.specs.World.{Key, Constant, Owner, File, In, Link, World, world}
 
 abbrev pub here : Place
 here = record { file = 0; at = 0 }

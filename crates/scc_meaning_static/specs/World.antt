@@ -1,10 +1,10 @@
 -- What constants, aliases and specialisations of classes with arguments mean, each asked for by a key, behind a chain of what is asked already (ISO C++
 -- [temp.inst]; the bound of 64 on the chain is this project's own).
-use Rattle.std.specs.Prelude.{ℕ, zero, suc, ◌+◌, nat_eq, nat_lt, Bool, true, false, not, ◌&&◌, ◌||◌, List, [], ◌∷◌, ◌++◌, Option, Some, None, if◌then◌else◌}
+use Rattle.std.specs.Prelude.{ℕ, zero, suc, ◌+◌, nat_eq, nat_lt, Bool, true, false, ◌&&◌, ◌||◌, List, [], ◌∷◌, if◌then◌else◌}
 use Rattle.std.specs.List.{list_any}
 use Rattle.scc_base.specs.declared.refusal.Place.{Place}
 use Rattle.scc_base.specs.declared.code.Code.TheVariants as reason
-use Rattle.scc_meaning_static.specs.Walk.{Arg, Args, same_args}
+use Rattle.scc_meaning_static.specs.Walk.{Args, same_args}
 use Rattle.scc_meaning_static.specs.Walked.{Walked, fault}
 
 -- whose constant or alias it is

@@ -2,4 +2,5 @@
 #![tactic(auto)]
 
 mod laws;
+
 pub use laws::{chains_of_constants_are_bounded, the_first_of_a_walk_stops_it};
