@@ -1,11 +1,11 @@
 -- A module that matches a design: its ports are the top's in their order, its registers and clocks those of the clocked processes (IEEE 1800-2017, 23.2.2,
 -- 9.2.2.4; the names are this project's own).
-use Rattle.std.specs.Prelude.{◌≡◌, ◌⊎◌, ℕ, ◌+◌, nat_eq, Bool, true, false, not, ◌&&◌, ◌||◌, List, [], ◌∷◌, map, filter, flat_map, take, length, Option, Some, None, option_map, slice_get, unwrap_or, if◌then◌else◌, bytes_eq}
+use Rattle.std.specs.Prelude.{◌≡◌, ◌⊎◌, ℕ, nat_eq, Bool, true, false, List, [], ◌∷◌, map, filter, flat_map, take, length, Option, Some, None, option_map, slice_get, unwrap_or, bytes_eq}
 use Rattle.std.specs.List.{list_any}
 use Rattle.scc_bits.specs.Kinds.{width_of}
 use Rattle.scc_meaning.specs.Location.{Location}
 use Rattle.scc_meaning.specs.Design.{Thing, Number, Signal, Port}
-use Rattle.scc_running.specs.Design.{Design, TopPort, Direction, Input, Output, is_input}
+use Rattle.scc_running.specs.Design.{Design, TopPort, is_input}
 use Rattle.scc_svtree.specs.declared.module.SvModule.{SvModule}
 use Rattle.scc_svtree.specs.declared.module.SvVar.{SvVar}
 use Rattle.scc_svtree.specs.declared.module.Dir.{Dir}

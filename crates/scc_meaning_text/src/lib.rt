@@ -2,4 +2,5 @@
 #![tactic(auto)]
 
 mod laws;
+
 pub use laws::modules_show_designs;
