@@ -1,0 +1,61 @@
+-- Locations as far as their names are known: members and static indices in range go into the name, a whole name is its cell, and a port below the
+-- top its root's. This project's own.
+use Rattle.std.specs.Prelude.{ℕ, Bool, nat_eq, nat_lt, List, [], ◌∷◌, ◌++◌, Option, Some, None, option_map, slice_get, unwrap_or, if◌then◌else◌}
+use Rattle.scc_meaning.specs.Location.{Part, Element}
+use Rattle.scc_meaning.specs.Location as location
+use Rattle.scc_meaning.specs.Value.{index_of}
+use Rattle.scc_meaning_core.specs.Term.{Term, Left, Cell, Prefix, Member, Index, CellName, Own, kind_of}
+use Rattle.scc_meaning_core.specs.Program.{Vector}
+use Rattle.scc_meaning_core.specs.Named.{Step, steps_of, cell_at, path_steps, fits}
+use Rattle.scc_meaning_core.specs.Static.{Cells, static}
+use Rattle.scc_meaning_core.specs.Uses.{root_of}
+
+-- a name with one more part: behind a local an index of it
+abbrev pub extended : CellName → Part → CellName
+extended n part = extended_by n.own part
+  where
+    extended_by : Option Own → Part → CellName
+    extended_by (Some o) (location.Element i) = record { path = n.path; own = Some o; indices = n.indices ++ i ∷ [] }
+    extended_by own part = record { path = n.path ++ part ∷ []; own = own; indices = n.indices }
+
+-- a vector's number of elements, 2^32 - 1 until its path is known
+abbrev pub unknown : ℕ
+unknown = 4294967295
+
+abbrev pub size_at : List Vector → List Step → ℕ
+size_at [] p = 0
+size_at (v ∷ vs) p = if fits p (path_steps v.path) then v.size else size_at vs p
+
+module _ (cs : Cells) (vs : List Vector) where
+  abbrev pub size_of : ℕ → Left → ℕ
+  size_of size (Prefix p n) = if nat_eq size unknown then size_at vs (steps_of n) else size
+  size_of size _ = size
+
+  -- a cell of which parts are named is its name
+  abbrev pub as_name : Left → Left
+  as_name (Cell p n) = unwrap_or (option_map (λ c. Prefix p c.name) (slice_get cs n)) (Cell p n)
+  as_name l = l
+
+  abbrev pub member_of : Left → ℕ → Left
+  member_of (Prefix p n) name = Prefix p (extended n (location.Member name))
+  member_of l name = Member l name
+
+  abbrev pub in_range : ℕ → Option ℕ → Option ℕ
+  in_range size None = None
+  in_range size (Some i) = if nat_lt i size then Some i else None
+
+  abbrev pub static_index : Term → Option ℕ
+  static_index e = option_map (λ w. index_of (kind_of e) w) (static cs e)
+
+  abbrev pub element_or : Left → Option ℕ → Left → Left
+  element_or (Prefix p n) (Some i) other = Prefix p (extended n (Element i))
+  element_or l i other = other
+
+  abbrev pub element_of : Left → ℕ → Term → Left
+  element_of l size e = element_or l (in_range (size_of size l) (static_index e)) (Index l (size_of size l) e)
+
+  -- the cell of a whole name, a pointer's where it is one
+  abbrev pub whole : Bool → Left → Left
+  whole pointer (Prefix p n) = unwrap_or (option_map (λ c. Cell p (if pointer then c else root_of cs c)) (cell_at pointer 0 (steps_of n) cs)) (Prefix p n)
+  whole pointer (Cell p n) = Cell p (if pointer then n else root_of cs n)
+  whole pointer l = l

@@ -1,0 +1,67 @@
+-- Sizes of bodies and the bound on steps: this project's own.
+use Rattle.std.specs.Prelude.{ℕ, ◌+◌, ◌*◌, max, List, [], ◌∷◌, ◌++◌, map, sum, flat_map, Option, Some, None, option_map, unwrap_or, if◌then◌else◌}
+use Rattle.scc_meaning_core.specs.Term.{Left, Pick}
+use Rattle.scc_meaning_core.specs.Code.{Code, End, Put, Aim, If, Block, Loop, Exit, Wait, size, waits_in, holds_wait, numbered}
+use Rattle.scc_meaning_core.specs.Program.{Process, Program}
+use Rattle.scc_meaning_core.specs.Named.{Step, elements, open_count}
+use Rattle.scc_meaning_core.specs.Static.{Cells, pattern}
+use Rattle.scc_meaning_core.specs.Live.{live}
+use Rattle.scc_meaning_core.specs.Segments.{all_segments, segment_code, statements}
+use Rattle.scc_meaning_core.specs.Uses.{Act, acts}
+
+-- the greatest depth of loops that hold a wait, inside each other
+abbrev pub loops_deep : Code → ℕ
+loops_deep End = 0
+loops_deep (Put p l k e r) = loops_deep r
+loops_deep (Aim p to t r) = loops_deep r
+loops_deep (If p t a b r) = max (loops_deep a) (max (loops_deep b) (loops_deep r))
+loops_deep (Block p b r) = max (loops_deep b) (loops_deep r)
+loops_deep (Loop p n b r) = max ((if holds_wait b then 1 else 0) + loops_deep b) (loops_deep r)
+loops_deep (Exit p n r) = loops_deep r
+loops_deep (Wait p l n r) = loops_deep r
+
+-- the bound on the steps from a wait, or from the first statement, to the next wait, for an unrolled body
+abbrev pub bound : Code → ℕ
+bound c = 3 * (loops_deep c + 1) * size c
+
+-- the live part of a process's resolved body, its waits numbered
+abbrev pub live_body : Cells → Code → Code
+live_body cs c = numbered 0 (live cs c)
+
+-- the states of a thread
+abbrev pub states : Cells → Code → ℕ
+states cs c = waits_in (live cs c)
+
+-- the statements of its reset segment and its numbered segments, a wait counting 1
+abbrev pub thread_statements : Cells → Code → ℕ
+thread_statements cs c = statements (all_segments (live_body cs c))
+
+-- the code of which places count: a method's live body, a thread's segments
+abbrev pub parts_of : Cells → Process → List Code
+parts_of cs p = if p.is_thread then map segment_code (all_segments (live_body cs p.body)) else live cs p.body ∷ []
+
+abbrev pub written_left : Option (Left × Pick) → List Left
+written_left None = []
+written_left (Some w) = w.0 ∷ []
+
+-- the places of a statement: what it assigns, and what it reads
+abbrev pub places_of : Act → List Left
+places_of a = written_left a.writes ++ map (λ u. u.left) a.reads
+
+abbrev pub patterns_of : Cells → Code → List (List Step)
+patterns_of cs c = flat_map (λ l. unwrap_or (option_map (λ p. p ∷ []) (pattern cs l)) []) (flat_map places_of (acts c))
+
+abbrev pub all_patterns : Program → List (List Step)
+all_patterns p = flat_map (λ q. flat_map (patterns_of p.cells) (parts_of p.cells q)) p.processes
+
+-- the elements of all arrays under indices that aren't static
+abbrev pub index_sum : Program → ℕ
+index_sum p = sum (map elements (all_patterns p))
+
+-- the statements of one process that are written: of a method's live body, or of a thread's segments
+abbrev pub written_size : Cells → Process → ℕ
+written_size cs p = if p.is_thread then thread_statements cs p.body else size (live cs p.body)
+
+-- the measure of an emitted text: statements, indices that aren't static, and elements times such indices
+abbrev pub measure : Program → ℕ
+measure p = sum (map (written_size p.cells) p.processes) + (sum (map open_count (all_patterns p)) + sum (map (λ s. elements s * open_count s) (all_patterns p)))

@@ -1,0 +1,99 @@
+//! Laws that cite the definitions.
+ghost use Rattle.std.specs.Prelude.{◌≡◌, ℕ, List, [], ◌∷◌, length, drop, Option, Some, None, true, false};
+ghost use Rattle.scc_base.specs.declared.refusal.Refusal.{Refusal};
+ghost use Rattle.scc_meaning_core.specs.Term.{Cell, Read, Term};
+ghost use Rattle.scc_bits.specs.declared.kind.Kind.TheVariants as kind;
+ghost use Rattle.scc_meaning_core.specs.WorkedRules.{at, keeping, latching, may_not_wait, sharing};
+ghost use Rattle.scc_meaning_core.specs.Code.{Code, End, If, Block, numbered, size};
+ghost use Rattle.scc_meaning_core.specs.Program.{Program, Process};
+ghost use Rattle.scc_meaning_core.specs.Static.{static, Cells};
+ghost use Rattle.scc_meaning_core.specs.Segments.{Plain, Test, Halt, Finish, segment, segments, all_segments};
+ghost use Rattle.scc_meaning_core.specs.Sizes.{bound, loops_deep, states, thread_statements, live_body};
+ghost use Rattle.scc_meaning_core.specs.First.{first_of, refused, refused_beside, TellsFirst};
+ghost use Rattle.scc_meaning_core.specs.Paths.{Misses};
+ghost use Rattle.scc_meaning_core.specs.Flow.{TellsMisses, TellsIdle};
+ghost use Rattle.scc_meaning_core.specs.Kept.{kept, is_kept, TellsKept};
+ghost use Rattle.scc_meaning_core.specs.Feeding.{IsOrder};
+ghost use Rattle.scc_meaning_core.specs.Rules.{first_rule};
+ghost use Rattle.scc_meaning_core.specs.Split.{first_after_passes, first_split};
+ghost use Rattle.scc_meaning_core.specs.Unrolled.{unrolled, run_turns, first_unrolled};
+ghost use Rattle.scc_base.specs.declared.code.Code.TheVariants as reason;
+ghost use Rattle.scc_meaning_core.specs.Resolved.{Made, Stopped};
+ghost use Rattle.scc_meaning_core.specs.Unpointed.{unpointed};
+ghost use Rattle.scc_meaning_core.specs.Renumbered.{resolved_program};
+ghost use Rattle.scc_meaning_core.specs.WorkedRun.{counts};
+ghost use Rattle.scc_meaning_core.specs.Worked.{here, count_cells, count_body, branch_body, put, byte, load, one_more, local_cells, local_body, process, turn_cells, turn_body, turn_written, number, pointer_cells, through};
+
+/// The counting thread: 12 statements, one loop that waits, at most 72 steps, two states, 9 statements in its segments.
+pub fn the_counting_thread_is_measured()
+    ensures statements { size count_body ≡ 12 }
+    ensures loops { loops_deep count_body ≡ 1 }
+    ensures steps { bound count_body ≡ 72 }
+    ensures waits { states count_cells count_body ≡ 2 }
+    ensures written { thread_statements count_cells count_body ≡ 9 }
+{}
+
+/// Its segments: the reset one clears, the other two count.
+pub fn the_counting_thread_is_cut()
+    ensures { all_segments (live_body count_cells count_body) ≡
+        Plain (put 3 (byte 0) End) (Plain (put 2 (byte 0) End) (Halt here 0 1))
+        ∷ Plain (put 3 one_more End) (Plain (put 2 (load 3) End) (Halt here 1 1))
+        ∷ Plain (put 3 one_more End) (Plain (put 2 (load 3) End) (Halt here 1 1)) ∷ [] }
+{}
+
+/// A local that is written before it is read between two waits isn't kept, a counter is.
+pub fn what_lives_across_a_wait_is_kept()
+    ensures local { kept local_cells 0 (process true [] local_body) ≡ [] }
+    ensures counter { kept count_cells 0 (process true [] count_body) ≡ 3 ∷ [] }
+{}
+
+/// The counting thread breaks no rule.
+pub fn the_counting_thread_is_accepted()
+    ensures { first_after_passes first_rule (record { top = 0; cells = count_cells; vectors = []; processes = process true [] count_body ∷ [] }) ≡ None }
+{}
+
+/// The empty order is one of no methods.
+pub fn no_methods_are_ordered()
+    ensures { IsOrder (record { top = 0; cells = []; vectors = []; processes = [] }) [] }
+{}
+
+/// A counted loop of three turns, written out; one of eight has eight turns.
+pub fn counted_loops_are_written_out()
+    ensures three { unrolled turn_cells [] (turn_body 2) ≡ Block here (Block here (put 4 (number 0) (turn_written 0 (turn_written 1 (turn_written 2 End)))) End) End }
+    ensures eight { length (run_turns turn_cells [] 0 (turn_body 7)) ≡ 8 }
+    ensures none { first_unrolled turn_cells (process false [] (turn_body 7)) ≡ None }
+{}
+
+/// A pointer gives way to the object to which it leads; null that is followed is refused.
+pub fn pointers_give_way_to_objects()
+    ensures object { unpointed (record { cells = pointer_cells; vectors = []; local = λ n. None }) (through 0) ≡ Made (put 2 (number 1) End) }
+    ensures null { unpointed (record { cells = pointer_cells; vectors = []; local = λ n. None }) (through 1) ≡ Stopped (refused reason.EmptyPointer here) }
+{}
+
+/// No processes, no pointers.
+pub fn nothing_has_no_pointers()
+    ensures { resolved_program (record { top = 0; cells = pointer_cells; vectors = []; processes = [] }) ≡ Made (record { top = 0; cells = drop 2 pointer_cells; vectors = []; processes = [] }) }
+{}
+
+/// The counting thread as a design shows 0, 1 and 2 after its edges, whatever storage held at first.
+pub fn the_counting_thread_counts()
+    ensures { counts ≡ (0 ∷ []) ∷ (1 ∷ []) ∷ (2 ∷ []) ∷ [] }
+{}
+
+/// A thread with a wait in a branch: three states, and the rest behind each way.
+pub fn a_wait_in_a_branch_is_cut()
+    ensures waits { states count_cells branch_body ≡ 3 }
+    ensures cut { all_segments (live_body count_cells branch_body) ≡
+        Test here (Read here kind.Bool (Cell here 1)) (Halt here 0 1) (Plain (put 3 (byte 0) End) (Halt here 1 1))
+        ∷ Plain (put 3 (byte 0) End) (Halt here 1 1)
+        ∷ Plain (put 2 (load 3) End) (Plain (put 3 one_more End) (Halt here 2 1))
+        ∷ Plain (put 2 (load 3) End) (Plain (put 3 one_more End) (Halt here 2 1)) ∷ [] }
+{}
+
+/// What is refused of bodies, and where.
+pub fn broken_rules_are_refused()
+    ensures shared { first_rule sharing ≡ Some (refused_beside reason.SharedVariable (at 3) (at 2)) }
+    ensures idle { first_rule may_not_wait ≡ Some (refused reason.LoopMayNotWait (at 8)) }
+    ensures latch { first_rule latching ≡ Some (refused reason.Latch (at 5)) }
+    ensures kept { first_rule keeping ≡ Some (refused reason.CombState here) }
+{}

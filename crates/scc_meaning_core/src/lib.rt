@@ -1,0 +1,11 @@
+//! What the core means: definitions that other crates cite, each cited here by a law.
+#![tactic(auto)]
+
+mod laws;
+
+pub use laws::{
+    a_wait_in_a_branch_is_cut, broken_rules_are_refused, counted_loops_are_written_out,
+    no_methods_are_ordered, nothing_has_no_pointers, pointers_give_way_to_objects,
+    the_counting_thread_counts, the_counting_thread_is_accepted, the_counting_thread_is_cut,
+    the_counting_thread_is_measured, what_lives_across_a_wait_is_kept,
+};

@@ -1,0 +1,67 @@
+-- `struct C { int n; C(int k) : n(k) {} };` and a top `C* q; C r; int* z;` whose constructor is
+-- `T() : r(3), z(&r.n) { for (int i = 0; i < 2; i++) *z = *z + i; q = new C(*z + 4); }`.
+use Rattle.std.specs.Prelude.{ℕ, true, false, List, [], ◌∷◌, map, Option, Some, None}
+use Rattle.scc_bits.specs.declared.op.Op.TheVariants as op
+use Rattle.scc_bits.specs.declared.kind.Kind.TheVariants as kind
+use Rattle.scc_meaning_core.specs.Resolved.{Tried, Made}
+use Rattle.scc_meaning_plain.specs.Term.{Term, Left, Literal, Load, Binary, Local, This, Follow, Whole, Value, Address}
+use Rattle.scc_meaning_plain.specs.Term as term
+use Rattle.scc_meaning_plain.specs.Program.{Base, Number, OfClass, Pointer, Member, End, Assign, Point, If, Loop, Block, Exit, Make, Function, Plain}
+use Rattle.scc_meaning_plain.specs.Design.{Design, Node}
+use Rattle.scc_meaning_plain.specs.Worked.{here, int, member, number}
+
+abbrev pub pointer : ℕ → Base → Member
+pointer n b = record { name = n; place = here; shape = record { base = b; reach = Pointer; vector = false; sizes = [] } }
+
+abbrev pub own : ℕ → Left
+own m = term.Member (This here) m
+
+abbrev pub sum : Term → Term → Term
+sum a b = Binary here int op.Add a b
+
+abbrev pub counter : Term
+counter = Load here int (Local here 0)
+
+abbrev pub through : Left
+through = Follow here (own 2)
+
+abbrev pub inner : Function
+inner = record {
+  name = 30;
+  place = here;
+  class = Some 0;
+  params = 1;
+  locals = member 31 (Number int) ∷ [];
+  result = None;
+  inits = Assign here (own 0) Whole (Load here int (Local here 0)) End;
+  body = End;
+}
+
+abbrev pub outer : Function
+outer = record {
+  name = 32;
+  place = here;
+  class = Some 1;
+  params = 0;
+  locals = member 33 (Number int) ∷ [];
+  result = None;
+  inits = Make here (own 1) (OfClass 0) (Value (number 3) ∷ []) (Point here (own 2) (Address (term.Member (own 1) 0)) End);
+  body = Block here (Assign here (Local here 0) Whole (number 0) (Loop here None
+      (If here (Binary here kind.Bool op.Lt counter (number 2)) End (Exit here 0 End) (Block here (Assign here through Whole (sum (Load here int through) counter) End)
+      (Assign here (Local here 0) Whole (sum counter (number 1)) End))) End))
+      (Make here (own 0) (OfClass 0) (Value (sum (Load here int through) (number 4)) ∷ []) End);
+}
+
+abbrev pub pointers : Plain
+pointers = record {
+  top = 1;
+  functions = inner ∷ outer ∷ [];
+  classes =
+      record { name = 34; place = here; is_module = false; members = member 35 (Number int) ∷ []; constructor = Some 0 }
+      ∷ record { name = 36; place = here; is_module = true; members = pointer 37 (OfClass 0) ∷ member 38 (OfClass 0) ∷ pointer 39 (Number int) ∷ []; constructor = Some 1 } ∷ [];
+}
+
+-- the nodes of the objects that are left
+abbrev pub nodes_of : Option (Tried Design) → List Node
+nodes_of (Some (Made d)) = map (λ o. o.node) d.objects
+nodes_of o = []

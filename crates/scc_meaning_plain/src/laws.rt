@@ -1,0 +1,55 @@
+//! Laws that cite the definitions.
+ghost use Rattle.std.specs.Prelude.{◌≡◌, ℕ, List, [], ◌∷◌, length, option_map, Option, Some, None, true, false};
+ghost use Rattle.scc_bits.specs.declared.op.Op.TheVariants as op;
+ghost use Rattle.scc_meaning_core.specs.Term as core;
+ghost use Rattle.scc_meaning_core.specs.Code as stmt;
+ghost use Rattle.scc_meaning_plain.specs.Static.{inlined};
+ghost use Rattle.scc_meaning_plain.specs.Inlined.{copied_program, copied_body, core_cells, too_large};
+ghost use Rattle.scc_meaning_plain.specs.Grown.{nothing};
+ghost use Rattle.scc_meaning_plain.specs.Made.{built, none_given, grown_of};
+ghost use Rattle.scc_meaning_plain.specs.Elaborated.{elaborated};
+ghost use Rattle.scc_meaning_core.specs.Resolved.{and_made, made_map, Made};
+ghost use Rattle.scc_meaning_plain.specs.WorkedMade.{pointers, nodes_of};
+ghost use Rattle.scc_meaning_plain.specs.WorkedRun.{word_after};
+ghost use Rattle.scc_meaning_plain.specs.Design as design;
+ghost use Rattle.scc_meaning_plain.specs.Stages.{accepted, compiled};
+ghost use Rattle.scc_meaning_plain.specs.Worked.{here, int, program, made, copied, load};
+
+/// `m = pick(1) + pick(0)`: each call is copied with a result and a parameter of its own.
+pub fn calls_are_copied()
+    ensures cells { length (core_cells program made) ≡ 5 }
+    ensures body { copied_body program made 0 (record { object = 0; function = 0; place = here; is_thread = false; senses = []; edge = None; reset = None }) ≡ copied }
+    ensures size { too_large program made 0 (record { object = 0; function = 0; place = here; is_thread = false; senses = []; edge = None; reset = None }) ≡ None }
+{}
+
+/// The top of that program has its one variable, which is 0.
+pub fn the_top_is_made()
+    ensures { option_map (λ g. length g.objects) (grown_of (built program 2 nothing [] here 0 none_given)) ≡ Some 2 }
+{}
+
+/// Its design: the top, its variable, and no process, since its constructor declares none.
+pub fn the_top_is_elaborated()
+    ensures { elaborated false program ≡ Some (Made (record { objects = made.objects; processes = []; targets = []; vectors = [] })) }
+{}
+
+/// Objects are made in order, a pointer leads to what `new` makes at its path, and a member that a pointer leads to keeps what was written: 3 + 0 + 1,
+/// and 4 more.
+pub fn pointers_lead_to_what_is_made()
+    ensures { nodes_of (elaborated false pointers) ≡ design.Module 1 ∷ design.Pointer (Some 5) ∷ design.Module 0 ∷ design.Variable int 4 ∷ design.Pointer (Some 3) ∷ design.Module 0 ∷ design.Variable int 8 ∷ [] }
+{}
+
+/// The method runs its calls: 1 and 0 are 1.
+pub fn a_method_with_calls_runs()
+    ensures { word_after ≡ Some 1 }
+{}
+
+/// Nothing is refused of that program's method.
+pub fn calls_are_accepted()
+    ensures { inlined program made ≡ Made (copied_program program made) }
+{}
+
+/// The method with its calls goes through all stages behind construction; a top without processes through all.
+pub fn the_stages_accept()
+    ensures calls { and_made (inlined program made) accepted ≡ Made (copied_program program made) }
+    ensures top { option_map (λ t. made_map (λ c. c.processes) t) (compiled false program) ≡ Some (Made []) }
+{}

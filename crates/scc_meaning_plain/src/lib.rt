@@ -1,0 +1,9 @@
+//! What a plain program means: definitions that other crates cite, each cited here by a law.
+#![tactic(auto)]
+
+mod laws;
+
+pub use laws::{
+    a_method_with_calls_runs, calls_are_accepted, calls_are_copied, pointers_lead_to_what_is_made,
+    the_stages_accept, the_top_is_elaborated, the_top_is_made,
+};

@@ -1,0 +1,5 @@
+pub mod Walk
+pub mod Walked
+pub mod World
+pub mod Stage
+pub mod Worked

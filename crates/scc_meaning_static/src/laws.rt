@@ -1,0 +1,22 @@
+//! Laws that cite the definitions.
+ghost use Rattle.std.specs.Prelude.{◌≡◌, ℕ, List, [], ◌∷◌, Option, Some, None};
+ghost use Rattle.scc_base.specs.declared.code.Code.TheVariants as reason;
+ghost use Rattle.scc_meaning_static.specs.Walk.{Event, Fault, Need, Late, Free, Tally, Went, empty, go};
+ghost use Rattle.scc_meaning_static.specs.Walked.{pure, fault};
+ghost use Rattle.scc_meaning_static.specs.Stage.{judged, stage, IsReached};
+ghost use Rattle.scc_meaning_static.specs.Worked.{asked, here, there};
+
+/// A chain of 64 classes whose constants ask for one another has a value, one of 65 is refused where the last is asked for.
+pub fn chains_of_constants_are_bounded()
+    ensures value { asked 63 ≡ pure 1 }
+    ensures refused { asked 64 ≡ fault reason.TemplateDepth there }
+{}
+
+/// What is needed is noted once, in order; a late call is refused before what is refused behind it, but for a smaller number at its own place.
+pub fn the_first_of_a_walk_stops_it()
+    ensures noted { go (Late here ∷ Need (Free 2) here ∷ Need (Free 2) there ∷ []) empty ≡ record { tally = record { queue = Free 2 ∷ []; late = Some here }; stop = None } }
+    ensures late { judged (go (Late here ∷ Fault reason.Divisor there None ∷ []) empty) ≡ Some (record { code = reason.CallPlace; place = here; other = None }) }
+    ensures smaller { judged (go (Late here ∷ Fault reason.Mismatch here None ∷ []) empty) ≡ Some (record { code = reason.Mismatch; place = here; other = None }) }
+    ensures stage { stage (λ x. []) 5 0 empty ≡ record { tally = empty; stop = None } }
+    ensures reached { IsReached (λ x. []) empty empty }
+{}

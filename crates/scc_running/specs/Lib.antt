@@ -1,0 +1,10 @@
+pub mod Body
+pub mod Value
+pub mod Machine
+pub mod Design
+pub mod Process
+pub mod Run
+pub mod Start
+pub mod Same
+pub mod Schedule
+pub mod Statement
