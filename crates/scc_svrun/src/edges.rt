@@ -3,7 +3,7 @@ ghost use Rattle.std.specs.Prelude.{◌≡◌, ◌||◌};
 ghost use Rattle.scc_svtree.specs.Sound.{loads_of};
 ghost use Rattle.scc_svtree.specs.Steps.{after_edges, edge_word, set_word};
 ghost use Rattle.scc_svtree.specs.Variables.{width_at, word_at};
-ghost use Rattle.scc_svrun.specs.Edged.{edge_by, over, ticking};
+ghost use Rattle.scc_svrun.specs.Edged.{edge_by, is_listed, over, ticking};
 ghost use Rattle.scc_svrun.specs.Runnable.{AreLoadable, AreRunnableBlocks, AreSettable, IsRunnableBlock};
 ghost use Rattle.scc_svrun.specs.Valued.{IsValuation};
 
@@ -27,7 +27,7 @@ fn is_listed(list: &[VarId], v: VarId) -> bool
 }
 
 fn has_edge(clocks: Clocks<'_>, clock: VarId) -> bool
-    ensures { result ≡ ticking clocks.all clocks.list.now clock.0 }
+    ensures { result ≡ ticking clocks.entry.all clocks.entry.list.now clock.0 }
 {
     clocks.all || is_listed(clocks.list, clock)
 }
@@ -74,7 +74,7 @@ fn edge_block(m: &SvModule, clocks: Clocks<'_>, b: &SvBlock, x: &[Word], y: &mut
     requires block { IsRunnableBlock (width_at m.now.vars) b.now }
     requires read { IsValuation m.now.vars x.now }
     requires valuation { IsValuation m.now.vars y.old }
-    ensures words { word_at y.new ≡ edge_by (width_at m.now.vars) (ticking clocks.all clocks.list.now) b.now (word_at x.now) (word_at y.old) }
+    ensures words { word_at y.new ≡ edge_by (width_at m.now.vars) (ticking clocks.entry.all clocks.entry.list.now) b.now (word_at x.now) (word_at y.old) }
     ensures valuation { IsValuation m.now.vars y.new }
 {
     match b {
@@ -95,7 +95,7 @@ pub fn edge_all(m: &SvModule, clocks: Clocks<'_>, blocks: &[SvBlock], x: &[Word]
     requires read { IsValuation m.now.vars x.now }
     requires valuation { IsValuation m.now.vars y.old }
     requires same { word_at y.old ≡ word_at x.now }
-    ensures words { word_at y.new ≡ after_edges (width_at m.now.vars) (ticking clocks.all clocks.list.now) blocks.now (word_at x.now) }
+    ensures words { word_at y.new ≡ after_edges (width_at m.now.vars) (ticking clocks.entry.all clocks.entry.list.now) blocks.now (word_at x.now) }
     ensures valuation { IsValuation m.now.vars y.new }
 {
     let mut k = blocks.len();

@@ -1,5 +1,5 @@
 //! The inputs of a module but its clocks, and words that are handed in for them.
-ghost use Rattle.std.specs.Prelude.{◌≡◌, ℕ, ◌<◌, ◌^◌, ◌&&◌, true, not, length, IfOk};
+ghost use Rattle.std.specs.Prelude.{◌≡◌, ℕ, ◌<◌, ◌^◌, ◌||◌, nat_eq, true, length, IfOk};
 ghost use Rattle.scc_svorder.specs.Search.{is_seen};
 ghost use Rattle.scc_svtree.specs.Steps as steps;
 ghost use Rattle.scc_svtree.specs.Variables.{IsWidth, width_at, word_at};

@@ -41,9 +41,13 @@ pub struct SvRunner<'a> {
 impl<'a> Model for SvRunner<'a> {
     ghost use Rattle.std.specs.Prelude.{map};
     ghost use Rattle.scc_svtree.specs.Code.{code_of};
+    ghost use Rattle.scc_svtree.specs.contracts.module.SvModule as module_row;
+    ghost use Rattle.std.specs.Coded.{codes};
     ghost use Rattle.scc_svrun.specs.Runs.{IsRunner, Ran};
 
     ghost Value = { Ran };
+
+    ghost coded = { Prim.hlevel (codes, module_row.the_row.coded) };
 
     ghost view = { λ r. record { top = r.top.now; words = r.words.items } };
 
@@ -153,7 +157,7 @@ impl<'a> SvRunner<'a> {
     // Does what the edges of clocks do, and takes the settled valuation.
     fn edge_by(&mut self, clocks: Clocks<'_>)
         ensures same { self.new.top ≡ self.old.top }
-        ensures step { IsEdgeStep self.old.top (ticking clocks.all clocks.list.now) (word_at self.old.words) (word_at self.new.words) }
+        ensures step { IsEdgeStep self.old.top (ticking clocks.entry.all clocks.entry.list.now) (word_at self.old.words) (word_at self.new.words) }
     {
         self.next.copy_from_slice(&self.words);
         edge_all(self.top, clocks, self.top.blocks.as_slice(), &self.words, &mut self.next);
