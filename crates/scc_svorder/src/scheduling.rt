@@ -95,7 +95,12 @@ fn by_group(alloc: Global, rank: &[usize]) -> Result<Vec<usize>, NoMemory> {
 }
 
 // Appends a block if it is one, and those that feed it are done.
-fn try_place(g: &Rows, done: &mut Vec<bool>, list: &mut Vec<usize>, k: usize) -> Result<(), NoMemory>
+fn try_place(
+    g: &Rows,
+    done: &mut Vec<bool>,
+    list: &mut Vec<usize>,
+    k: usize,
+) -> Result<(), NoMemory>
     requires { length done.old.items ≡ length g.now }
     ensures { OnOk result ((old : List Bool) (before : List ℕ) → length old ≡ length g.now → Swept g.now 0 old before done.old.items list.old.items → Swept g.now 0 old before done.new.items list.new.items) }
 {

@@ -68,9 +68,10 @@ module _ (width : ℕ → ℕ) where
   block_runs (Comb ss) h k = code_runs (code_of ss) h
   block_runs (Edge rising clock None sets) h k =
       (sets_run sets h.0 (λ v e. k v (third (nat_eq clock.0 v) false (is_among (targets sets) v) (sets_read sets v) e)), tt)
-  block_runs (Edge rising clock (Some r) sets) h k =
-      (sets_run sets h.0 (λ v e. k v (third (nat_eq clock.0 v) (nat_eq r.signal.0 v || is_among (load_targets r.values) v) (is_among (targets sets) v) (sets_read sets v) e)),
-      loads_run r.values h.1 (λ v e. k v (second (nat_eq clock.0 v) (nat_eq r.signal.0 v || is_among (load_targets r.values) v) (is_among (targets sets) v) (sets_read sets v) (or_second (nat_eq r.signal.0 v) (is_among (load_targets r.values) v) e))))
+  block_runs (Edge rising clock (Some r) sets) h k = (
+    sets_run sets h.0 (λ v e. k v (third (nat_eq clock.0 v) (nat_eq r.signal.0 v || is_among (load_targets r.values) v) (is_among (targets sets) v) (sets_read sets v) e)),
+    loads_run r.values h.1 (λ v e. k v (second (nat_eq clock.0 v) (nat_eq r.signal.0 v || is_among (load_targets r.values) v) (is_among (targets sets) v) (sets_read sets v) (or_second (nat_eq r.signal.0 v) (is_among (load_targets r.values) v) e))),
+  )
 
   blocks_run : (bs : List SvBlock) → Each (IsSizedBlock width) bs → ((v : ℕ) → Each (λ b. block_names b v ≡ true → IsWidth (width v)) bs) → AreRunnableBlocks width bs
   blocks_run [] h k = tt

@@ -80,7 +80,10 @@ fn edge_block(m: &SvModule, clocks: Clocks<'_>, b: &SvBlock, x: &[Word], y: &mut
     match b {
         SvBlock::Comb(_) => {}
         SvBlock::Edge {
-            clock, reset, sets, ..
+            clock,
+            reset,
+            sets,
+            ..
         } => {
             if has_edge(clocks, *clock) {
                 tick(m, reset, sets.as_slice(), x, y);

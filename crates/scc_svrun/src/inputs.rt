@@ -73,7 +73,8 @@ pub fn inputs_of(alloc: Global, m: &SvModule) -> Result<Vec<VarId>, NoMemory>
 {
     let vars = m.vars.as_slice();
     let marks = clock_marks(alloc, vars.len(), m.blocks.as_slice())?;
-    unmarked(alloc, vars, marks.as_slice())
+    let list = unmarked(alloc, vars, marks.as_slice())?;
+    Ok(list)
 }
 
 /// Gives variables the words that are handed in; of two of one the first counts.

@@ -149,7 +149,12 @@ impl<'a> SvRunner<'a> {
     {
         hand(self.top, &self.inputs, inputs, &mut self.words);
         self.next.copy_from_slice(&self.words);
-        reset_all(self.top, self.top.blocks.as_slice(), &self.words, &mut self.next);
+        reset_all(
+            self.top,
+            self.top.blocks.as_slice(),
+            &self.words,
+            &mut self.next,
+        );
         mem::swap(&mut self.words, &mut self.next);
         self.run_combs();
     }
@@ -160,7 +165,13 @@ impl<'a> SvRunner<'a> {
         ensures step { IsEdgeStep self.old.top (ticking clocks.entry.all clocks.entry.list.now) (word_at self.old.words) (word_at self.new.words) }
     {
         self.next.copy_from_slice(&self.words);
-        edge_all(self.top, clocks, self.top.blocks.as_slice(), &self.words, &mut self.next);
+        edge_all(
+            self.top,
+            clocks,
+            self.top.blocks.as_slice(),
+            &self.words,
+            &mut self.next,
+        );
         mem::swap(&mut self.words, &mut self.next);
         self.run_combs();
     }

@@ -55,7 +55,13 @@ pub fn line(
     ensures { OnOk result (out.new ≡ out.old ++ trace.line_of runner.now.top step after (word_at runner.now.words)) }
 {
     let words = words(alloc, runner, outputs.vars.as_slice())?;
-    let line = trace_line(alloc, step, after, outputs.ports.as_slice(), words.as_slice())?;
+    let line = trace_line(
+        alloc,
+        step,
+        after,
+        outputs.ports.as_slice(),
+        words.as_slice(),
+    )?;
     out.push_bytes(line.bytes())?;
     Ok(())
 }

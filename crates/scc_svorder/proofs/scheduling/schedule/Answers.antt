@@ -26,9 +26,9 @@ returns-then-none_left c =
     let o = c.requires in
     all_placed (combs_of bs) o (graph_of bs) c.loop.counter c.loop.done.items c.loop.list.items (rows_tell bs (graph_of bs) refl) (c.loop.invariant o)
     (λ k l. let P : List Bool → Type 0 = λ d. is_seen d k ≡ true in
-     let a : length c.in_ok-g.g ≡ length (graph_of bs) = ap length c.in_ok-g.ensures in
-     let b : c.len-in-loop.result ≡ length c.in_ok-g.g = c.len-in-loop.ensures.length in
-     subst P c.as_slice-in-loop.ensures.value (c.none_left.ensures c.if-none_left.true k (omega (arith, a, b, l))))
+    let a : length c.in_ok-g.g ≡ length (graph_of bs) = ap length c.in_ok-g.ensures in
+    let b : c.len-in-loop.result ≡ length c.in_ok-g.g = c.len-in-loop.ensures.length in
+    subst P c.as_slice-in-loop.ensures.value (c.none_left.ensures c.if-none_left.true k (omega (arith, a, b, l))))
 
 pub loop-preserved : goal.loop-preserved
 loop-preserved c = λ o.
