@@ -6,7 +6,7 @@ ghost use Rattle.scc_trace.specs.Stimulus.{version_of};
 ghost use Rattle.scc_svsim.specs.Simulated.{IsTrace, Simulates, Unstimulated};
 ghost use Rattle.scc_svsim.specs.Trace as trace;
 
-use crate::line::outputs;
+use crate::line::outputs_in;
 use crate::ports::ports_of;
 use crate::run::play;
 use scc_base::{Code, NoMemory, Place, Stop, Text, lost};
@@ -38,7 +38,7 @@ fn traced(alloc: Global, m: &SvModule, bytes: &[u8]) -> Result<Text, Stop>
     }
     let mut runner = SvRunner::new(alloc, m)?;
     let inputs = ports_of(alloc, m, runner.inputs())?;
-    let outputs = outputs(alloc, m)?;
+    let outputs = outputs_in(alloc, m)?;
     let steps = stimulus(alloc, 1, bytes, inputs.as_slice())?;
     let Some(version) = version(bytes) else {
         return Err(Stop::from(lost()));

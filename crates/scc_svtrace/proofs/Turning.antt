@@ -5,7 +5,7 @@ use Rattle.scc_svtree.specs.Steps.{IsSettledStep, IsEdgeStep, EdgePart}
 use Rattle.scc_svrun.specs.Runs.{given}
 use Rattle.scc_trace.specs.declared.stim.StimStep.{StimStep}
 use Rattle.scc_trace.specs.Cut.{Bytes}
-use Rattle.scc_svsim.specs.Trace.{input_of, line_of, lines_of, Turned, Appended}
+use Rattle.scc_svtrace.specs.Trace.{input_of, line_of, lines_of, Turned, Appended}
 
 append_nil : (xs : Bytes) → xs ++ [] ≡ xs
 append_nil [] = refl

@@ -1,8 +1,8 @@
 //! Lines of a trace.
 ghost use Rattle.std.specs.Prelude.{◌≡◌, ◌<◌, ◌^◌, ◌++◌, length, IfOk, OnOk};
 ghost use Rattle.scc_svtree.specs.Variables.{word_at};
-ghost use Rattle.scc_svsim.specs.Ports as ports;
-ghost use Rattle.scc_svsim.specs.Trace as trace;
+ghost use Rattle.scc_svtrace.specs.Ports as ports;
+ghost use Rattle.scc_svtrace.specs.Trace as trace;
 
 use crate::ports::{outputs_of, ports_of};
 use scc_base::{List, NoMemory, Text};
@@ -20,7 +20,7 @@ pub struct Outputs {
 }
 
 /// The outputs of a module.
-pub fn outputs(alloc: Global, m: &SvModule) -> Result<Outputs, NoMemory>
+pub fn outputs_in(alloc: Global, m: &SvModule) -> Result<Outputs, NoMemory>
     requires { length m.now.vars < 2 ^ 32 }
     ensures vars { IfOk result (λ o. o.vars ≡ ports.outputs_of m.now) }
     ensures ports { IfOk result (λ o. o.ports ≡ ports.out_ports m.now) }

@@ -4,17 +4,27 @@ use Rattle.scc_bits.specs.declared.kind.Word.{Word}
 use Rattle.scc_svtree.specs.declared.expr.VarId.{VarId}
 use Rattle.scc_svtree.specs.declared.module.SvModule.{SvModule}
 use Rattle.scc_svtree.specs.Steps.{StepInput, Step, Steps}
-use Rattle.scc_svrun.specs.Runs.{given}
+use Rattle.scc_svtree.specs.Variables.{width_at}
+use Rattle.scc_svrun.specs.Edged.{AreHanded}
+use Rattle.scc_svrun.specs.Runs.{given, inputs_of}
 use Rattle.scc_trace.specs.declared.stim.StimStep.{StimStep}
 use Rattle.scc_trace.specs.declared.stim.Version.{Version}
 use Rattle.scc_trace.specs.declared.stim.Version.TheVariants.{One, Two}
 use Rattle.scc_trace.specs.Cut.{Bytes}
 use Rattle.scc_trace.specs.Text.{trace_text}
-use Rattle.scc_svsim.specs.Ports.{outputs_of, out_ports}
+use Rattle.scc_svtrace.specs.Ports.{outputs_of, out_ports}
 
 -- a step of a stimulus as a step of the module: an edge of its clock, or none
 abbrev pub input_of : SvModule → StimStep → StepInput
 input_of m s = record { inputs = given m s.words; clocks = λ v. true; has_edge = s.edge }
+
+-- a step has a fitting word for each input
+abbrev pub IsHanded : SvModule → StimStep → Type 0
+IsHanded m s = AreHanded (width_at m.vars) (inputs_of m) s.words
+
+abbrev pub AreAllHanded : SvModule → List StimStep → Type 0
+AreAllHanded m [] = Unit {0}
+AreAllHanded m (s ∷ ss) = IsHanded m s × AreAllHanded m ss
 
 -- the words of variables
 abbrev pub words_of : List VarId → (ℕ → ℕ) → List Word

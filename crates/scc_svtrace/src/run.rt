@@ -1,12 +1,12 @@
 //! Steps of a stimulus, one after the other.
-ghost use Rattle.std.specs.Prelude.{◌≡◌, length, OnOk};
+ghost use Rattle.std.specs.Prelude.{◌≡◌, OnOk};
 ghost use Rattle.scc_svtree.specs.Variables.{word_at};
-ghost use Rattle.scc_svsim.specs.Ports as ports;
-ghost use Rattle.scc_svsim.specs.Trace as trace;
-ghost use Rattle.scc_svsim.specs.Trace.{Appended, Turned};
+ghost use Rattle.scc_svtrace.specs.Ports as ports;
+ghost use Rattle.scc_svtrace.specs.Trace as trace;
+ghost use Rattle.scc_svtrace.specs.Trace.{Appended, AreAllHanded, IsHanded, Turned};
 
 use crate::line::{Outputs, line};
-use scc_base::{NoMemory, Text, lost};
+use scc_base::{NoMemory, Text};
 use scc_svrun::SvRunner;
 use scc_trace::StimStep;
 use std::alloc::Global;
@@ -22,14 +22,11 @@ fn turn(
 ) -> Result<(), NoMemory>
     requires vars { outputs.now.vars ≡ ports.outputs_of runner.old.top }
     requires ports { outputs.now.ports ≡ ports.out_ports runner.old.top }
+    requires fitting { IsHanded runner.old.top step.now }
     ensures same { runner.new.top ≡ runner.old.top }
     ensures turned { OnOk result (Turned runner.old.top number step.now (word_at runner.old.words) (word_at runner.new.words) out.old out.new) }
 {
-    let words = step.words.as_slice();
-    if !runner.takes(words) {
-        return Err(lost());
-    }
-    runner.settle(words);
+    runner.settle(step.words.as_slice());
     line(alloc, runner, outputs, number, false, out)?;
     if step.edge {
         runner.edge();
@@ -48,6 +45,7 @@ pub fn play(
 ) -> Result<(), NoMemory>
     requires vars { outputs.now.vars ≡ ports.outputs_of runner.old.top }
     requires ports { outputs.now.ports ≡ ports.out_ports runner.old.top }
+    requires fitting { AreAllHanded runner.old.top steps.now }
     ensures { OnOk result (Appended runner.old.top (word_at runner.old.words) 0 steps.now out.old out.new) }
 {
     for (number, step) in steps.iter().enumerate() {

@@ -1,7 +1,7 @@
 //! The ports of a module as stimuli and traces name them.
 ghost use Rattle.std.specs.Prelude.{◌≡◌, ◌<◌, ◌^◌, map, length, IfOk};
 ghost use Rattle.scc_svtree.specs.Variables.{width_at};
-ghost use Rattle.scc_svsim.specs.Ports as ports;
+ghost use Rattle.scc_svtrace.specs.Ports as ports;
 
 use scc_base::{List, NoMemory, Text};
 use scc_svtree::{Dir, SvModule, SvVar, VarId};
