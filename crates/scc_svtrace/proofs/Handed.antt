@@ -26,7 +26,10 @@ some_same {A} a b e = ap from e
     from None = a
     from (Some x) = x
 
-ok_same : {A : Type 0} (a b : A) (e : Ok {A = A} a ≡ Ok b) → a ≡ b
+abbrev good : {A : Type 0} → A → Outcome A
+good a = Ok a
+
+ok_same : {A : Type 0} (a b : A) → good a ≡ good b → a ≡ b
 ok_same {A} a b e = ap from e
   where
     from : Outcome A → A

@@ -1,11 +1,11 @@
 -- Steps of a trace, one after the other.
-use Rattle.std.proofs.Common.{◌≡◌, ℕ, ◌+◌, Bool, true, false, List, [], ◌∷◌, ◌++◌, append_assoc, refl, sym, ap, ◌∙◌, subst}
+use Rattle.std.proofs.Common.{◌≡◌, ℕ, suc, ◌<◌, ◌+◌, Bool, true, false, List, [], ◌∷◌, ◌++◌, length, drop, drop-cons, add-one, get_or, append_assoc, refl, sym, ap, ◌∙◌, subst}
 use Rattle.scc_svtree.specs.declared.module.SvModule.{SvModule}
 use Rattle.scc_svtree.specs.Steps.{IsSettledStep, IsEdgeStep, EdgePart}
 use Rattle.scc_svrun.specs.Runs.{given}
 use Rattle.scc_trace.specs.declared.stim.StimStep.{StimStep}
 use Rattle.scc_trace.specs.Cut.{Bytes}
-use Rattle.scc_svtrace.specs.Trace.{input_of, line_of, lines_of, Turned, Appended}
+use Rattle.scc_svtrace.specs.Trace.{input_of, line_of, lines_of, Turned, Appended, AreAllHanded}
 
 append_nil : (xs : Bytes) → xs ++ [] ≡ xs
 append_nil [] = refl
@@ -45,3 +45,29 @@ module _ (m : SvModule) (n : ℕ) (s : StimStep) (x y : ℕ → ℕ) (settled : 
             j ∙ ap (λ k. mid ++ line_of k n true z) (i ∙ f) ∙ ap (λ o. o ++ line_of m n true z) (g ∙ ap (λ k. old ++ line_of k n false y) f)
             ∙ append_assoc old (line_of m n false y) (line_of m n true z);
       }
+
+-- the steps from here on are this one and those behind it
+front : (ss : List StimStep) (n : ℕ) (s : StimStep) → n < length ss → s ≡ get_or ss n s → drop n ss ≡ s ∷ drop (n + 1) ss
+front ss n s h is = drop-cons ss n s h ∙ ap (λ d. d ∷ drop (suc n) ss) (sym is) ∙ ap (λ k. s ∷ drop k ss) (sym (add-one n))
+
+module _ (ss : List StimStep) (n : ℕ) (s : StimStep) (h : n < length ss) (is : s ≡ get_or ss n s) where
+  pub turn_at : (m m₁ : SvModule) (x z : ℕ → ℕ) (old mid new : Bytes) → m₁ ≡ m → Turned m₁ n s x z old mid → Appended m z (n + 1) (drop (n + 1) ss) mid new → Appended m x n (drop n ss) old new
+  turn_at m m₁ x z old mid new e t a =
+      let P : SvModule → Type 0 = λ k. Turned k n s x z old mid in
+      let Q : List StimStep → Type 0 = λ l. Appended m x n l old new in
+      subst Q (sym (front ss n s h is)) (turn_more m x z n s (drop (n + 1) ss) old mid new (subst P e t) a)
+
+  pub rest_handed : (m : SvModule) → AreAllHanded m (drop n ss) → AreAllHanded m (drop (n + 1) ss)
+  rest_handed m a =
+      let Q : List StimStep → Type 0 = λ l. AreAllHanded m l in
+      let b : AreAllHanded m (s ∷ drop (n + 1) ss) = subst Q (front ss n s h is) a in
+      b.1
+
+-- what is shown of a module whose words are all 0
+pub shown_from_zero : (m m₁ : SvModule) (x : ℕ → ℕ) (ss ss₁ : List StimStep) (old new : Bytes) → m₁ ≡ m → ((v : ℕ) → x v ≡ 0) → ss₁ ≡ ss → Appended m₁ x 0 ss₁ old new → Appended m (λ v. 0) 0 ss old new
+shown_from_zero m m₁ x ss ss₁ old new e z f a =
+    let same : x ≡ (λ v. 0) = λ i v. z v i in
+    let P : SvModule → Type 0 = λ k. Appended k x 0 ss₁ old new in
+    let Q : (ℕ → ℕ) → Type 0 = λ y. Appended m y 0 ss₁ old new in
+    let R : List StimStep → Type 0 = λ l. Appended m (λ v. 0) 0 l old new in
+    subst R f (subst Q same (subst P e a))
