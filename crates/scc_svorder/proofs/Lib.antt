@@ -3,3 +3,4 @@ pub mod Mentioning
 pub mod Searching
 pub mod Orders
 pub mod Feeding
+pub mod Placing

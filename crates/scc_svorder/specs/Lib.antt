@@ -2,3 +2,4 @@ pub mod VarLists
 pub mod Cycles
 pub mod Fed
 pub mod Search
+pub mod Schedule

@@ -7,6 +7,8 @@ mod groups;
 mod ranks;
 mod reached;
 mod rows;
+mod scheduling;
 mod var_lists;
 
 pub use cycles::{first_cycle, first_of};
+pub use scheduling::schedule;

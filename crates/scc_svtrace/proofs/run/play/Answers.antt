@@ -1,0 +1,18 @@
+use Rattle.std.proofs.Common.{◌∙◌}
+use Rattle.scc_svtree.specs.Variables.{word_at}
+use Rattle.scc_svtrace.proofs.Turning.{turn_at, rest_handed}
+use Rattle.scc_svtrace.proofs.run.play.Goals as goal
+
+pub loop-number-preserved : goal.loop-number-preserved
+loop-number-preserved c =
+    let ss = c.args.steps.now in
+    let n = c.loop-number.number in
+    let s = c.index-steps-number.result in
+    let m = c.args.runner.now.top in
+    record {
+      same = c.turn.ensures.same ∙ c.loop-number.invariant.same;
+      fitting = rest_handed ss n s c.loop-number-test.true c.index-steps-number.is m c.loop-number.invariant.fitting;
+      more = λ new a. c.loop-number.invariant.more new
+          (turn_at ss n s c.loop-number-test.true c.index-steps-number.is m c.loop-number.runner.top (word_at c.loop-number.runner.words) (word_at c.turn.new.runner.words)
+              c.loop-number.out c.turn.new.out new c.loop-number.invariant.same c.in_ok-turn.ensures.turned a);
+    }
