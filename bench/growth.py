@@ -1,0 +1,187 @@
+#!/usr/bin/env python3
+"""Prints how long `scc compile` takes on sources at half of a limit and at the limit, and its greatest memory.
+
+  growth.py STAGE [SHAPE ..]    STAGE: static, construction, middle, compile
+
+The program is that of SCC, else crates/scc/out/scc. Fails where an answer is another than the shape's, or where
+twice the source takes more than 2.2 times as long (times under 20 milliseconds aren't compared).
+"""
+import os
+import pathlib
+import resource
+import subprocess
+import sys
+import tempfile
+
+TOP = pathlib.Path(__file__).resolve().parent.parent
+PROGRAM = os.environ.get("SCC", str(TOP / "crates/scc/out/scc"))
+HEAD = "#include <systemc.h>\n"
+
+
+def repeated(n, piece):
+    return "".join(piece.replace("#", str(i)) for i in range(n))
+
+
+def clocked(members, body):
+    """A module with one method at the edges of a clock."""
+    return (f"{HEAD}SC_MODULE(T) {{\n  sc_in<bool> clk;\n  sc_in<sc_uint<8> > a;\n  sc_out<sc_uint<8> > q;\n{members}\n"
+            f"  void f() {{\n{body}\n  }}\n  SC_CTOR(T) {{ SC_METHOD(f); sensitive << clk.pos(); }}\n}};\n")
+
+
+def thread(members, body):
+    """A module with one thread."""
+    return (f"{HEAD}SC_MODULE(T) {{\n  sc_in<bool> clk, rst;\n  sc_in<sc_uint<8> > a;\n  sc_out<sc_uint<8> > q;\n{members}\n"
+            f"  void f() {{\n{body}\n  }}\n  SC_CTOR(T) {{ SC_CTHREAD(f, clk.pos()); reset_signal_is(rst, true); }}\n}};\n")
+
+
+def members(n):
+    return clocked(repeated(n, "  bool m#;\n"), "m0 = 1;")
+
+
+def instances(n):
+    return f"{HEAD}template<int N> struct A {{ bool x; }};\n" + clocked(repeated(n, "  A<#> a#;\n"), "a0.x = 1;")[len(HEAD):]
+
+
+def operators(n):
+    return clocked("  int x;", "x = 1" + " + 1" * n + ";")
+
+
+def labels(n):
+    return clocked("  int x;", "switch (x) {\n" + repeated(n, "case #: x = #; break;\n") + "}")
+
+
+def assignments(n):
+    return clocked("  int x, y;", "x = y + 1;\n" * n)
+
+
+def constants(n):
+    return clocked("  static const int c0 = 0;\n" + "".join(f"  static const int c{i} = c{i - 1};\n" for i in range(1, n)),
+                   f"q.write(c{n - 1});")
+
+
+def functions(n):
+    return clocked("  int x;\n  void f0() { x = 1; }\n" + "".join(f"  void f{i}() {{ f{i - 1}(); }}\n" for i in range(1, n)), "f0();")
+
+
+def signals(n):
+    return (f"{HEAD}SC_MODULE(T) {{\n  sc_in<bool> a;\n  sc_vector<sc_signal<bool> > s;\n  void f() {{ s[0].write(a.read()); }}\n"
+            f"  SC_CTOR(T) : s(\"s\", {n}) {{ SC_METHOD(f); sensitive << a; }}\n}};\n")
+
+
+def bindings(n):
+    return (f"{HEAD}SC_MODULE(C) {{\n  sc_in<bool> x;\n  SC_CTOR(C) {{ }}\n}};\nSC_MODULE(T) {{\n  sc_in<bool> a;\n  sc_vector<C> c;\n"
+            f"  SC_CTOR(T) : c(\"c\", {n}) {{ for (int i = 0; i < {n}; i++) c[i].x(a); }}\n}};\n")
+
+
+def modules(n):
+    return (f"{HEAD}SC_MODULE(C) {{\n  sc_in<bool> x;\n  sc_signal<bool> y;\n  void f() {{ y.write(x.read()); }}\n"
+            f"  SC_CTOR(C) {{ SC_METHOD(f); sensitive << x; }}\n}};\nSC_MODULE(T) {{\n  sc_in<bool> a;\n  C* c[{n}];\n"
+            f"  SC_CTOR(T) {{ for (int i = 0; i < {n}; i++) {{ c[i] = new C(\"c\"); c[i]->x(a); }} }}\n}};\n")
+
+
+def turns(n):
+    return clocked("  int n;", "n = 1;").replace("SC_CTOR(T) {", f"SC_CTOR(T) {{ for (int i = 0; i < {n}; i++) n = i;")
+
+
+def processes(n):
+    return (f"{HEAD}SC_MODULE(T) {{\n  sc_in<bool> clk;\n" + repeated(n, "  bool m#;\n  void f#() { m# = !m#; }\n") +
+            "  SC_CTOR(T) {\n" + repeated(n, "    SC_METHOD(f#); sensitive << clk.pos();\n") + "  }\n};\n")
+
+
+def waits(n):
+    return thread("", "q.write(0);\n" + "wait();\n" * n + "while (true) wait();")
+
+
+def counted(n):
+    return clocked("  sc_uint<16> n;", f"for (int i = 0; i < {n}; i++) {{ n = n + i; n = n ^ a.read(); }}")
+
+
+def elements(n):
+    return clocked(f"  bool m[{n}];\n  sc_uint<16> i;", "q.write(m[i]); m[i] = 1; i = i + 1;")
+
+
+def sensitive(n):
+    return (f"{HEAD}SC_MODULE(T) {{\n  sc_in<bool> a[{n}];\n  sc_out<bool> q;\n  void f() {{ q.write(a[0].read()); }}\n"
+            f"  SC_CTOR(T) {{ SC_METHOD(f); for (int i = 0; i < {n}; i++) sensitive << a[i]; }}\n}};\n")
+
+
+def listed(n):
+    return (f"{HEAD}SC_MODULE(T) {{\n" + repeated(n, "  sc_signal<bool> s#;\n") + "  sc_out<bool> q;\n  void f() { q.write(s0.read()); }\n"
+            "  SC_CTOR(T) { SC_METHOD(f); sensitive" + repeated(n, " << s#") + "; }\n};\n")
+
+
+def ports(n):
+    pairs = range(n // 2)
+    return (f"{HEAD}SC_MODULE(T) {{\n  sc_in<bool> {', '.join(f'a{i}' for i in pairs)};\n  sc_out<bool> {', '.join(f'y{i}' for i in pairs)};\n"
+            "  void f() {\n" + repeated(n // 2, "y#.write(!a#);\n") +
+            "  }\n  SC_CTOR(T) { SC_METHOD(f); sensitive" + repeated(n // 2, "<<a#") + "; }\n};\n")
+
+
+def states(n):
+    return thread("", "q.write(0);\nwait();\nwhile (true) {\n" + repeated(n, "q.write(#);\nwait();\n") + "}")
+
+
+def generated(n):
+    return subprocess.run([PROGRAM, "gen", str(n), "--source"], capture_output=True, check=True).stdout.decode()
+
+
+# for each stage: name, the source of a size, the size, the module's name, the code of the refusal or None
+SHAPES = {
+    "static": [("members", members, 20000, "T", None), ("instances", instances, 4000, "T", None),
+               ("operators", operators, 100000, "T", None), ("labels", labels, 10000, "T", "E601"),
+               ("assignments", assignments, 40000, "T", None), ("constants", constants, 20000, "T", None),
+               ("functions", functions, 12000, "T", None)],
+    "construction": [("signals", signals, 60000, "T", None), ("bindings", bindings, 20000, "T", None),
+                     ("modules", modules, 1000, "T", None), ("turns", turns, 65000, "T", None)],
+    "middle": [("statements", assignments, 40000, "T", None), ("processes", processes, 1000, "T", None),
+               ("waits", waits, 16000, "T", None), ("turns", counted, 4000, "T", None),
+               ("elements", elements, 60000, "T", None), ("listed", listed, 24000, "T", None)],
+    "compile": [("generated stages", generated, 1000, "Gen", None), ("states", states, 16000, "T", None),
+                ("ports", ports, 30000, "T", None)],
+}
+
+
+def run(words, folder):
+    """Status, what was said, seconds of the processor, and kilobytes of memory."""
+    with open(os.devnull, "wb") as out:
+        p = subprocess.Popen([PROGRAM] + words, cwd=folder, stdout=out, stderr=subprocess.PIPE,
+                             preexec_fn=lambda: resource.setrlimit(resource.RLIMIT_STACK, (8 << 20, 8 << 20)))
+        said = p.stderr.read()
+        _, status, usage = os.wait4(p.pid, 0)
+    return os.waitstatus_to_exitcode(status), said.decode(errors="replace"), usage.ru_utime + usage.ru_stime, usage.ru_maxrss
+
+
+def measured(words, folder):
+    """The fastest of some runs."""
+    best = run(words, folder)
+    for _ in range(9 if best[2] < 0.2 else 2):
+        again = run(words, folder)
+        best = again if again[2] < best[2] else best
+    return best
+
+
+def main():
+    stage, wanted = sys.argv[1], sys.argv[2:]
+    failed = False
+    with tempfile.TemporaryDirectory() as folder:
+        for name, source, size, top, code in SHAPES[stage]:
+            if wanted and name not in wanted:
+                continue
+            half = None
+            for n in (size // 2, size):
+                pathlib.Path(folder, "a.cpp").write_text(source(n))
+                status, said, took, memory = measured(["compile", top, "a.cpp"], folder)
+                print(f"{name:<20} {n:>7} {took * 1000:>9.1f} ms {memory:>8} KB", flush=True)
+                right = status == 0 if code is None else status == 1 and f" {code} " in said
+                if not right:
+                    print(f"{name}: status {status}: {said[:200].strip()}")
+                    failed = True
+                if half is not None and took > 0.02 and took > 2.2 * half:
+                    print(f"{name}: not linear")
+                    failed = True
+                half = took
+    sys.exit(failed)
+
+
+if __name__ == "__main__":
+    main()
