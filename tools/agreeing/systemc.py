@@ -47,11 +47,17 @@ def native(kind):
             f"  unsigned long long value;\n  set_native(value, digits);\n  signal.write(({kind})value);\n}}")
 
 
+def member(name):
+    """The port as C++ names it: `a$0` is an element of an array or vector."""
+    first, *parts = name.split("$")
+    return first + "".join(f"[{p}]" if p.isdigit() else f".{p}" for p in parts)
+
+
 def testbench(module, stimulus, sources):
     lines = [HEAD % {"sources": "\n".join(f'#include "{s}"' for s in sources), "top": module.name,
                      "natives": "\n".join(native(k) for k in NATIVES)}]
     for k, p in enumerate(module.ports):
-        lines.append(f"  auto& port_{k} = wire(dut.{p.name});")
+        lines.append(f"  auto& port_{k} = wire(dut.{member(p.name)});")
     place = {p.name: k for k, p in enumerate(module.ports)}
     clock = f"port_{place[module.clock]}" if module.clock else None
     idle, active = ("false", "true") if module.rising else ("true", "false")
