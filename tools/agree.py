@@ -1,0 +1,98 @@
+#!/usr/bin/env python3
+"""Runs a design by scc and by every other tool that is installed, on one stimulus, and compares the traces.
+
+    tools/agree.py TOP FILE [FILE ..] --stim S [--expect TRACE] [--scc CMD] [--keep FOLDER]
+
+One line for each tool says `same`, `differs` with the first line that does, `failed`, or `not installed`. All traces
+are compared with TRACE where it is given, and with that of `scc sim` otherwise. The tools are `scc sim`, `scc svsim`,
+the SystemC library with g++, Icarus Verilog, Verilator, and Yosys, whose netlist Icarus runs. With --keep the texts,
+testbenches and traces are left in FOLDER. The status is 0 where all that is installed agrees, and 1 otherwise.
+"""
+import argparse
+import shlex
+import sys
+import tempfile
+from pathlib import Path
+
+from agreeing.emitted import read_module
+from agreeing.runs import TOOLS, Failed, call
+from agreeing.stimulus import read_stimulus
+
+REPOSITORY = Path(__file__).resolve().parent.parent
+
+
+class Job:
+    """A design that was compiled, with a stimulus and a folder to work in."""
+
+    def __init__(self, scc, top, sources, stimulus_file, folder):
+        self.scc, self.top, self.folder = scc, top, folder
+        self.sources = [Path(s).resolve() for s in sources]
+        self.stimulus_file = Path(stimulus_file).resolve()
+        self.emitted = folder / f"{top}.sv"
+        self.emitted.write_text(call(scc + ["compile", top, *self.sources], folder))
+        self.module = read_module(self.emitted.read_text())
+        self.stimulus = read_stimulus(self.stimulus_file.read_text())
+
+    def source_trace(self):
+        return call(self.scc + ["sim", self.top, *self.sources, "--stim", self.stimulus_file], self.folder)
+
+    def emitted_trace(self):
+        return call(self.scc + ["svsim", self.top, self.emitted, "--stim", self.stimulus_file], self.folder)
+
+
+def difference(wanted, got):
+    """The first line that differs, in words; None where both are the same."""
+    if wanted == got:
+        return None
+    a, b = wanted.splitlines() + ["the end"], got.splitlines() + ["the end"]
+    k = next(k for k in range(min(len(a), len(b))) if a[k] != b[k])
+    return f"at line {k + 1}: wanted '{a[k]}', got '{b[k]}'"
+
+
+def compare(job, expected):
+    runs = [("scc sim", lambda: True, Job.source_trace), ("scc svsim", lambda: True, Job.emitted_trace), *TOOLS]
+    all_agree = True
+    for name, is_installed, trace_of in runs:
+        if not is_installed():
+            print(f"  {name:10} not installed", flush=True)
+            continue
+        try:
+            trace = trace_of(job)
+        except Failed as fault:
+            print(f"  {name:10} failed: {fault}", flush=True)
+            all_agree = False
+            continue
+        (job.folder / f"{name.replace(' ', '-').lower()}.trace").write_text(trace)
+        expected = trace if expected is None else expected
+        differs = difference(expected, trace)
+        print(f"  {name:10} {'same' if differs is None else 'differs ' + differs}", flush=True)
+        all_agree = all_agree and differs is None
+    return all_agree
+
+
+def main():
+    parser = argparse.ArgumentParser(description=__doc__, formatter_class=argparse.RawDescriptionHelpFormatter)
+    parser.add_argument("top", metavar="TOP")
+    parser.add_argument("sources", metavar="FILE", nargs="+")
+    parser.add_argument("--stim", required=True)
+    parser.add_argument("--expect")
+    parser.add_argument("--scc", default=str(REPOSITORY / "scc"))
+    parser.add_argument("--keep")
+    a = parser.parse_args()
+    scc = [str(Path(w).resolve()) if Path(w).exists() else w for w in shlex.split(a.scc)]
+    expected = Path(a.expect).read_text() if a.expect else None
+    with tempfile.TemporaryDirectory() as temporary:
+        folder = Path(a.keep or temporary).resolve()
+        folder.mkdir(parents=True, exist_ok=True)
+        try:
+            job = Job(scc, a.top, a.sources, a.stim, folder)
+        except Failed as fault:
+            print(f"{a.top}: {fault}")
+            sys.exit(1)
+        lines = job.emitted.read_text().count("\n")
+        print(f"{a.top}: {lines} lines of SystemVerilog, {len(job.stimulus.steps)} steps")
+        sys.exit(0 if compare(job, expected) else 1)
+
+
+if __name__ == "__main__":
+    main()

@@ -1,0 +1,41 @@
+"""A testbench in SystemVerilog that runs a stimulus and writes the trace that `scc sim` writes."""
+
+
+def testbench(module, stimulus, registers_are_named=True):
+    """For Icarus and Verilator. Where registers are named, they begin as 0, as those of `scc svsim` do."""
+    lines = ["`timescale 1ns/1ns", "module testbench;"]
+    for p in module.ports:
+        kind = "reg" if p.is_input else "wire"
+        lines.append(f"  {kind} [{p.width - 1}:0] {p.spelling};")
+    connections = ", ".join(f".{p.spelling}({p.spelling})" for p in module.ports)
+    lines += [f"  \\{module.name} dut ({connections});", "  initial begin"]
+    if registers_are_named:
+        lines += ["`ifndef VERILATOR"]
+        lines += [f"    dut.\\{name} = 0;" for name in module.registers]
+        lines += ["`endif"]
+    idle, active = ("1'b0", "1'b1") if module.rising else ("1'b1", "1'b0")
+    clock = f"\\{module.clock} " if module.clock else None
+    if clock:
+        lines.append(f"    {clock} = {idle};")
+    lines.append(f'    $display("scc-trace {stimulus.version}");')
+    widths = {p.name: p for p in module.inputs()}
+    for number, step in enumerate(stimulus.steps):
+        for name, value in zip(stimulus.ports, step.values):
+            p = widths[name]
+            lines.append(f"    {p.spelling} = {p.width}'h{value:x};")
+        lines += ["    #1;", observation(module, f"{number}-")]
+        if step.has_edge:
+            if clock:
+                lines.append(f"    {clock} = {active};")
+            lines += ["    #1;", observation(module, f"{number}+")]
+            if clock:
+                lines += [f"    {clock} = {idle};", "    #1;"]
+    lines += ["    $finish;", "  end", "endmodule", ""]
+    return "\n".join(lines)
+
+
+def observation(module, label):
+    outputs = module.outputs()
+    form = label + "".join(f" {p.name}=%h" for p in outputs)
+    values = "".join(f", {p.spelling}" for p in outputs)
+    return f'    $display("{form}"{values});'

@@ -1,0 +1,98 @@
+#!/usr/bin/env python3
+"""Finds what documents cite and isn't there: files, crates, clauses; and lines of more than 120 columns.
+
+    tools/check_docs.py [FILE ..]           without files: README, CONTRIBUTING, CHANGELOG and all of docs and examples
+
+What is looked at:
+- a link to a file beside the document;
+- a word `scc_..` in backticks is a crate of crates.txt, unless its line says `not yet` or [CHECK;
+- a word `NAME.rt` in backticks is a file of the crate of the heading, or of any crate where the heading names none;
+- below a heading of a crate, names in round brackets, as (`ok`, `err`), are clauses or public functions of it;
+- a path in backticks that begins with a folder of the repository.
+Lines of tables and of code aren't measured. The status is 1 where something is wrong.
+"""
+import functools
+import re
+import sys
+from pathlib import Path
+
+REPOSITORY = Path(__file__).resolve().parent.parent
+CRATES = {line.split(":")[0].strip() for line in (REPOSITORY / "crates.txt").read_text().splitlines() if ":" in line}
+FOLDERS = ("crates/", "docs/", "examples/", "tools/", "bench/", ".ci/")
+PARTS = ("src", "specs", "proofs")
+COLUMNS = 120
+
+LINK = re.compile(r"\]\(([^)#\s]+)(?:#[^)]*)?\)")
+CODE = re.compile(r"`([^`]+)`")
+CLAUSES = re.compile(r"\(((?:`[a-z_]+`, )*`[a-z_]+`)\)")
+LATER = re.compile(r"not yet|\[CHECK")
+DECLARED = re.compile(r"\b(?:ensures|requires|fn|mod|ghost) +([a-z_]\w*)")
+
+
+@functools.lru_cache(maxsize=None)
+def sources(crate):
+    return [f for f in (REPOSITORY / "crates" / crate).rglob("*") if f.suffix in (".rt", ".antt") and "out" not in f.parts]
+
+
+@functools.lru_cache(maxsize=None)
+def declared(crate):
+    """The names of clauses and functions of a crate's code and definitions."""
+    names = set()
+    for f in sources(crate):
+        text = f.read_text()
+        names.update(DECLARED.findall(text))
+        if f.suffix == ".antt":
+            names.update(re.findall(r"^\s*(?:\w+ )*([a-z_]\w*) +:", text, re.M))
+    return names
+
+
+def has_file(crates, name):
+    return any(f.name == Path(name).name and str(f).endswith("/" + name) for crate in crates for f in sources(crate))
+
+
+def faults_of_line(document, line, heading):
+    for target in LINK.findall(line):
+        if "://" not in target and not (document.parent / target).exists():
+            yield f"no file {target}"
+    for word in CODE.findall(line):
+        if re.fullmatch(r"scc_[a-z_]+", word) and word not in CRATES and not LATER.search(line):
+            yield f"no crate {word}"
+        elif re.fullmatch(r"[a-z_/]+\.rt", word) and not has_file(heading or CRATES, word) and not has_file(CRATES, word):
+            yield f"no file {word} in {', '.join(heading) or 'any crate'}"
+        elif word.startswith(FOLDERS) and re.fullmatch(r"[a-z0-9_./-]+", word) and not (REPOSITORY / word).exists():
+            yield f"no file {word}"
+    for group in CLAUSES.findall(line) if heading else []:
+        for name in CODE.findall(group):
+            if name not in CRATES and name not in PARTS and not any(name in declared(crate) for crate in heading):
+                yield f"no clause {name} in {', '.join(heading)}"
+
+
+def faults_of(document):
+    heading, in_code = [], False
+    for number, line in enumerate(document.read_text().splitlines(), 1):
+        if line.startswith("```"):
+            in_code = not in_code
+            continue
+        if in_code or line.startswith("    "):
+            continue
+        if line.startswith("#"):
+            heading = [c for c in re.findall(r"scc_?[a-z_]*", line) if c in CRATES]
+        if len(line) > COLUMNS and not line.startswith("|"):
+            yield f"{document.relative_to(REPOSITORY)}:{number}: {len(line)} columns"
+        for fault in faults_of_line(document, line, heading):
+            yield f"{document.relative_to(REPOSITORY)}:{number}: {fault}"
+
+
+def main():
+    names = [Path(n).resolve() for n in sys.argv[1:]]
+    documents = names or [*REPOSITORY.glob("*.md"), *sorted((REPOSITORY / "docs").rglob("*.md")),
+                          *sorted((REPOSITORY / "examples").rglob("*.md"))]
+    faults = [fault for document in documents for fault in faults_of(document)]
+    for fault in faults:
+        print(fault)
+    print(f"{len(documents)} documents, {len(faults)} faults")
+    sys.exit(bool(faults))
+
+
+if __name__ == "__main__":
+    main()

@@ -1,0 +1,120 @@
+#!/usr/bin/env python3
+"""Runs the examples of docs/errors, and says where a refusal isn't the one that stands there.
+
+    tools/error_examples.py [PAGE ..] [--scc CMD] [--write] [--data]
+
+A page has, below the heading of a code, blocks of files and blocks of commands:
+
+    ```cpp                          the file a.cpp; another name may stand behind the language
+    SC_MODULE(T) { .. };
+    ```
+
+    ```console
+    $ scc compile T a.cpp           a command over the files since the last command
+    a.cpp:1:3: E304 mismatch        what it says on the second output
+    ```
+
+In a file `{{N*text}}` stands for the text N times, in which `{#}` is the number of the time, from 0. --write puts in the
+place of each refusal what the program says; --data prints all examples as JSON, one a line: its code, words, files and
+refusal.
+"""
+import argparse
+import json
+import re
+import shlex
+import subprocess
+import sys
+import tempfile
+from pathlib import Path
+
+REPOSITORY = Path(__file__).resolve().parent.parent
+PAGES = sorted((REPOSITORY / "docs" / "errors").glob("[0-9]-*.md"))
+FENCE = re.compile(r"^```(\S+)(?: (\S+))?\n(.*?)^```$", re.M | re.S)
+HEADING = re.compile(r"^## E(\d+) (.*)$", re.M)
+REPEAT = re.compile(r"\{\{(\d+)\*(.*?)\}\}", re.S)
+
+
+def expanded(text):
+    def copies(match):
+        return "".join(match.group(2).replace("{#}", str(k)) for k in range(int(match.group(1))))
+
+    return REPEAT.sub(copies, text)
+
+
+class Example:
+    def __init__(self, page, code, name, files, words, refusal, span):
+        self.page, self.code, self.name, self.files = page, code, name, files
+        self.words, self.refusal, self.span = words, refusal, span
+
+    def run(self, scc):
+        with tempfile.TemporaryDirectory() as folder:
+            for name, text in self.files.items():
+                Path(folder, name).write_text(expanded(text))
+            done = subprocess.run(scc + self.words, cwd=folder, capture_output=True, text=True, timeout=600)
+            return done.returncode, done.stderr.rstrip("\n")
+
+
+def examples_of(page):
+    text = page.read_text()
+    headings = [(m.start(), int(m.group(1)), m.group(2)) for m in HEADING.finditer(text)]
+    files = {}
+    for fence in FENCE.finditer(text):
+        language, name, body = fence.groups()
+        if language != "console":
+            # the last line feed belongs to the fence
+            files[name or "a.cpp"] = body[:-1] if language == "cpp" else body
+            continue
+        _, code, title = [h for h in headings if h[0] < fence.start()][-1]
+        command, *said = body.splitlines()
+        words = shlex.split(command.removeprefix("$ scc "))
+        yield Example(page, code, title, files, words, "\n".join(said), fence.span(3))
+        files = {}
+
+
+def write(page, scc):
+    text, changes = page.read_text(), []
+    for e in examples_of(page):
+        command = text[e.span[0]:e.span[1]].splitlines()[0]
+        changes.append((e.span, f"{command}\n{e.run(scc)[1]}\n"))
+    for (start, end), new in reversed(changes):
+        text = text[:start] + new + text[end:]
+    page.write_text(text)
+
+
+def wrong(example, scc):
+    """What is wrong with an example, or None."""
+    if f": E{example.code} {example.name}" not in example.refusal:
+        return f"the page says '{example.refusal}'"
+    status, said = example.run(scc)
+    if (status, said) != (1, example.refusal):
+        return f"status {status}, '{said}' in place of '{example.refusal}'"
+    return None
+
+
+def main():
+    parser = argparse.ArgumentParser(description=__doc__, formatter_class=argparse.RawDescriptionHelpFormatter)
+    parser.add_argument("pages", metavar="PAGE", nargs="*", type=Path)
+    parser.add_argument("--scc", default=str(REPOSITORY / "scc"))
+    parser.add_argument("--write", action="store_true")
+    parser.add_argument("--data", action="store_true")
+    a = parser.parse_args()
+    scc = [str(Path(w).resolve()) if Path(w).exists() else w for w in shlex.split(a.scc)]
+    passed = failed = 0
+    for page in a.pages or PAGES:
+        if a.write:
+            write(page, scc)
+        for e in examples_of(page):
+            if a.data:
+                print(json.dumps({"code": e.code, "words": e.words, "files": e.files, "refusal": e.refusal}))
+                continue
+            fault = wrong(e, scc)
+            passed, failed = passed + (fault is None), failed + (fault is not None)
+            if fault:
+                print(f"{page.name}: E{e.code}: {fault}")
+    if not a.data:
+        print(f"{passed} as they stand, {failed} not")
+    sys.exit(failed > 0)
+
+
+if __name__ == "__main__":
+    main()

@@ -1,0 +1,66 @@
+#!/bin/sh
+# Takes what `scc compile` makes of the examples through the linters that are installed: Verilator with all warnings,
+# Icarus Verilog and Yosys. An error, a latch, or a warning that isn't expected ends with status 1. The warnings that are
+# expected, and why they stay, are in docs/TOOLS.md.
+#
+#   tools/lint.sh                  SCC names another program: SCC=/usr/local/bin/scc tools/lint.sh
+set -u
+top=$(cd "$(dirname "$0")/.." && pwd)
+scc=${SCC:-$top/scc}
+expected_of_verilator='UNUSEDSIGNAL|CASEINCOMPLETE'
+expected_of_icarus='constant selects in always_|process has no sensitivities'
+folder=$(mktemp -d)
+trap 'rm -rf "$folder"' EXIT
+failed=0
+
+fail() {
+  echo "  $1"
+  sed 's/^/    /' "$folder/said" | head -"${2:-5}"
+  failed=1
+}
+
+has() {
+  command -v "$1" >/dev/null
+}
+
+lint_verilator() {
+  verilator --lint-only -Wall -Wno-fatal "$1" >"$folder/said" 2>&1 || { fail "verilator: error"; return; }
+  kinds=$(grep -oE '^%Warning-[A-Z]+' "$folder/said" | sed 's/^%Warning-//' | sort | uniq -c | awk '{print $2 " " $1}')
+  if echo "$kinds" | grep -vE "^($expected_of_verilator) " | grep -q .; then
+    fail "verilator: a warning that isn't expected" 20
+  else
+    echo "  verilator  no error$(echo "$kinds" | sed '/./!d; s/^/, /' | tr -d '\n')"
+  fi
+}
+
+lint_icarus() {
+  if iverilog -g2012 -Wall -o /dev/null "$1" >"$folder/output" 2>&1; then
+    grep -vE "$expected_of_icarus" "$folder/output" >"$folder/said"
+    if [ -s "$folder/said" ]; then fail "icarus: a warning that isn't expected"; else echo "  icarus     no error"; fi
+  else
+    mv "$folder/output" "$folder/said"
+    fail "icarus: error"
+  fi
+}
+
+lint_yosys() {
+  if yosys -q -p "read_verilog -sv $1; hierarchy -check -auto-top; proc; check -assert
+      select -assert-none t:\$dlatch t:\$adlatch t:\$dlatchsr t:\$sr" >"$folder/said" 2>&1; then
+    if [ -s "$folder/said" ]; then fail "yosys: a warning that isn't expected"; else echo "  yosys      no error, no latch"; fi
+  else
+    fail "yosys: error"
+  fi
+}
+
+{ echo And and.cpp; make -s -C "$top/examples" list; } >"$folder/list"
+while read -r module source; do
+  echo "$module"
+  if ! "$scc" compile "$module" "$top/examples/$source" >"$folder/$module.sv" 2>"$folder/said"; then
+    fail "scc: refused"
+    continue
+  fi
+  if has verilator; then lint_verilator "$folder/$module.sv"; else echo "  verilator  not installed"; fi
+  if has iverilog; then lint_icarus "$folder/$module.sv"; else echo "  icarus     not installed"; fi
+  if has yosys; then lint_yosys "$folder/$module.sv"; else echo "  yosys      not installed"; fi
+done <"$folder/list"
+exit $failed
