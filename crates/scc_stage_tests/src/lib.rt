@@ -12,3 +12,5 @@ mod designs;
 mod processes;
 #[cfg(test)]
 mod program;
+#[cfg(test)]
+mod thin;

@@ -1,0 +1,89 @@
+//! Thin texts have a path of their own in `run`, which carries the main theorem: the stages give the same bytes for them.
+use scc_base::{CalmFiles, CalmSink, List, Names, Text};
+use scc_drive::run;
+use scc_grammar::parse;
+use scc_stages::compile;
+use scc_tokens::join;
+use std::alloc::Global;
+use std::test::Fail;
+
+const EIGHT: &str = "#include <systemc.h>
+SC_MODULE(And) {
+  sc_in<sc_uint<8> > a, b;
+  sc_out<sc_uint<8> > y;
+  void f() { y.write(a.read() & b.read()); }
+  SC_CTOR(And) { SC_METHOD(f); sensitive << a << b; }
+};
+";
+
+const SIXTY_FOUR: &str = "#include <systemc.h>
+SC_MODULE(And) {
+  sc_in<sc_uint<64>> a, b;
+  sc_out<sc_uint<64> > y;
+  void f() { y.write(a.read() & b.read()); }
+  SC_CTOR(And) { SC_METHOD(f); sensitive << a << b; }
+};
+";
+
+const SIZES: &str = "#include <systemc.h>
+SC_MODULE(And){sc_in<sc_uint<1>>read;sc_out<sc_uint<64>>wide,same;
+sc_in<sc_uint<12> >b;sc_out<sc_uint<3>>less;
+void write(){less.write(b.read());wide.write(read.read()|b.read());same.write(b.read()^b.read());}
+SC_CTOR(And){SC_METHOD(write);sensitive<<b<<read;}};
+";
+
+/// A file `and.cpp` with this text.
+fn file(alloc: Global, source: &str) -> Result<CalmFiles, Fail> {
+    let mut files = CalmFiles::new(alloc);
+    files.add("and.cpp", source.as_bytes())?;
+    Ok(files)
+}
+
+/// What `compile And and.cpp` writes.
+fn by_run(alloc: Global, source: &str) -> Result<CalmSink, Fail> {
+    let mut files = file(alloc, source)?;
+    let mut out = CalmSink::new(alloc);
+    let mut err = CalmSink::new(alloc);
+    let mut words = Vec::new(alloc);
+    for word in ["compile", "And", "and.cpp"] {
+        words.push(String::from_str(alloc, word)?)?;
+    }
+    let _status = run(alloc, words.as_slice(), &mut files, &mut out, &mut err);
+    Ok(out)
+}
+
+/// What the stages give; None where one refuses.
+fn by_stages(alloc: Global, source: &str) -> Result<Option<Text>, Fail> {
+    let mut files = file(alloc, source)?;
+    let mut names = Names::new(alloc)?;
+    let mut sources = List::new(alloc);
+    let mut roots = Vec::new(alloc);
+    roots.push(String::from_str(alloc, "and.cpp")?)?;
+    let Ok(joined) = join(
+        alloc,
+        roots.as_slice(),
+        &mut files,
+        &mut names,
+        &mut sources,
+    ) else {
+        return Ok(None);
+    };
+    let Ok(tree) = parse(alloc, &joined) else {
+        return Ok(None);
+    };
+    Ok(compile(alloc, &names, &tree, b"And").ok())
+}
+
+#[test]
+fn gives_the_same_bytes(rt: HostRuntime) -> Result<(), Fail> {
+    for source in [EIGHT, SIXTY_FOUR, SIZES] {
+        let written = by_run(rt.alloc(), source)?;
+        let given = by_stages(rt.alloc(), source)?;
+        assert!(rt; !written.bytes().is_empty());
+        assert!(rt;
+            matches!(&given, Some(text) if text.bytes() == written.bytes()),
+            "{source}"
+        );
+    }
+    Ok(())
+}
