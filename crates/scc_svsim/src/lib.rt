@@ -2,8 +2,5 @@
 #![tactic(auto)]
 
 mod command;
-mod line;
-mod ports;
-mod run;
 
 pub use command::svsim;
