@@ -46,22 +46,37 @@ pub fn plain(alloc: Global, tree: &FileTree, top: Name) -> Result<Plain, Stop>
 {
     find_duplicates(alloc, tree)?;
     let mut w = Walk::new(alloc, tree)?;
-    make_top(top, tree, &mut w)?;
-    let mut order = Order {
-        functions: List::new(alloc),
-    };
-    if let Err(stop) = walk(tree, &mut w, &mut order) {
-        return sooner(stop, w.late);
-    }
-    if let Some(late) = w.late {
-        return refuse(Code::CallPlace, late);
-    }
-    look_last(tree, &mut w, &order)?;
-    let program = written(tree, &mut w, &order)?;
+    let program = reached(top, tree, &mut w)?;
     if !is_whole(&program) {
         return gone();
     }
     Ok(program)
+}
+
+// The program that a top reaches.
+fn reached(top: Name, tree: &FileTree, w: &mut Walk) -> Result<Plain, Stop>
+    ensures stop { IfErr result MayStop }
+{
+    make_top(top, tree, w)?;
+    let order = walked(tree, w)?;
+    look_last(tree, w, &order)?;
+    written(tree, w, &order)
+}
+
+// The walk over all that is needed.
+fn walked(tree: &FileTree, w: &mut Walk) -> Result<Order, Stop>
+    ensures stop { IfErr result MayStop }
+{
+    let mut order = Order {
+        functions: List::new(w.alloc),
+    };
+    if let Err(stop) = walk(tree, w, &mut order) {
+        return sooner(stop, w.late);
+    }
+    match w.late {
+        Some(late) => refuse(Code::CallPlace, late),
+        None => Ok(order),
+    }
 }
 
 // A call that stands where none may is refused behind all else, but for what stands at its place with a smaller number.
