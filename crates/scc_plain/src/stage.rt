@@ -46,21 +46,29 @@ pub fn plain(alloc: Global, tree: &FileTree, top: Name) -> Result<Plain, Stop>
 {
     find_duplicates(alloc, tree)?;
     let mut w = Walk::new(alloc, tree)?;
-    let program = reached(top, tree, &mut w)?;
-    if !is_whole(&program) {
-        return gone();
-    }
-    Ok(program)
+    reached(top, tree, &mut w)
 }
 
 // The program that a top reaches.
 fn reached(top: Name, tree: &FileTree, w: &mut Walk) -> Result<Plain, Stop>
     ensures stop { IfErr result MayStop }
+    ensures whole { IfOk result (λ p. whole_plain p ≡ true) }
 {
     make_top(top, tree, w)?;
     let order = walked(tree, w)?;
     look_last(tree, w, &order)?;
-    written(tree, w, &order)
+    looked_at(written(tree, w, &order)?)
+}
+
+// A program that is whole.
+fn looked_at(program: Plain) -> Result<Plain, Stop>
+    ensures stop { IfErr result MayStop }
+    ensures whole { IfOk result (λ p. whole_plain p ≡ true) }
+{
+    if !is_whole(&program) {
+        return Err(Stop::from(lost()));
+    }
+    Ok(program)
 }
 
 // The walk over all that is needed.
