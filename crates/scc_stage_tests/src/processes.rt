@@ -28,12 +28,12 @@ fn statements(form: Form) -> &'static str {
 }
 
 /// A module with these members and bodies of `f`, on line 8, and `g`, on line 11.
-fn source(
+fn source<'x>(
     alloc: Global,
     form: Form,
-    members: &str,
-    body: &str,
-    second: &str,
+    members: &'x str,
+    body: &'x str,
+    second: &'x str,
 ) -> Result<Text, NoMemory> {
     let mut text = Text::new(alloc);
     for piece in [
