@@ -14,5 +14,5 @@ loop-number-preserved c =
       fitting = rest_handed ss n s c.loop-number-test.true c.index-steps-number.is m c.loop-number.invariant.fitting;
       more = λ new a. c.loop-number.invariant.more new
           (turn_at ss n s c.loop-number-test.true c.index-steps-number.is m c.loop-number.runner.top (word_at c.loop-number.runner.words) (word_at c.turn.new.runner.words)
-              c.loop-number.out c.turn.new.out new c.loop-number.invariant.same c.in_ok-turn.ensures.turned a);
+          c.loop-number.out c.turn.new.out new c.loop-number.invariant.same c.in_ok-turn.ensures.turned a);
     }
