@@ -4,6 +4,9 @@ use scc_base::{NoMemory, Text};
 use std::alloc::Global;
 use std::test::Fail;
 
+const HEAD: &str =
+    "struct P { int x, k; void g() { x = 1; } };\nstruct T {\n  sc_in<bool> c, r, a;\n  sc_out<bool> q;\n  int n;\n  ";
+
 /// How `f`, and `g` where it is a process too, are run.
 #[derive(Clone, Copy)]
 enum Form {
@@ -28,28 +31,23 @@ fn statements(form: Form) -> &'static str {
 }
 
 /// A module with these members and bodies of `f`, on line 8, and `g`, on line 11.
-fn source<'x>(
+fn source(
     alloc: Global,
     form: Form,
-    members: &'x str,
-    body: &'x str,
-    second: &'x str,
+    members: &str,
+    body: &str,
+    second: &str,
 ) -> Result<Text, NoMemory> {
     let mut text = Text::new(alloc);
-    for piece in [
-        "struct P { int x, k; void g() { x = 1; } };\nstruct T {\n  sc_in<bool> c, r, a;\n  sc_out<bool> q;\n  int n;\n",
-        "  ",
-        members,
-        "\n  void f() {\n",
-        body,
-        "\n  }\n  void g() {\n",
-        second,
-        "\n  }\n  T() { ",
-        statements(form),
-        " }\n};\n",
-    ] {
-        text.push_bytes(piece.as_bytes())?;
-    }
+    text.push_bytes(HEAD.as_bytes())?;
+    text.push_bytes(members.as_bytes())?;
+    text.push_bytes(b"\n  void f() {\n")?;
+    text.push_bytes(body.as_bytes())?;
+    text.push_bytes(b"\n  }\n  void g() {\n")?;
+    text.push_bytes(second.as_bytes())?;
+    text.push_bytes(b"\n  }\n  T() { ")?;
+    text.push_bytes(statements(form).as_bytes())?;
+    text.push_bytes(b" }\n};\n")?;
     Ok(text)
 }
 
