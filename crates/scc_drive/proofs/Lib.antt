@@ -1,6 +1,13 @@
 pub mod Moving
 pub mod Saying
 pub mod OneVerdict
-pub mod Refusals
-pub mod Answering
+pub mod Asking
+pub mod Joined
+pub mod Wider
+pub mod Compiled
+pub mod Emitting
+pub mod Counted
+pub mod Commanded
+pub mod OneModule
+pub mod OneKind
 pub mod Telling

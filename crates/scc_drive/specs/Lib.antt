@@ -1,7 +1,9 @@
-pub mod Bytes
 pub mod Words
 pub mod Texts
 pub mod Spots
 pub mod Said
 pub mod Stops
+pub mod Outcome
+pub mod Comes
 pub mod Answer
+pub mod Stages

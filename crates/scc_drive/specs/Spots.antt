@@ -20,6 +20,10 @@ spot_in (Some s) at = record { file = s.name; line = (position_at s.bytes at).0;
 abbrev pub spot_of : List Source → Place → Spot
 spot_of sources place = spot_in (slice_get sources place.file) place.at
 
+-- the first byte of a file of this name
+abbrev pub first_spot : List ℕ → Spot
+first_spot name = record { file = name; line = 1; column = 1 }
+
 -- the place is a byte of one of the files, or its end
 abbrev pub IsPlaceOf : List Source → Place → Type 0
 IsPlaceOf sources place = (source : Source) × (slice_get sources place.file ≡ Some source) × (place.at ≤ length source.bytes)

@@ -1,40 +1,70 @@
 -- Why a command has no output, by the stage that stops it.
-use Rattle.std.specs.Prelude.{◌≡◌, true, false, List, Option, None}
+use Rattle.std.specs.Prelude.{◌≡◌, ℕ, ◌≤◌, Bool, true, ◌||◌, ◌&&◌, nat_le, nat_eq, List, [], ◌∷◌, length, Option, Some, None}
+use Rattle.scc_base.specs.Code.{code_number}
 use Rattle.scc_base.specs.declared.code.Code.{Code}
 use Rattle.scc_base.specs.declared.refusal.Place.{Place}
 use Rattle.scc_tokens.specs.declared.file.Source.{Source}
+use Rattle.scc_base.specs.declared.refusal.Stop.{Stop}
+use Rattle.scc_base.specs.declared.refusal.Stop.TheVariants as stop
 use Rattle.scc_tokens.specs.declared.joining.Joined.{Joined}
+use Rattle.scc_tokens.specs.declared.joining.JoinFault.{JoinFault}
+use Rattle.scc_tokens.specs.declared.joining.JoinFault.TheVariants as fault
 use Rattle.scc_grammar.specs.Claim.{IsFault}
 use Rattle.scc_stages.specs.Refusals.{is_later}
 use Rattle.scc_drive.specs.declared.spots.Spot.{Spot}
 use Rattle.scc_drive.specs.declared.stopped.Stopped.{Stopped}
 use Rattle.scc_drive.specs.declared.stopped.Stopped.TheVariants as stopped
-use Rattle.scc_drive.specs.Spots.{spot_of, IsSpotOf, IsOtherOf}
+use Rattle.scc_drive.specs.Spots.{spot_of, spot_in, IsSpotOf, IsOtherOf}
+
+-- a refusal at this spot, unless memory ran out
+abbrev pub StopsAt : Code → Spot → Stopped → Type 0
+StopsAt code s (stopped.Refused c spot other) = (c ≡ code) × (spot ≡ s) × (other ≡ None)
+StopsAt code s stopped.NoMemory = Unit {0}
+StopsAt code s stopped.BadWords = ⊥
+StopsAt code s (stopped.Missing name) = ⊥
+StopsAt code s (stopped.Failed name) = ⊥
 
 -- a refusal at this place, unless memory ran out
 abbrev pub Stops : List Source → Place → Code → Stopped → Type 0
-Stops sources place code (stopped.Refused c spot other) = (c ≡ code) × (spot ≡ spot_of sources place) × (other ≡ None)
-Stops sources place code stopped.NoMemory = Unit {0}
-Stops sources place code stopped.BadWords = ⊥
-Stops sources place code (stopped.Missing name) = ⊥
-Stops sources place code (stopped.Failed name) = ⊥
+Stops sources place code = StopsAt code (spot_of sources place)
+
+-- by what joining stops
+abbrev pub StoppedBy : List Source → JoinFault → Stopped → Type 0
+StoppedBy sources (fault.Stop (stop.Refused x)) s = Stops sources x.place x.code s
+StoppedBy sources (fault.Stop stop.NoMemory) s = s ≡ stopped.NoMemory
+StoppedBy sources (fault.Missing name) s = s ≡ stopped.Missing name
+StoppedBy sources (fault.Failed name) s = s ≡ stopped.Failed name
+
+-- a refusal at a byte of a file, unless memory ran out
+abbrev pub StoppedIn : Source → Stop → Stopped → Type 0
+StoppedIn source (stop.Refused r) s = StopsAt r.code (spot_in (Some source) r.place.at) s
+StoppedIn source stop.NoMemory s = s ≡ stopped.NoMemory
 
 -- the first fault of joined tokens as a refusal, unless memory ran out
-abbrev pub IsRefusedAs : List Source → Joined → Stopped → Type 0
-IsRefusedAs sources j (stopped.Refused code spot other) = (place : Place) × IsFault j code place × (spot ≡ spot_of sources place) × (other ≡ None)
-IsRefusedAs sources j stopped.NoMemory = Unit {0}
-IsRefusedAs sources j stopped.BadWords = ⊥
-IsRefusedAs sources j (stopped.Missing name) = ⊥
-IsRefusedAs sources j (stopped.Failed name) = ⊥
+abbrev pub IsFaulty : List Source → Joined → Stopped → Type 0
+IsFaulty sources j (stopped.Refused code spot other) = (place : Place) × IsFault j code place × (spot ≡ spot_of sources place) × (other ≡ None)
+IsFaulty sources j stopped.NoMemory = Unit {0}
+IsFaulty sources j stopped.BadWords = ⊥
+IsFaulty sources j (stopped.Missing name) = ⊥
+IsFaulty sources j (stopped.Failed name) = ⊥
 
--- a refusal of a stage behind the grammar, at a place of the files
-abbrev pub RefusesLater : List Source → Code → Spot → Option Spot → Type 0
-RefusesLater sources code spot other = (is_later false code ≡ true) × IsSpotOf sources spot × IsOtherOf sources other
+-- a refusal of a stage behind the grammar, at a place of the files; `many` says whether there may be several clocks
+abbrev pub RefusesLater : Bool → List Source → Code → Spot → Option Spot → Type 0
+RefusesLater many sources code spot other = (is_later many code ≡ true) × IsSpotOf sources spot × IsOtherOf sources other
 
 -- such a refusal, unless memory ran out
-abbrev pub IsLater : List Source → Stopped → Type 0
-IsLater sources (stopped.Refused code spot other) = RefusesLater sources code spot other
-IsLater sources stopped.NoMemory = Unit {0}
-IsLater sources stopped.BadWords = ⊥
-IsLater sources (stopped.Missing name) = ⊥
-IsLater sources (stopped.Failed name) = ⊥
+abbrev pub IsLater : Bool → List Source → Stopped → Type 0
+IsLater many sources (stopped.Refused code spot other) = RefusesLater many sources code spot other
+IsLater many sources stopped.NoMemory = Unit {0}
+IsLater many sources stopped.BadWords = ⊥
+IsLater many sources (stopped.Missing name) = ⊥
+IsLater many sources (stopped.Failed name) = ⊥
+
+-- what may be wrong with a stimulus: it is too long, or its text, its ports or its values
+abbrev pub is_of_stimulus : Code → Bool
+is_of_stimulus code = nat_eq (code_number code) 108 || (nat_le 801 (code_number code) && nat_le (code_number code) 803)
+
+-- a refusal of the stimulus of this name, at a place of it
+abbrev pub RefusesStimulus : List ℕ → Code → Spot → Option Spot → Type 0
+RefusesStimulus name code spot other =
+    (is_of_stimulus code ≡ true) × ((s : Source) × (s.name ≡ name) × IsSpotOf (s ∷ []) spot) × (other ≡ None)

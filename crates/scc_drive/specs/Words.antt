@@ -1,24 +1,30 @@
 -- The words of a command.
-use Rattle.std.specs.Prelude.{ℕ, List, [], length, drop, slice_get, slice_index, option_map, unwrap_or, Bool, not, ◌&&◌, ◌==◌, nat_le, codes, bytes_eq, string_bytes, String}
-use Rattle.std.specs.List.{list_all}
+use Rattle.std.specs.Prelude.{ℕ, ◌<◌, ◌≤◌, ◌+◌, List, [], map, take, drop, slice_get, option_map, unwrap_or, Option, Bool, is_some, string_bytes, String}
 use Rattle.std.specs.declared.alloc.Global.{Global}
-use Rattle.scc_drive.specs.Bytes.{is_digit, is_word_byte}
+use Rattle.scc_words.specs.declared.command.Command.{Command}
+use Rattle.scc_words.specs.declared.command.Command.TheVariants as command
+use Rattle.scc_words.specs.Commands.{command_of}
 
--- letters, digits and underscores, not beginning with a digit
-abbrev pub is_top : List ℕ → Bool
-is_top w = nat_le 1 (length w) && not (is_digit (slice_index w 0)) && list_all is_word_byte w
+-- the command that the words make
+abbrev pub command_by : List (String Global) → Option Command
+command_by words = command_of (map string_bytes words)
 
--- not empty, and not beginning with `-`
-abbrev pub is_file : List ℕ → Bool
-is_file w = nat_le 1 (length w) && not (slice_index w 0 == 45)
+-- the words keep the rules on words
+unfoldable pub are_words : List (String Global) → Bool
+are_words words = is_some (command_by words)
 
 -- the bytes of a word, none where there is none
 abbrev pub word_at : List (String Global) → ℕ → List ℕ
 word_at ws i = unwrap_or (option_map string_bytes (slice_get ws i)) []
 
-abbrev pub are_files : List (String Global) → Bool
-are_files ws = list_all (λ w. is_file (string_bytes w)) ws
+-- the names of the files that are joined: so many words from word 2 on
+abbrev pub roots_of : List (String Global) → ℕ → List (List ℕ)
+roots_of words count = map string_bytes (take count (drop 2 words))
 
--- compile, a top and 1 to 64 files
-unfoldable pub are_words : List (String Global) → Bool
-are_words ws = nat_le 3 (length ws) && nat_le (length ws) 66 && bytes_eq (word_at ws 0) (codes "compile") && is_top (word_at ws 1) && are_files (drop 2 ws)
+-- the files of a command are words
+abbrev pub Within : Command → ℕ → Type 0
+Within (command.Compile count f) n = (0 < count) × (count ≤ 64) × (count + 2 ≤ n)
+Within (command.Sim count stim way) n = (0 < count) × (count ≤ 64) × (count + 2 ≤ n)
+Within (command.List count) n = (0 < count) × (count ≤ 64) × (count + 2 ≤ n)
+Within (command.Svsim stim f) n = Unit {0}
+Within (command.Gen stages source) n = Unit {0}

@@ -2,7 +2,7 @@ ghost use Rattle.std.specs.Prelude.{◌≡◌, ◌≤◌, ◌⊎◌, false, Resu
 ghost use Rattle.std.specs.Io.KnownBytes.{Appends, Keeps};
 ghost use Rattle.scc_base.specs.Outside.{Rose, Told};
 ghost use Rattle.scc_drive.specs.Said.{SaysParts};
-ghost use Rattle.scc_drive.specs.Answer.{Ends, IsCompiled, IsRefused, IsMissing, HasFailed, IsPartOfOutput};
+ghost use Rattle.scc_drive.specs.Answer.{Ends, IsDone, IsRefused, IsMissing, HasFailed, IsPartOfOutput};
 ghost use Rattle.scc_drive.specs.Texts.{words_text};
 ghost use Rattle.scc_drive.specs.Words.{are_words};
 
@@ -11,9 +11,9 @@ use crate::say::{no_memory, output_failed, tell};
 use scc_base::{Files, Sink, SinkFault, Status, put_all};
 use std::alloc::Global;
 
-/// Does all that the program does: reads the words, which are those behind the program's name, joins the files that they
-/// name, reads them by the grammar, writes the command's output to `out`, or says on `err` why there is none. Each is handed whole
-/// to one `put_all`. It answers the status with which the program ends:
+/// Does all that the program does: reads the words, which are those behind the program's name, and the files that they name, and
+/// writes the command's output to `out`, or says on `err` why there is none. Each is handed whole to one `put_all`. It answers the
+/// status with which the program ends:
 ///
 /// | status | when | text on `err` |
 /// |---|---|---|
@@ -31,8 +31,8 @@ pub fn run<F: Files, O: Sink, E: Sink>(
     err: &mut E,
 ) -> Status
     ensures six { result ≤ 5 }
-    // 0: the text of the module of the design that the files denote was written, and nothing was said
-    ensures done { result ≡ 0 → Told (F.held files.old) (λ shelf. IsCompiled shelf words.now (O.taken out.old) (O.taken out.new)) }
+    // 0: the text was written that what the files hold comes to, and nothing was said
+    ensures done { result ≡ 0 → Told (F.held files.old) (λ shelf. IsDone shelf words.now (O.taken out.old) (O.taken out.new)) }
     ensures silent { result ≡ 0 → Keeps (E.taken err.old) (E.taken err.new) }
     // 1: the first refusal was said, with its place
     ensures refused { result ≡ 1 → IsRefused words.now (F.held files.old) (E.taken err.old) (E.taken err.new) }

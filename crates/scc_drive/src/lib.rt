@@ -2,13 +2,19 @@
 #![tactic(auto)]
 
 mod answer;
-mod bytes;
 mod command;
+mod compile;
+mod files;
+mod generated;
+mod joining;
 mod later;
 mod say;
+mod source;
 mod spots;
 mod stopped;
+mod svsim;
 mod texts;
+mod thin;
 mod words;
 
 pub use command::run;

@@ -1,6 +1,7 @@
 //! Where a place stands in its file, as a refusal says it.
-ghost use Rattle.std.specs.Prelude.{◌≡◌, ◌≤◌, ◌<◌, ◌^◌, length, take, IfOk, true};
+ghost use Rattle.std.specs.Prelude.{◌≡◌, ◌≤◌, ◌<◌, ◌^◌, length, take, IfOk, Some, true, ◌∷◌, []};
 ghost use Rattle.scc_drive.specs.Spots.{moved, position_at, spot_of, IsPlaceOf, IsSpotOf};
+ghost use Rattle.scc_drive.specs.Spots as spots;
 
 use scc_base::{NoMemory, Place, Text, lost};
 use scc_tokens::Source;
@@ -37,19 +38,33 @@ fn position(bytes: &[u8], at: u32) -> (usize, usize)
     behind(&bytes[..end])
 }
 
+/// Where a byte of a file stands.
+pub fn spot_in(alloc: Global, source: &Source, at: u32) -> Result<Spot, NoMemory>
+    ensures spot { IfOk result (λ s. s ≡ spots.spot_in (Some source.now) at) }
+{
+    let file = Text::from_bytes(alloc, source.name.bytes())?;
+    let (line, column) = position(source.bytes.bytes(), at);
+    Ok(Spot { file, line, column })
+}
+
+/// Where a byte of a file stands, or its end.
+pub fn spot_within(alloc: Global, source: &Source, at: u32) -> Result<Spot, NoMemory>
+    ensures spot { IfOk result (IsSpotOf (source.now ∷ [])) }
+{
+    if at as usize > source.bytes.bytes().len() {
+        return Err(lost());
+    }
+    spot_in(alloc, source, at)
+}
+
 /// Where a place stands.
 pub fn locate(alloc: Global, sources: &[Source], place: Place) -> Result<Spot, NoMemory>
     ensures spot { IfOk result (λ s. s ≡ spot_of sources.now place) }
 {
-    let mut file = Text::new(alloc);
     match sources.get(place.file as usize) {
-        Some(source) => {
-            file.push_bytes(source.name.bytes())?;
-            let (line, column) = position(source.bytes.bytes(), place.at);
-            Ok(Spot { file, line, column })
-        }
+        Some(source) => spot_in(alloc, source, place.at),
         None => Ok(Spot {
-            file,
+            file: Text::new(alloc),
             line: 1,
             column: 1,
         }),

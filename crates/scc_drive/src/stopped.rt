@@ -1,5 +1,8 @@
+ghost use Rattle.std.specs.Prelude.{◌≡◌};
+ghost use Rattle.scc_drive.specs.declared.stopped.Stopped.TheVariants as stopped;
+
 use crate::spots::Spot;
-use scc_base::{Code, Text};
+use scc_base::{Code, NoMemory, Text};
 
 /// Why a command has no output.
 #[derive(Drop)]
@@ -18,4 +21,12 @@ pub enum Stopped {
     Failed(Text),
     /// Memory ran out.
     NoMemory,
+}
+
+impl From<NoMemory> for Stopped {
+    ghost from_gives = { λ _ e. e ≡ stopped.NoMemory };
+
+    fn from(_: NoMemory) -> Stopped {
+        Stopped::NoMemory
+    }
 }

@@ -21,14 +21,14 @@ pub fn compile(alloc: Global, names: &Names, tree: &FileTree, top: &[u8]) -> Res
     ensures refused { IfErr result (λ e. may_stop false e ≡ true) }
 {
     let front = front_of(alloc, tree, name_of(names, top), false)?;
-    match text_of(alloc, names, top, &front) {
+    match compile_front(alloc, names, top, &front) {
         Ok(text) => Ok(text),
         Err(NoMemory) => Err(Stop::NoMemory),
     }
 }
 
-// The number of a name, or the first number that no name has.
-fn name_of(names: &Names, text: &[u8]) -> Name {
+/// The number of a name, or the first number that no name has.
+pub fn name_of(names: &Names, text: &[u8]) -> Name {
     for number in 0..u32::MAX {
         let name = Name(number);
         if !names.has(name) || names.text(name).as_bytes() == text {
@@ -38,7 +38,13 @@ fn name_of(names: &Names, text: &[u8]) -> Name {
     Name(u32::MAX)
 }
 
-fn text_of(alloc: Global, names: &Names, top: &[u8], front: &Front) -> Result<Text, NoMemory>
+/// The text of the module of what the stages made of the class `top`, read back as `compile` does.
+pub fn compile_front(
+    alloc: Global,
+    names: &Names,
+    top: &[u8],
+    front: &Front,
+) -> Result<Text, NoMemory>
     ensures written { IfOk result (λ t. IsEmitted top.now t) }
 {
     let module = blocks(

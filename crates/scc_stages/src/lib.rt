@@ -7,5 +7,5 @@ mod look;
 mod processes;
 mod refusals;
 
-pub use emit::compile;
+pub use emit::{compile, compile_front, name_of};
 pub use front::{Front, front_of};

@@ -141,6 +141,7 @@ fn truth(op: Op, a: Operand, b: Operand) -> Word
     test(op, 128, false, a.word, b.word)
 }
 
+// What casts and signs stand around is taken by itself too, so that lengths and signs are asked for once in a nest of them.
 #[cycle(value)]
 fn alone(m: &SvModule, e: &SvExpr, x: &[Word]) -> Operand
     requires sized { IsSized (width_at m.now.vars) (term_of e.now) }
@@ -151,12 +152,32 @@ fn alone(m: &SvModule, e: &SvExpr, x: &[Word]) -> Operand
     ensures width { IsWidth result.len }
     ensures fits { result.word.bits < 2 ^ result.len }
 {
-    let shape = shape(m, e, x);
-    let word = word(m, e, x, shape.len, shape.signed);
-    Operand {
-        len: shape.len,
-        signed: shape.signed,
-        word,
+    match e.node.get() {
+        SvExprNode::Cast { width, of } => {
+            let a = alone(m, of, x);
+            Operand {
+                len: *width,
+                signed: a.signed,
+                word: resize(a.len, *width, a.signed, a.word),
+            }
+        }
+        SvExprNode::Sign { signed, of } => {
+            let a = alone(m, of, x);
+            Operand {
+                len: a.len,
+                signed: *signed,
+                word: a.word,
+            }
+        }
+        _ => {
+            let shape = shape(m, e, x);
+            let word = word(m, e, x, shape.len, shape.signed);
+            Operand {
+                len: shape.len,
+                signed: shape.signed,
+                word,
+            }
+        }
     }
 }
 

@@ -1,0 +1,548 @@
+//! Worked designs: what both sides show of them, what is listed of them, and the generated ones.
+use crate::command::{Answer, answered};
+use std::alloc::Global;
+use std::test::Fail;
+
+// a counter of 8 bits goes round
+const COUNT: &str = "#include <systemc.h>
+SC_MODULE(Count) {
+  sc_in<bool> clk, rst;
+  sc_out<sc_uint<8> > q;
+  sc_uint<8> n;
+  void run() { n = 0; q.write(0); wait(); while (true) { n++; q.write(n); wait(); } }
+  SC_CTOR(Count) { SC_CTHREAD(run, clk.pos()); reset_signal_is(rst, true); }
+};
+";
+
+// a sum of an unsigned and a signed number of 64 bits is unsigned
+const SIGNS: &str = "#include <systemc.h>
+SC_MODULE(M) {
+  sc_in<sc_uint<64> > u; sc_in<sc_int<64> > i; sc_out<bool> y;
+  
+  void f() { y.write((u.read() + i.read()) < 1); }
+  SC_CTOR(M) { SC_METHOD(f); sensitive  << u << i; }
+};
+";
+
+// a product of 128 bits keeps its low bits
+const PRODUCT: &str = "#include <systemc.h>
+SC_MODULE(P) {
+  sc_in<sc_biguint<128> > p, q; sc_out<sc_biguint<128> > r;
+  
+  void f() { r.write(p.read() * q.read()); }
+  SC_CTOR(P) { SC_METHOD(f); sensitive  << p << q; }
+};
+";
+
+// a wait in a branch
+const BRANCH: &str = "#include <systemc.h>
+SC_MODULE(T) {
+  sc_in<bool> clk, rst;
+  sc_in<bool> a; sc_out<sc_uint<8> > q;
+  sc_uint<8> x;
+  
+  void run() { x = 0; while (true) { if (a.read()) wait(); q.write(x); x = x + 1; wait(); } }
+  SC_CTOR(T) { SC_CTHREAD(run, clk.pos()); reset_signal_is(rst, true); }
+};
+";
+
+// a wait for five edges, left by a reset
+const COUNTED: &str = "#include <systemc.h>
+SC_MODULE(T) {
+  sc_in<bool> clk, rst;
+  sc_out<bool> q;
+  
+  
+  void run() { q.write(0); wait(); while (true) { q.write(1); wait(5); q.write(0); wait(); } }
+  SC_CTOR(T) { SC_CTHREAD(run, clk.pos()); reset_signal_is(rst, true); }
+};
+";
+
+// a first wait for two edges
+const FIRST_COUNTED: &str = "#include <systemc.h>
+SC_MODULE(T) {
+  sc_in<bool> clk, rst;
+  sc_out<bool> q;
+  
+  
+  void run() { q.write(0); wait(2); while (true) { q.write(1); wait(5); q.write(0); wait(); } }
+  SC_CTOR(T) { SC_CTHREAD(run, clk.pos()); reset_signal_is(rst, true); }
+};
+";
+
+// what is written is read behind the next edge
+const OLD_VALUES: &str = "#include <systemc.h>
+SC_MODULE(T) {
+  sc_in<bool> clk, rst;
+  sc_out<sc_uint<2> > q, r;
+  
+  
+  void run() { q.write(0); r.write(0); wait(); while (true) { q.write(3); r.write(q.read()); wait(); } }
+  SC_CTOR(T) { SC_CTHREAD(run, clk.pos()); reset_signal_is(rst, true); }
+};
+";
+
+// a counted loop that is left
+const LOOP: &str = "#include <systemc.h>
+SC_MODULE(T) {
+  sc_in<bool> clk, rst;
+  sc_in<sc_uint<8> > a; sc_out<sc_uint<16> > q;
+  sc_uint<16> n;
+  
+  void run() { n = 0; q.write(0); wait(); while (true) { n = 0; for (int i = 0; i <= 7; i++) { if (a.read()[i]) break; n = n + 1; } q.write(n); wait(); } }
+  SC_CTOR(T) { SC_CTHREAD(run, clk.pos()); reset_signal_is(rst, true); }
+};
+";
+
+// modules made in a loop, and a pointer to one of them
+const STAGES: &str = "#include <systemc.h>
+template<int W> SC_MODULE(Stage) {
+  sc_in<bool> clk, rst;
+  sc_uint<W> q;
+  sc_out<sc_uint<W> > o;
+  void run() { q = 0; o.write(0); wait(); while (true) { q = q + 1; o.write(q); wait(); } }
+  SC_CTOR(Stage) { SC_CTHREAD(run, clk.pos()); reset_signal_is(rst, true); }
+};
+SC_MODULE(Top) {
+  sc_in<bool> clk, rst;
+  sc_out<sc_uint<8> > y;
+  Stage<8>* u[4];
+  Stage<8>* pick;
+  sc_vector<sc_signal<sc_uint<8> > > s;
+  SC_CTOR(Top) : s(\"s\", 3) {
+    for (int i = 0; i < 4; i++) {
+      u[i] = new Stage<8>(\"u\");
+      u[i]->clk(clk);
+      u[i]->rst(rst);
+    }
+    u[0]->o(s[0]); u[1]->o(s[1]); u[3]->o(s[2]);
+    pick = u[2];
+    pick->o(y);
+  }
+};
+";
+
+// two pointers to one object
+const SAME_OBJECT: &str = "#include <systemc.h>
+SC_MODULE(T) {
+  sc_in<bool> clk, rst;
+  sc_out<sc_uint<8> > a, b, c;
+  sc_uint<8> m[3];
+  void put(sc_uint<8>* p, sc_uint<8>* q) { *p = 1; *q = *p + *q; }
+  void run() { m[0] = 0; m[1] = 0; m[2] = 5; a.write(0); b.write(0); c.write(0); wait(); while (true) { put(&m[1], &m[1]); a.write(m[0]); b.write(m[1]); c.write(m[2]); wait(); } }
+  SC_CTOR(T) { SC_CTHREAD(run, clk.pos()); reset_signal_is(rst, true); }
+};
+";
+
+// two pointers to two objects
+const TWO_OBJECTS: &str = "#include <systemc.h>
+SC_MODULE(T) {
+  sc_in<bool> clk, rst;
+  sc_out<sc_uint<8> > a, b, c;
+  sc_uint<8> m[3];
+  void put(sc_uint<8>* p, sc_uint<8>* q) { *p = 1; *q = *p + *q; }
+  void run() { m[0] = 0; m[1] = 0; m[2] = 5; a.write(0); b.write(0); c.write(0); wait(); while (true) { put(&m[0], &m[2]); a.write(m[0]); b.write(m[1]); c.write(m[2]); wait(); } }
+  SC_CTOR(T) { SC_CTHREAD(run, clk.pos()); reset_signal_is(rst, true); }
+};
+";
+
+// an array under an index that is not static
+const ARRAY: &str = "#include <systemc.h>
+SC_MODULE(T) {
+  sc_in<bool> clk, rst;
+  sc_in<sc_uint<2> > ii; sc_out<sc_uint<8> > q;
+  sc_uint<8> m[3]; sc_uint<2> i; sc_uint<8> r;
+  
+  void run() { m[0] = 1; m[1] = 2; m[2] = 3; i = 0; r = 0; q.write(0); wait(); while (true) { r = m[i]; m[i] = 7; i = ii.read(); q.write(r); wait(); } }
+  SC_CTOR(T) { SC_CTHREAD(run, clk.pos()); reset_signal_is(rst, true); }
+};
+";
+
+// results and parameters of calls
+const CALLS: &str = "#include <systemc.h>
+SC_MODULE(M) {
+  sc_in<bool> a, b; sc_out<sc_uint<8> > y;
+  sc_uint<8> pick(bool s) { if (s) return 1; return 2; }
+  void f() { y.write(pick(a.read()) + pick(b.read())); }
+  SC_CTOR(M) { SC_METHOD(f); sensitive  << a << b; }
+};
+";
+
+// numbers of any width
+const WIDE: &str = "#include <systemc.h>
+SC_MODULE(B) {
+  sc_in<sc_biguint<8> > a, b, q; sc_in<sc_bigint<8> > p; sc_out<sc_bigint<8> > x; sc_out<sc_bigint<16> > r;
+  
+  void f() { x.write(a.read() - b.read()); r.write(p.read() + q.read()); }
+  SC_CTOR(B) { SC_METHOD(f); sensitive  << a << b << p << q; }
+};
+";
+
+// an asynchronous reset, between edges too
+const ASYNCHRONOUS: &str = "#include <systemc.h>
+SC_MODULE(R) {
+  sc_in<bool> clk, rst;
+  sc_out<sc_uint<8> > q;
+  
+  
+  void run() { q.write(5); wait(); while (true) { q.write(q.read() + 1); wait(); } }
+  SC_CTOR(R) { SC_CTHREAD(run, clk.pos()); async_reset_signal_is(rst, true); }
+};
+";
+
+// a local that no wait outlives
+const UNKEPT: &str = "#include <systemc.h>
+SC_MODULE(D) {
+  sc_in<bool> clk, rst;
+  sc_in<sc_uint<8> > a; sc_out<sc_uint<8> > q;
+  
+  
+  void run() { q.write(0); wait(); while (true) { sc_uint<8> t = a.read(); q.write(t + t); wait(); } }
+  SC_CTOR(D) { SC_CTHREAD(run, clk.pos()); reset_signal_is(rst, true); }
+};
+";
+
+const FIFO_HEADER: &str = "#ifndef FIFO_H
+#define FIFO_H
+#include <systemc.h>
+#define DEPTH 16
+SC_MODULE(Fifo) {
+  sc_in<bool> clk, rst_n, put, get;
+  sc_in<sc_uint<8> > din;
+  sc_out<sc_uint<8> > dout;
+  sc_out<bool> full, empty;
+  sc_signal<sc_uint<5> > count;
+  sc_uint<8> mem[DEPTH];
+  sc_uint<4> rd, wr;
+  void flags();
+  void run();
+  SC_CTOR(Fifo) {
+    SC_METHOD(flags); sensitive << count;
+    SC_CTHREAD(run, clk.pos());
+    reset_signal_is(rst_n, false);
+  }
+};
+#endif // FIFO_H
+";
+
+const FIFO: &str = "#include \"fifo.h\"
+void Fifo::flags() {
+  full.write(count.read() == DEPTH);
+  empty.write(count.read() == 0);
+}
+void Fifo::run() {
+  rd = 0; wr = 0; count.write(0); dout.write(0);
+  wait();
+  while (true) {
+    sc_uint<5> c = count.read();
+    if (put.read() && c != DEPTH) { mem[wr] = din.read(); wr++; c++; }
+    if (get.read() && count.read() != 0) { dout.write(mem[rd]); rd++; c--; }
+    count.write(c);
+    wait();
+  }
+}
+";
+
+fn has(text: &[u8], line: &str) -> bool {
+    text.split(|b| *b == b'\n').any(|l| l == line.as_bytes())
+}
+
+/// The trace of the source, where it is that of the emitted text and nothing is said; else None.
+fn trace(
+    alloc: Global,
+    top: &str,
+    files: &[(&str, &str)],
+    stimulus: &str,
+) -> Result<Option<Answer>, Fail> {
+    let mut held = Vec::new(alloc);
+    for file in files {
+        held.push((file.0, file.1.as_bytes()))?;
+    }
+    held.push(("s", stimulus.as_bytes()))?;
+    let compiled = answered(alloc, &["compile", top, "a.cpp"], held.as_slice())?;
+    let source = answered(
+        alloc,
+        &["sim", top, "a.cpp", "--stim", "s"],
+        held.as_slice(),
+    )?;
+    let emitted = answered(
+        alloc,
+        &["svsim", top, "a.sv", "--stim", "s"],
+        &[("a.sv", compiled.out.bytes()), ("s", stimulus.as_bytes())],
+    )?;
+    let is_silent = compiled.is_silent() && source.is_silent() && emitted.is_silent();
+    if !is_silent || emitted.out.bytes() != source.out.bytes() {
+        return Ok(None);
+    }
+    Ok(Some(source))
+}
+
+/// Whether a trace has a line.
+fn shows(trace: &Option<Answer>, line: &str) -> bool {
+    match trace {
+        Some(answer) => has(answer.out.bytes(), line),
+        None => false,
+    }
+}
+
+#[test]
+fn runs_both_sides(rt: HostRuntime) -> Result<(), Fail> {
+    for (top, source, stimulus, lines) in [
+        (
+            "M",
+            SIGNS,
+            "scc-stim 1\nports u i\nstep 0 ffffffffffffffff\n",
+            "0- y=0",
+        ),
+        (
+            "P",
+            PRODUCT,
+            "scc-stim 1\nports p q\nstep ffffffffffffffffffffffffffffffff ffffffffffffffffffffffffffffffff\n",
+            "0- r=00000000000000000000000000000001",
+        ),
+        (
+            "T",
+            BRANCH,
+            "scc-stim 1\nports rst a\nstep 1 0\nstep 0 0\nstep 0 1\nstep 0 0\n",
+            "0+ q=00\n1+ q=01\n2+ q=01\n3+ q=02",
+        ),
+        (
+            "T",
+            COUNTED,
+            "scc-stim 1\nports rst\nstep 1\nstep 0\nstep 0\nstep 0\nstep 1\nstep 0\nstep 0\nstep 0\nstep 0\nstep 0\nstep 0\n",
+            "0+ q=0\n1+ q=1\n2+ q=1\n3+ q=1\n4+ q=0\n5+ q=1\n6+ q=1\n7+ q=1\n8+ q=1\n9+ q=1\n10+ q=0",
+        ),
+        (
+            "T",
+            FIRST_COUNTED,
+            "scc-stim 1\nports rst\nstep 1\nstep 0\nstep 0\nstep 0\nstep 1\nstep 0\nstep 0\nstep 0\nstep 0\nstep 0\nstep 0\nstep 0\n",
+            "0+ q=0\n1+ q=0\n2+ q=1\n3+ q=1\n4+ q=0\n5+ q=0\n6+ q=1\n7+ q=1\n8+ q=1\n9+ q=1\n10+ q=1\n11+ q=0",
+        ),
+        (
+            "T",
+            OLD_VALUES,
+            "scc-stim 1\nports rst\nstep 1\nstep 0\nstep 0\n",
+            "0+ q=0 r=0\n1+ q=3 r=0\n2+ q=3 r=3",
+        ),
+        (
+            "T",
+            LOOP,
+            "scc-stim 1\nports rst a\nstep 1 0\nstep 0 10\nstep 0 0\n",
+            "0+ q=0000\n1+ q=0004\n2+ q=0008",
+        ),
+        (
+            "Top",
+            STAGES,
+            "scc-stim 1\nports rst\nstep 1\nstep 0\nstep 0\n",
+            "0+ y=00\n1+ y=01\n2+ y=02",
+        ),
+        (
+            "T",
+            SAME_OBJECT,
+            "scc-stim 1\nports rst\nstep 1\nstep 0\n",
+            "1+ a=00 b=02 c=05",
+        ),
+        (
+            "T",
+            TWO_OBJECTS,
+            "scc-stim 1\nports rst\nstep 1\nstep 0\n",
+            "1+ a=01 b=00 c=06",
+        ),
+        (
+            "T",
+            ARRAY,
+            "scc-stim 1\nports rst ii\nstep 1 0\nstep 0 3\nstep 0 0\nstep 0 1\nstep 0 2\nstep 0 0\nstep 0 0\n",
+            "0+ q=00\n1+ q=01\n2+ q=00\n3+ q=07\n4+ q=02\n5+ q=03\n6+ q=07",
+        ),
+        (
+            "M",
+            CALLS,
+            "scc-stim 1\nports a b\nstep 1 0\nstep 0 0\n",
+            "0- y=03\n1- y=04",
+        ),
+        (
+            "B",
+            WIDE,
+            "scc-stim 1\nports a b q p\nstep 3 5 ff ff\n",
+            "0- x=fe r=00fe",
+        ),
+        (
+            "R",
+            ASYNCHRONOUS,
+            "scc-stim 2\nports rst\nstep 1\nstep 0\nhold 1\nhold 0\nstep 0\n",
+            "0- q=05\n0+ q=05\n1- q=05\n1+ q=06\n2- q=05\n3- q=05\n4- q=05\n4+ q=06",
+        ),
+    ] {
+        let found = trace(rt.alloc(), top, &[("a.cpp", source)], stimulus)?;
+        for line in lines.split('\n') {
+            assert!(rt; shows(&found, line), "{line} of {source}");
+        }
+    }
+    Ok(())
+}
+
+#[test]
+fn counts_round(rt: HostRuntime) -> Result<(), Fail> {
+    let mut stimulus = String::new(rt.alloc());
+    stimulus.push_str("scc-stim 1\nports rst\nstep 1\n")?;
+    for _ in 1..257 {
+        stimulus.push_str("step 0\n")?;
+    }
+    let found = trace(rt.alloc(), "Count", &[("a.cpp", COUNT)], stimulus.as_str())?;
+    assert!(rt; shows(&found, "255+ q=ff"));
+    assert!(rt; shows(&found, "256+ q=00"));
+    Ok(())
+}
+
+/// A source in two files, filled and emptied again.
+#[test]
+fn runs_a_fifo(rt: HostRuntime) -> Result<(), Fail> {
+    let mut stimulus = String::new(rt.alloc());
+    stimulus.push_str("scc-stim 1\nports rst_n put get din\nstep 0 0 0 0\n")?;
+    for k in 1..40 {
+        let step = if k <= 17 {
+            "step 1 1 0 "
+        } else {
+            "step 1 0 1 "
+        };
+        stimulus.push_str(step)?;
+        let digits = format!(in rt.alloc(); "{k:x}")?;
+        stimulus.push_str(digits.as_str())?;
+        stimulus.push_str("\n")?;
+    }
+    let files = [("a.cpp", FIFO), ("fifo.h", FIFO_HEADER)];
+    let found = trace(rt.alloc(), "Fifo", &files, stimulus.as_str())?;
+    for line in [
+        "0- dout=00 full=0 empty=1",
+        "16+ dout=00 full=1 empty=0",
+        "17+ dout=00 full=1 empty=0",
+        "18+ dout=01 full=0 empty=0",
+        "33+ dout=10 full=0 empty=1",
+        "39+ dout=10 full=0 empty=1",
+    ] {
+        assert!(rt; shows(&found, line), "{line}");
+    }
+    Ok(())
+}
+
+/// Without a reset at the first edge the two sides may begin differently: the source in its constructor's state, the module at 0.
+#[test]
+fn begins_without_reset(rt: HostRuntime) -> Result<(), Fail> {
+    let stimulus = "scc-stim 1\nports rst\nstep 0\nstep 0\n";
+    let alloc = rt.alloc();
+    let held = [("a.cpp", COUNT.as_bytes()), ("s", stimulus.as_bytes())];
+    let source = answered(alloc, &["sim", "Count", "a.cpp", "--stim", "s"], &held)?;
+    assert!(rt; has(source.out.bytes(), "0+ q=00") && has(source.out.bytes(), "1+ q=01"));
+    let compiled = answered(alloc, &["compile", "Count", "a.cpp"], &held)?;
+    let held = [("a.sv", compiled.out.bytes()), ("s", stimulus.as_bytes())];
+    let emitted = answered(alloc, &["svsim", "Count", "a.sv", "--stim", "s"], &held)?;
+    assert!(rt; has(emitted.out.bytes(), "0+ q=01") && has(emitted.out.bytes(), "1+ q=02"));
+    Ok(())
+}
+
+#[test]
+fn lists(rt: HostRuntime) -> Result<(), Fail> {
+    for (top, source, text) in [
+        (
+            "Count",
+            COUNT,
+            "register q 8\nregister n 8\nregister run$$state 1\nthread run states 2 steps 72 statements 9\n",
+        ),
+        (
+            "D",
+            UNKEPT,
+            "register q 8\nregister run$$state 1\nthread run states 2 steps 66 statements 8\n",
+        ),
+    ] {
+        let answer = answered(
+            rt.alloc(),
+            &["list", top, "a.cpp"],
+            &[("a.cpp", source.as_bytes())],
+        )?;
+        assert_eq!(rt; answer.out.bytes(), text.as_bytes());
+        assert_eq!(rt; answer.err.bytes().len(), 0);
+    }
+    Ok(())
+}
+
+/// The text of the counter with one constant in another base, and a stimulus with a word that is too wide.
+#[test]
+fn refuses_texts_and_stimuli(rt: HostRuntime) -> Result<(), Fail> {
+    let alloc = rt.alloc();
+    let emitted =
+        "module And (\n  input logic a,\n  output logic y\n);\n  always_comb begin\n    y = 1'h0;\n    y = a;\n  end\nendmodule\n";
+    let decimal =
+        "module And (\n  input logic a,\n  output logic y\n);\n  always_comb begin\n    y = 1'd0;\n    y = a;\n  end\nendmodule\n";
+    let undriven = "module And (\n  input logic a,\n  output logic y\n);\nendmodule\n";
+    for (text, stimulus, status, said) in [
+        (emitted, "scc-stim 1\nports a\nstep 1\n", 0, ""),
+        (
+            decimal,
+            "scc-stim 1\nports a\n",
+            1,
+            "a.sv:6:11: E701 sv unexpected\n",
+        ),
+        (
+            undriven,
+            "scc-stim 1\nports a\n",
+            1,
+            "a.sv:3:16: E704 sv driver\n",
+        ),
+        (
+            emitted,
+            "scc-stim 1\nports a\nstep 2\n",
+            1,
+            "s.txt:3:6: E803 stim value\n",
+        ),
+    ] {
+        let held = [("a.sv", text.as_bytes()), ("s.txt", stimulus.as_bytes())];
+        let answer = answered(alloc, &["svsim", "And", "a.sv", "--stim", "s.txt"], &held)?;
+        assert_eq!(rt; answer.err.bytes(), said.as_bytes());
+        assert_eq!(rt; answer.status, status);
+    }
+    Ok(())
+}
+
+#[test]
+fn migrates(rt: HostRuntime) -> Result<(), Fail> {
+    let held = [
+        ("a.cpp", ASYNCHRONOUS.as_bytes()),
+        ("s", b"scc-stim 1\nports rst\nstep 01\n".as_slice()),
+    ];
+    let answer = answered(
+        rt.alloc(),
+        &["sim", "R", "a.cpp", "--stim", "s", "--migrate"],
+        &held,
+    )?;
+    assert_eq!(rt;
+        answer.out.bytes(),
+        b"scc-stim 2\nports rst\nstep 1\n".as_slice()
+    );
+    Ok(())
+}
+
+#[test]
+fn generates(rt: HostRuntime) -> Result<(), Fail> {
+    let alloc = rt.alloc();
+    for (words, status, text) in [
+        (["gen", "0"], 2, ""),
+        (["gen", "1001"], 2, ""),
+        (
+            ["gen", "2"],
+            0,
+            "stages 2 processes 4 registers 4 states 4 q 0004\n",
+        ),
+    ] {
+        let answer = answered(alloc, &words, &[])?;
+        assert_eq!(rt; answer.status, status);
+        assert_eq!(rt; answer.out.bytes(), text.as_bytes());
+    }
+    let source = answered(alloc, &["gen", "2", "--source"], &[])?;
+    let stimulus = "scc-stim 1\nports rst d\nstep 1 1\nstep 0 1\nstep 0 1\n";
+    let held = [("a.cpp", source.out.bytes()), ("s", stimulus.as_bytes())];
+    let answer = answered(alloc, &["sim", "Gen", "a.cpp", "--stim", "s"], &held)?;
+    for line in ["0+ q=0000", "1+ q=0002", "2+ q=0004"] {
+        assert!(rt; has(answer.out.bytes(), line), "{line}");
+    }
+    Ok(())
+}

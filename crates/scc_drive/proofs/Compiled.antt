@@ -1,0 +1,59 @@
+-- What compiling joined files answers, by what they come to.
+use Rattle.std.proofs.Common.{◌≡◌, ℕ, List, Option, Some, None, Result, Ok, Err, ap, refl, sym, subst}
+use Rattle.std.specs.Prelude.{IfErr, IfOk, false}
+use Rattle.scc_base.specs.declared.code.Code.TheVariants.{NotYet}
+use Rattle.scc_svtext.specs.ModuleText.{module_text}
+use Rattle.scc_grammar.specs.Claim.{IsReadFile}
+use Rattle.scc_stages.specs.Emitted.{IsEmitted}
+use Rattle.scc_thin.specs.declared.design.Design.{Design}
+use Rattle.scc_thin.specs.Thin.{thin_of}
+use Rattle.scc_thinmodule.specs.Emitted.{module_of}
+use Rattle.scc_thinmodule.specs.Identifiers.{AreIdentifiers}
+use Rattle.scc_thinmodule.proofs.Shown.{thin_shown, thin_faultless}
+use Rattle.scc_drive.specs.declared.joining.Read.{Read}
+use Rattle.scc_drive.specs.declared.stopped.Stopped.{Stopped}
+use Rattle.scc_drive.specs.declared.stopped.Stopped.TheVariants as stopped
+use Rattle.scc_drive.specs.Comes.{reads, outcome_of_design, first_place}
+use Rattle.scc_drive.specs.Outcome.{compiling, listing, flagged, simulating, refusal, compiles, wider}
+use Rattle.scc_drive.specs.Spots.{spot_of}
+use Rattle.scc_drive.specs.Stages.{Gives, ReadComes}
+use Rattle.scc_drive.specs.Stops.{Stops, IsLater}
+use Rattle.scc_drive.proofs.Wider.{wider_stops, wider_writes}
+
+module _ (top : List ℕ) (read : Read) (file : IsReadFile read.joined read.tree) where
+  comes_by : (o : Option Design) → thin_of read.names top read.joined.tokens ≡ o → ReadComes compiling top read (outcome_of_design read.sources o)
+  comes_by o e = subst (ReadComes compiling top read) (ap (outcome_of_design read.sources) e) (reads read.tree file)
+
+  -- the answers of a thin text
+  pub thin_gives : (d : Design) (r : Result (List ℕ) Stopped) → AreIdentifiers read.names → thin_of read.names top read.joined.tokens ≡ Some d
+      → IfOk r (λ text. text ≡ module_text (module_of d)) → IfErr r (λ s. s ≡ stopped.NoMemory) → Gives (ReadComes compiling top read) top r
+  thin_gives d (Ok text) h e p q = (
+    compiles d,
+    comes_by (Some d) e,
+    record {
+      emitted = module_of d;
+      reads = record { sound = thin_faultless read.names top read.joined.tokens d h e; text = p };
+      matches = record { name = refl; ports = refl };
+      shows = thin_shown read.names top read.joined.tokens d e;
+    },
+  )
+  thin_gives d (Err s) h e p q = subst (λ s. Gives (ReadComes compiling top read) top (Err s)) (sym q) tt
+
+  -- the answers of another
+  pub later_gives : (r : Result (List ℕ) Stopped) → thin_of read.names top read.joined.tokens ≡ None → IfOk r (λ text. IsEmitted top text) → IfErr r (IsLater false read.sources)
+      → Gives (ReadComes compiling top read) top r
+  later_gives (Ok text) e p q = wider_writes (ReadComes compiling top read) top compiling read.sources (comes_by None e) text p
+  later_gives (Err s) e p q = wider_stops (ReadComes compiling top read) top compiling read.sources (comes_by None e) false s (λ code spot other x. x) q
+
+  pub flagged_gives : (s : Stopped) → Stops read.sources (first_place read.joined.tokens read.joined.end) NotYet s → Gives (ReadComes flagged top read) top (Err s)
+  flagged_gives (stopped.Refused code spot other) h = (refusal NotYet (spot_of read.sources (first_place read.joined.tokens read.joined.end)), reads read.tree file, h)
+  flagged_gives stopped.NoMemory h = tt
+  flagged_gives stopped.BadWords h = absurd h
+  flagged_gives (stopped.Missing name) h = absurd h
+  flagged_gives (stopped.Failed name) h = absurd h
+
+  pub listing_stops : (s : Stopped) → IsLater false read.sources s → Gives (ReadComes listing top read) top (Err s)
+  listing_stops s q = wider_stops (ReadComes listing top read) top listing read.sources (reads read.tree file) false s (λ code spot other x. x) q
+
+  pub listing_writes : (text : List ℕ) → Gives (ReadComes listing top read) top (Ok text)
+  listing_writes text = wider_writes (ReadComes listing top read) top listing read.sources (reads read.tree file) text tt

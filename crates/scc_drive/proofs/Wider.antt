@@ -1,0 +1,119 @@
+-- The answers of the stages behind the grammar, and of a stimulus.
+use Rattle.std.proofs.Common.{◌≡◌, ◌≤◌, ℕ, Bool, true, false, List, [], ◌∷◌, length, Option, Some, None, Result, Ok, Err, ap, refl, sym, ◌∙◌, subst, inl, inr, arith}
+use Rattle.std.specs.Prelude.{take, IfOk, IfErr}
+use Rattle.scc_base.specs.declared.no_memory.NoMemory.{NoMemory}
+use Rattle.scc_base.specs.Outside.{Shelf, Told, Rose}
+use Rattle.scc_base.specs.declared.code.Code.{Code}
+use Rattle.scc_base.specs.declared.code.Code.TheVariants.{FileTooLong}
+use Rattle.scc_tokens.specs.declared.file.Source.{Source}
+use Rattle.scc_drive.specs.declared.spots.Spot.{Spot}
+use Rattle.scc_drive.specs.declared.stopped.Stopped.{Stopped}
+use Rattle.scc_drive.specs.declared.stopped.Stopped.TheVariants as stopped
+use Rattle.scc_drive.specs.Outcome.{Task, simulating, Outcome, wider, WritesBy, WritesOf, RefusesOf}
+use Rattle.scc_drive.specs.Spots.{spot_in, first_spot, moved, IsSpotOf}
+use Rattle.scc_drive.specs.declared.joining.Read.{Read}
+use Rattle.scc_drive.specs.Answer.{AnswersBy, Writes, Refuses, Misses}
+use Rattle.scc_drive.specs.Comes.{RootsCome}
+use Rattle.scc_drive.specs.Stages.{Gives, Asking, Asked, IsJoined, IsOfStimulus, ReadComes}
+use Rattle.scc_drive.specs.Stops.{RefusesLater, IsLater, is_of_stimulus}
+use Rattle.scc_drive.proofs.Joined.{joined_asking}
+
+module _ (C : Outcome → Type 0) (top : List ℕ) (task : Task) (sources : List Source) (comes : C (wider task sources)) where
+  pub wider_stops : (many : Bool) (s : Stopped) → ((code : Code) (spot : Spot) (other : Option Spot) → RefusesLater many sources code spot other → RefusesOf task sources code spot other)
+      → IsLater many sources s → Gives C top (Err s)
+  wider_stops many (stopped.Refused code spot other) given q = (wider task sources, comes, given code spot other q)
+  wider_stops many stopped.NoMemory given q = tt
+  wider_stops many stopped.BadWords given q = absurd q
+  wider_stops many (stopped.Missing name) given q = absurd q
+  wider_stops many (stopped.Failed name) given q = absurd q
+
+  pub wider_writes : (text : List ℕ) → WritesOf task top text → Gives C top (Ok text)
+  wider_writes text w = (wider task sources, comes, w)
+
+no_bytes : (bytes : List ℕ) → take 0 bytes ≡ []
+no_bytes [] = refl
+no_bytes (b ∷ bs) = refl
+
+first_of : (name bytes : List ℕ) → IsSpotOf (record { name = name; bytes = bytes } ∷ []) (first_spot name)
+unfolding moved
+first_of name bytes = (
+  record { file = 0; at = 0 },
+  (record { name = name; bytes = bytes }, refl, omega arith),
+  ap (λ (b : List ℕ). record { file = name; line = (moved 1 1 b).0; column = (moved 1 1 b).1 }) (sym (no_bytes bytes)),
+)
+
+-- a place within a file is one of it
+pub spots_within : (s : Source) (at : ℕ) → at ≤ length s.bytes → (r : Result Spot NoMemory) → IfOk r (λ spot. spot ≡ spot_in (Some s) at) → IfOk r (IsSpotOf (s ∷ []))
+spots_within s at within (Ok spot) e = (record { file = 0; at = at }, (s, refl, within), e)
+spots_within s at within (Err x) e = tt
+
+module _ (C : Outcome → Type 0) (top : List ℕ) (many : Bool) (stim : List ℕ) (sources : List Source) (comes : C (wider (simulating many stim) sources)) (held : Option Shelf) (m m' f f' : ℕ) where
+  pub simulating_stops : (s : Stopped) → IsLater many sources s → Asking C top held m m' f f' (Err s)
+  simulating_stops (stopped.Refused code spot other) q = (wider (simulating many stim) sources, comes, inl q)
+  simulating_stops stopped.NoMemory q = tt
+  simulating_stops stopped.BadWords q = absurd q
+  simulating_stops (stopped.Missing name) q = absurd q
+  simulating_stops (stopped.Failed name) q = absurd q
+
+  pub simulating_unasked : (s : Stopped) → Asked stim held m m' f f' (Err s) → Asking C top held m m' f f' (Err s)
+  simulating_unasked (stopped.Refused code spot other) q = (
+    wider (simulating many stim) sources,
+    comes,
+    inr (
+      ap (λ c. is_of_stimulus c) q.0 ∙ refl,
+      (record { name = stim; bytes = q.3.0 }, refl, subst (IsSpotOf (record { name = stim; bytes = q.3.0 } ∷ [])) (sym q.1) (first_of stim q.3.0)),
+      q.2,
+    ),
+  )
+  simulating_unasked stopped.NoMemory q = tt
+  simulating_unasked stopped.BadWords q = absurd q
+  simulating_unasked (stopped.Missing name) q = (q.1, (wider (simulating many stim) sources, comes, q.0), subst (λ n. Told held (λ shelf. shelf n ≡ None)) (sym q.0) q.2)
+  simulating_unasked (stopped.Failed name) q = (q.1, (wider (simulating many stim) sources, comes, q.0))
+
+  pub simulating_refused : (s : Stopped) → IsOfStimulus stim s → Asking C top held m m' f f' (Err s)
+  simulating_refused (stopped.Refused code spot other) q = (wider (simulating many stim) sources, comes, inr q)
+  simulating_refused stopped.NoMemory q = tt
+  simulating_refused stopped.BadWords q = absurd q
+  simulating_refused (stopped.Missing name) q = absurd q
+  simulating_refused (stopped.Failed name) q = absurd q
+
+  -- the answer that a stimulus gives
+  pub simulating_gives : (name : List ℕ) (r : Result (List ℕ) Stopped) → name ≡ stim → IfErr r (IsOfStimulus name) → Asking C top held m m' f f' r
+  simulating_gives name (Ok text) e q = (wider (simulating many stim) sources, comes, tt)
+  simulating_gives name (Err s) e q = simulating_refused s (subst (λ n. IsOfStimulus n s) e q)
+
+-- ---- what came before
+
+rose_later : (a b c : ℕ) → a ≤ b → Rose b c → Rose a c
+rose_later a b c p q = omega (arith, p, q)
+
+pub rose_sooner : (a b c : ℕ) → Rose a b → b ≤ c → Rose a c
+rose_sooner a b c p q = omega (arith, p, q)
+
+pub asking_since : (C : Outcome → Type 0) (top : List ℕ) (held held' : Option Shelf) (m0 m m' f0 f f' : ℕ) (r : Result (List ℕ) Stopped) → held' ≡ held → m0 ≤ m → f0 ≤ f
+    → Asking C top held' m m' f f' r → Asking C top held m0 m' f0 f' r
+asking_since C top held held' m0 m m' f0 f f' (Ok text) same p q a = a
+asking_since C top held held' m0 m m' f0 f f' (Err (stopped.Refused code spot other)) same p q a = a
+asking_since C top held held' m0 m m' f0 f f' (Err stopped.NoMemory) same p q a = tt
+asking_since C top held held' m0 m m' f0 f f' (Err stopped.BadWords) same p q a = absurd a
+asking_since C top held held' m0 m m' f0 f f' (Err (stopped.Missing n)) same p q a =
+    (rose_later m0 m m' p a.0, a.1, subst (λ h. Told h (λ shelf. shelf n ≡ None)) same a.2)
+asking_since C top held held' m0 m m' f0 f f' (Err (stopped.Failed n)) same p q a = (rose_later f0 f f' q a.0, a.1)
+
+pub answers_since : (C : Shelf → Outcome → Type 0) (top : List ℕ) (held held' : Option Shelf) (m0 m m' f0 f f' : ℕ) (r : Result (List ℕ) Stopped) → held' ≡ held → m0 ≤ m → f0 ≤ f
+    → AnswersBy C top held' m m' f f' r → AnswersBy C top held m0 m' f0 f' r
+answers_since C top held held' m0 m m' f0 f f' (Ok text) same p q a = subst (λ h. Told h (Writes C top text)) same a
+answers_since C top held held' m0 m m' f0 f f' (Err (stopped.Refused code spot other)) same p q a = (a.0, subst (λ h. Told h (Refuses C code spot other)) same a.1)
+answers_since C top held held' m0 m m' f0 f f' (Err stopped.NoMemory) same p q a = tt
+answers_since C top held held' m0 m m' f0 f f' (Err stopped.BadWords) same p q a = absurd a
+answers_since C top held held' m0 m m' f0 f f' (Err (stopped.Missing n)) same p q a =
+    (rose_later m0 m m' p a.0, a.1, subst (λ h. Told h (Misses C n)) same a.2, subst (λ h. Told h (λ shelf. shelf n ≡ None)) same a.3)
+answers_since C top held held' m0 m m' f0 f f' (Err (stopped.Failed n)) same p q a = (rose_later f0 f f' q a.0, a.1)
+
+pub simulated_by : (roots : List (List ℕ)) (held held' : Option Shelf) (read : Read) (many : Bool) (stim stim' top top' : List ℕ) (m0 m m' f0 f f' : ℕ) (r : Result (List ℕ) Stopped)
+    → IsJoined roots held read → held' ≡ held → m0 ≤ m → f0 ≤ f → stim' ≡ stim → top' ≡ top → Asking (ReadComes (simulating many stim') top' read) top' held' m m' f f' r
+    → AnswersBy (RootsCome (simulating many stim) top roots) top held m0 m' f0 f' r
+simulated_by roots held held' read many stim stim' top top' m0 m m' f0 f f' r joined same p q e d a =
+    joined_asking roots held read joined (simulating many stim) top m0 m' f0 f' r
+    (asking_since (ReadComes (simulating many stim) top read) top held held' m0 m m' f0 f f' r same p q
+    (subst (λ t. Asking (ReadComes (simulating many stim) t read) t held' m m' f f' r) d (subst (λ s. Asking (ReadComes (simulating many s) top' read) top' held' m m' f f' r) e a)))

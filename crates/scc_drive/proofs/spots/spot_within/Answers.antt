@@ -1,0 +1,7 @@
+use Rattle.std.proofs.Common.{◌≡◌, rules, refl}
+use Rattle.std.specs.Prelude.{IfOk, Result, Ok, Err, ◌∷◌, []}
+use Rattle.scc_drive.proofs.Wider.{spots_within}
+use Rattle.scc_drive.proofs.spots.spot_within.Goals as goal
+
+pub returns : goal.returns
+returns c = record { spot = spots_within c.args.source.now c.args.at (search rules) c.spot_in.result c.spot_in.ensures.spot }

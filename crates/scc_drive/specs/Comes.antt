@@ -1,0 +1,157 @@
+-- What a command comes to where the names of files hold this.
+use Rattle.std.specs.Prelude.{◌≡◌, ◌≢◌, ℕ, Bool, true, false, List, [], ◌∷◌, length, nat_lt, slice_get, Option, Some, None, Result, Ok, Err, String}
+use Rattle.std.specs.declared.alloc.Global.{Global}
+use Rattle.scc_base.specs.Names.{fixed_names}
+use Rattle.scc_base.specs.Outside.{Shelf}
+use Rattle.scc_base.specs.declared.code.Code.{Code}
+use Rattle.scc_base.specs.declared.code.Code.TheVariants.{FileTooLong, NotYet, SvName}
+use Rattle.scc_base.specs.declared.refusal.Place.{Place}
+use Rattle.scc_base.specs.declared.refusal.Refusal.{Refusal}
+use Rattle.scc_base.specs.declared.refusal.Stop.TheVariants as stop
+use Rattle.scc_svtree.specs.declared.module.SvModule.{SvModule}
+use Rattle.scc_svread.specs.Read.{ReadAs, ReadBack, RefusedAs}
+use Rattle.scc_svtrace.specs.Ports.{in_ports}
+use Rattle.scc_tokens.specs.declared.file.Source.{Source}
+use Rattle.scc_tokens.specs.declared.joining.Joined.{Joined}
+use Rattle.scc_tokens.specs.declared.token.Token.{Token}
+use Rattle.scc_tokens.specs.Files.{first_part}
+use Rattle.scc_tokens.specs.Join.{join_of}
+use Rattle.scc_tokens.specs.Steps as join
+use Rattle.scc_tree.specs.declared.item.FileTree.{FileTree}
+use Rattle.scc_grammar.specs.Claim.{IsReadFile, IsFault}
+use Rattle.scc_thin.specs.declared.design.Design.{Design}
+use Rattle.scc_thin.specs.Thin.{thin_of}
+use Rattle.scc_trace.specs.Source.{source_of}
+use Rattle.scc_trace.specs.Stimulus.{stim_of}
+use Rattle.scc_trace.specs.declared.stim.StimStep.{StimStep}
+use Rattle.scc_words.specs.declared.command.Command.{Command}
+use Rattle.scc_words.specs.declared.command.Command.TheVariants as command
+use Rattle.scc_words.specs.declared.command.Form.{Form}
+use Rattle.scc_words.specs.declared.command.Form.TheVariants as form
+use Rattle.scc_words.specs.declared.command.SvForm.{SvForm}
+use Rattle.scc_words.specs.declared.command.SvForm.TheVariants as sv_form
+use Rattle.scc_words.specs.declared.command.SimWay.{SimWay}
+use Rattle.scc_words.specs.declared.command.SimWay.TheVariants as sim_way
+use Rattle.scc_drive.specs.Outcome.{Task, compiling, listing, simulating, flagged, Outcome, bad, refusal, absent, compiles, runs, writes, generated, wider}
+use Rattle.scc_drive.specs.Spots.{spot_of, spot_in, first_spot}
+use Rattle.scc_drive.specs.Words.{command_by, word_at, roots_of}
+
+-- a thin text, or a wider one
+abbrev pub outcome_of_design : List Source → Option Design → Outcome
+outcome_of_design sources None = wider compiling sources
+outcome_of_design sources (Some d) = compiles d
+
+-- the first token's place, or the end
+abbrev pub first_place : List Token → Place → Place
+first_place [] end = end
+first_place (t ∷ ts) end = t.place
+
+-- what joined tokens of the grammar come to; a flag of which the program has no meaning yet refuses the first token
+abbrev pub outcome_of_file : Task → List ℕ → List (List ℕ) → List Source → Joined → Outcome
+outcome_of_file compiling top names sources j = outcome_of_design sources (thin_of names top j.tokens)
+outcome_of_file listing top names sources j = wider listing sources
+outcome_of_file (simulating many stim) top names sources j = wider (simulating many stim) sources
+outcome_of_file flagged top names sources j = refusal NotYet (spot_of sources (first_place j.tokens j.end))
+
+-- a file of the grammar, and what it comes to; or the first fault
+pub data JoinedComes (task : Task) (top : List ℕ) (names : List (List ℕ)) (sources : List Source) (j : Joined) : Outcome → Type 0 where
+  reads : (file : FileTree) → IsReadFile j file → JoinedComes task top names sources j (outcome_of_file task top names sources j)
+  faulty : (code : Code) (place : Place) → IsFault j code place → JoinedComes task top names sources j (refusal code (spot_of sources place))
+
+-- what joining comes to
+abbrev pub FoundComes : Task → List ℕ → List (List ℕ) → List Source → Result Joined join.Stopped → Outcome → Type 0
+FoundComes task top names sources (Ok j) outcome = JoinedComes task top names sources j outcome
+FoundComes task top names sources (Err (join.Refuses code place)) outcome = outcome ≡ refusal code (spot_of sources place)
+FoundComes task top names sources (Err (join.Absent name)) outcome = outcome ≡ absent name
+
+abbrev pub FilesCome : Task → List ℕ → List (List ℕ) × List Source × Result Joined join.Stopped → Outcome → Type 0
+FilesCome task top found = FoundComes task top found.0 found.1 found.2
+
+-- the files of these names are joined, of each at most its first 1,048,577 bytes
+abbrev pub RootsCome : Task → List ℕ → List (List ℕ) → Shelf → Outcome → Type 0
+RootsCome task top roots shelf outcome = FilesCome task top (join_of (first_part shelf) fixed_names roots) outcome
+
+-- what the steps of a stimulus come to
+abbrev pub outcome_of_steps : SvModule → Source → Result (List StimStep) Refusal → Outcome
+outcome_of_steps m s (Err r) = refusal r.code (spot_in (Some s) r.place.at)
+outcome_of_steps m s (Ok steps) = runs m s.bytes
+
+abbrev pub outcome_of_stimulus : SvModule → Source → Bool → Outcome
+outcome_of_stimulus m s true = refusal FileTooLong (first_spot s.name)
+outcome_of_stimulus m s false = outcome_of_steps m s (stim_of 0 (in_ports m) s.bytes)
+
+-- what a stimulus comes to: its bytes may not be there, and may be too many
+abbrev pub outcome_on : SvModule → List ℕ → Option (List ℕ) → Outcome
+outcome_on m name None = absent name
+outcome_on m name (Some bytes) = outcome_of_stimulus m (record { name = name; bytes = bytes }) (nat_lt 1048576 (length bytes))
+
+-- What an emitted text comes to: it is refused; its module has another name, which stands behind the word `module` and a blank; or its module meets the stimulus.
+pub data TextComes (top : List ℕ) (text : Source) (stim : List ℕ) (held : Option (List ℕ)) : Outcome → Type 0 where
+  unread : (r : Refusal) → RefusedAs false text.bytes (stop.Refused r) → ReadBack false text.bytes (Err (stop.Refused r))
+      → TextComes top text stim held (refusal r.code (spot_in (Some text) r.place.at))
+  misnamed : (m : SvModule) → ReadAs false text.bytes m → m.name ≢ top → TextComes top text stim held (refusal SvName (spot_in (Some text) 7))
+  meets : (m : SvModule) → ReadAs false text.bytes m → m.name ≡ top → TextComes top text stim held (outcome_on m stim held)
+
+-- whether an emitted text has one module and one clock
+abbrev pub is_plain : SvForm → Bool
+is_plain sv_form.Whole = true
+is_plain sv_form.Hier = false
+is_plain sv_form.Clocks = false
+
+-- by the form of what is read; a flag of which the program has no meaning yet refuses the first byte
+abbrev pub TextComesBy : Bool → List ℕ → Source → List ℕ → Option (List ℕ) → Outcome → Type 0
+TextComesBy true top text stim held outcome = TextComes top text stim held outcome
+TextComesBy false top text stim held outcome = outcome ≡ refusal NotYet (spot_in (Some text) 0)
+
+abbrev pub LongTextComes : Bool → Bool → List ℕ → Source → List ℕ → Option (List ℕ) → Outcome → Type 0
+LongTextComes true plain top text stim held outcome = outcome ≡ refusal FileTooLong (first_spot text.name)
+LongTextComes false plain top text stim held outcome = TextComesBy plain top text stim held outcome
+
+-- what the file of an emitted text comes to
+abbrev pub TextFileComes : Bool → List ℕ → (name stim : List ℕ) → (text stimulus : Option (List ℕ)) → Outcome → Type 0
+TextFileComes plain top name stim None held outcome = outcome ≡ absent name
+TextFileComes plain top name stim (Some bytes) held outcome =
+    LongTextComes (nat_lt 1048576 (length bytes)) plain top (record { name = name; bytes = bytes }) stim held outcome
+
+abbrev pub TextsCome : Bool → List ℕ → (name stim : List ℕ) → Shelf → Outcome → Type 0
+TextsCome plain top name stim shelf outcome = TextFileComes plain top name stim (first_part shelf name) (first_part shelf stim) outcome
+
+abbrev pub is_whole : Form → Bool
+is_whole form.Whole = true
+is_whole form.Hier = false
+is_whole form.Clocks = false
+is_whole form.Memory = false
+
+abbrev pub task_if : Bool → Task
+task_if true = compiling
+task_if false = flagged
+
+abbrev pub task_of : Form → Task
+task_of f = task_if (is_whole f)
+
+-- the way of a simulation with several clocks
+abbrev pub has_clocks : SimWay → Bool
+has_clocks sim_way.Whole = false
+has_clocks (sim_way.Order n) = false
+has_clocks sim_way.Migrate = false
+has_clocks sim_way.Clocks = true
+
+abbrev pub GeneratedComes : ℕ → Bool → Outcome → Type 0
+GeneratedComes stages true outcome = outcome ≡ writes (source_of stages)
+GeneratedComes stages false outcome = outcome ≡ generated
+
+abbrev pub CommandComes : Command → List (String Global) → Shelf → Outcome → Type 0
+CommandComes (command.Compile count f) words shelf outcome = RootsCome (task_of f) (word_at words 1) (roots_of words count) shelf outcome
+CommandComes (command.Sim count stim way) words shelf outcome = RootsCome (simulating (has_clocks way) (word_at words stim)) (word_at words 1) (roots_of words count) shelf outcome
+CommandComes (command.Svsim stim f) words shelf outcome = TextsCome (is_plain f) (word_at words 1) (word_at words 2) (word_at words stim) shelf outcome
+CommandComes (command.List count) words shelf outcome = RootsCome listing (word_at words 1) (roots_of words count) shelf outcome
+CommandComes (command.Gen stages source) words shelf outcome = GeneratedComes stages source outcome
+
+abbrev pub ComesBy : Option Command → List (String Global) → Shelf → Outcome → Type 0
+ComesBy None words shelf outcome = outcome ≡ bad
+ComesBy (Some c) words shelf outcome = CommandComes c words shelf outcome
+
+-- What a command comes to where the names of files hold this: the words are looked at first. For `compile`, `list` and `sim` files are joined, and the grammar
+-- reads the joined tokens. For `svsim` a text is read, and then a stimulus.
+unfoldable pub Comes : Shelf → List (String Global) → Outcome → Type 0
+Comes shelf words outcome = ComesBy (command_by words) words shelf outcome

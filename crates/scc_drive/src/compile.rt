@@ -1,0 +1,93 @@
+//! `compile`: the text of a module.
+ghost use Rattle.std.specs.Prelude.{◌≡◌, ◌≤◌, ◌<◌, ◌+◌, length, false, IfOk, IfErr};
+ghost use Rattle.scc_stages.specs.Emitted.{IsEmitted};
+ghost use Rattle.scc_thinmodule.specs.Identifiers.{AreIdentifiers};
+ghost use Rattle.scc_grammar.specs.Claim.{IsReadFile};
+ghost use Rattle.scc_drive.specs.Answer.{AnswersBy};
+ghost use Rattle.scc_drive.specs.Comes as comes;
+ghost use Rattle.scc_drive.specs.Comes.{RootsCome, task_of};
+ghost use Rattle.scc_drive.specs.Outcome.{compiling};
+ghost use Rattle.scc_drive.specs.Stages.{Gives, ReadComes};
+ghost use Rattle.scc_drive.specs.Stops.{IsLater};
+ghost use Rattle.scc_drive.specs.Words.{word_at, roots_of};
+
+use crate::joining::{Read, read_files};
+use crate::later::{not_yet, refused_later};
+use crate::stopped::Stopped;
+use crate::thin::printed;
+use crate::words::word;
+use scc_base::{Files, Stop, Text};
+use scc_stages::compile;
+use scc_thin::{Halt, read_design};
+use scc_words::Form;
+use std::alloc::Global;
+
+/// The text of the module of the class that word 1 names, of so many files from word 2 on.
+pub fn compiled<F: Files>(
+    alloc: Global,
+    words: &[String],
+    count: usize,
+    form: Form,
+    files: &mut F,
+) -> Result<Text, Stopped>
+    requires some { 0 < count }
+    requires few { count ≤ 64 }
+    requires within { count + 2 ≤ length words.now }
+    ensures { AnswersBy (RootsCome (task_of form) (word_at words.now 1) (roots_of words.now count)) (word_at words.now 1) (F.held files.old) (F.misses files.old) (F.misses files.new) (F.faults files.old) (F.faults files.new) result }
+{
+    let read = read_files(alloc, words, count, files)?;
+    formed(alloc, word(words, 1).as_bytes(), &read, form)
+}
+
+fn formed(alloc: Global, top: &[u8], read: &Read, form: Form) -> Result<Text, Stopped>
+    requires read { IsReadFile read.now.joined read.now.tree }
+    requires identifiers { AreIdentifiers read.now.names }
+    ensures { Gives (ReadComes (task_of form) top.now read.now) top.now result }
+{
+    if is_whole(form) {
+        whole(alloc, top, read)
+    } else {
+        Err(not_yet(alloc, read))
+    }
+}
+
+fn is_whole(form: Form) -> bool
+    ensures { result ≡ comes.is_whole form }
+{
+    match form {
+        Form::Whole => true,
+        Form::Hier => false,
+        Form::Clocks => false,
+        Form::Memory => false,
+    }
+}
+
+// By what is proved of thin texts where the files are one, else by the later stages.
+fn whole(alloc: Global, top: &[u8], read: &Read) -> Result<Text, Stopped>
+    requires read { IsReadFile read.now.joined read.now.tree }
+    requires identifiers { AreIdentifiers read.now.names }
+    ensures { Gives (ReadComes compiling top.now read.now) top.now result }
+{
+    match read_design(alloc, top, &read.names, read.joined.tokens.as_slice()) {
+        Ok(design) => printed(alloc, &design),
+        Err(Halt::Other) => compiled_later(alloc, top, read),
+        Err(Halt::Memory) => Err(Stopped::NoMemory),
+    }
+}
+
+// The text of the module of a file of the grammar.
+fn compiled_later(alloc: Global, top: &[u8], read: &Read) -> Result<Text, Stopped>
+    ensures text { IfOk result (λ t. IsEmitted top.now t) }
+    ensures stopped { IfErr result (IsLater false read.now.sources) }
+{
+    match compile(alloc, &read.names, &read.tree, top) {
+        Ok(text) => Ok(text),
+        Err(Stop::Refused(refusal)) => Err(refused_later(
+            alloc,
+            false,
+            read.sources.as_slice(),
+            refusal,
+        )),
+        Err(Stop::NoMemory) => Err(Stopped::NoMemory),
+    }
+}

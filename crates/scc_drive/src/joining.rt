@@ -1,0 +1,104 @@
+//! Files that are joined and read by the grammar.
+ghost use Rattle.std.specs.Prelude.{◌≡◌, ◌≤◌, ◌<◌, ◌+◌, length, IfOk, IfErr};
+ghost use Rattle.scc_grammar.specs.Claim.{IsReadFile, IsFault};
+ghost use Rattle.scc_drive.specs.Comes.{JoinedComes};
+ghost use Rattle.scc_drive.specs.Stages.{IsJoined, IsUnjoined};
+ghost use Rattle.scc_drive.specs.Stops.{Stops, StoppedBy, IsFaulty};
+ghost use Rattle.scc_drive.specs.Words.{roots_of};
+
+use crate::spots::locate;
+use crate::stopped::Stopped;
+use crate::words::roots;
+use scc_base::{Code, Files, List, Names, NoMemory, Place, Refusal, Stop};
+use scc_grammar::parse;
+use scc_tokens::{JoinFault, Joined, Source, join};
+use scc_tree::FileTree;
+use std::alloc::Global;
+
+/// Files that were joined, and what the grammar reads of them.
+#[derive(Drop)]
+pub struct Read {
+    pub names: Names,
+    pub sources: List<Source>,
+    pub joined: Joined,
+    pub tree: FileTree,
+}
+
+/// Joins so many of the files that the words name from word 2 on, and reads them by the grammar.
+pub fn read_files<F: Files>(
+    alloc: Global,
+    words: &[String],
+    count: usize,
+    files: &mut F,
+) -> Result<Read, Stopped>
+    requires some { 0 < count }
+    requires few { count ≤ 64 }
+    requires within { count + 2 ≤ length words.now }
+    ensures joined { IfOk result (IsJoined (roots_of words.now count) (F.held files.old)) }
+    ensures unjoined { IfErr result (IsUnjoined (roots_of words.now count) (F.held files.old) (F.misses files.old) (F.misses files.new) (F.faults files.old) (F.faults files.new)) }
+    ensures kept { F.held files.new ≡ F.held files.old }
+    ensures no_fewer_misses { F.misses files.old ≤ F.misses files.new }
+    ensures no_fewer_faults { F.faults files.old ≤ F.faults files.new }
+{
+    let Ok(mut names) = Names::new(alloc) else {
+        return Err(Stopped::NoMemory);
+    };
+    let mut sources = List::new(alloc);
+    match join(alloc, roots(words, count), files, &mut names, &mut sources) {
+        Ok(joined) => read_joined(alloc, names, sources, joined),
+        Err(fault) => Err(stopped_by(alloc, sources.as_slice(), fault)),
+    }
+}
+
+fn stopped_by(alloc: Global, sources: &[Source], fault: JoinFault) -> Stopped
+    ensures { StoppedBy sources.now fault result }
+{
+    match fault {
+        JoinFault::Stop(Stop::Refused(Refusal { code, place, .. })) => {
+            refused(alloc, sources, place, code)
+        }
+        JoinFault::Stop(Stop::NoMemory) => Stopped::NoMemory,
+        JoinFault::Missing(name) => Stopped::Missing(name),
+        JoinFault::Failed(name) => Stopped::Failed(name),
+    }
+}
+
+fn read_joined(
+    alloc: Global,
+    names: Names,
+    sources: List<Source>,
+    joined: Joined,
+) -> Result<Read, Stopped>
+    ensures read { IfOk result (λ r. (r.names ≡ names) × (r.sources ≡ sources) × (r.joined ≡ joined) × IsReadFile joined r.tree) }
+    ensures fault { IfErr result (IsFaulty sources joined) }
+{
+    match parse(alloc, &joined) {
+        Ok(tree) => Ok(Read {
+            names,
+            sources,
+            joined,
+            tree,
+        }),
+        Err(Stop::Refused(Refusal { code, place, .. })) => Err(refused(
+            alloc,
+            sources.as_slice(),
+            place,
+            code,
+        )),
+        Err(Stop::NoMemory) => Err(Stopped::NoMemory),
+    }
+}
+
+// A refusal at a place of the files that were read.
+fn refused(alloc: Global, sources: &[Source], place: Place, code: Code) -> Stopped
+    ensures { Stops sources.now place code result }
+{
+    match locate(alloc, sources, place) {
+        Ok(spot) => Stopped::Refused {
+            code,
+            spot,
+            other: None,
+        },
+        Err(NoMemory) => Stopped::NoMemory,
+    }
+}

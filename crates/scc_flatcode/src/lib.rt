@@ -1,0 +1,16 @@
+//! Flat code of a program's functions, in which names are slots.
+#![tactic(auto)]
+
+mod code;
+mod coder;
+mod convert;
+mod layout;
+mod locate;
+mod statement;
+mod target;
+mod value;
+mod walk;
+mod way;
+
+pub use code::coded;
+pub use layout::{Layout, member_of, plus, product};

@@ -1,0 +1,83 @@
+//! Words by clap.
+ghost use Rattle.std.specs.Prelude.{◌≡◌, IfOk, map, string_bytes};
+ghost use Rattle.scc_words.specs.Commands.{command_of};
+
+use crate::command::{Command, command_of};
+use clap::{Arg, ArgAction, ArgMatches, Command as Parser};
+use scc_base::{NoMemory, lost};
+use std::alloc::Global;
+
+// One command without subcommands: ACTION, TOP and any number of FILE, two options with a value, and flags.
+fn parser<'a>(alloc: Global) -> Result<Parser<'a>, NoMemory> {
+    Ok(
+        Parser::new(alloc, "scc")
+            .no_binary_name(true)
+            .disable_help_flag(true)
+            .disable_version_flag(true)
+            .arg(
+                Arg::new(alloc, "ACTION")
+                    .required(true)
+                    .action(ArgAction::Set),
+            )?
+            .arg(Arg::new(alloc, "TOP").required(true).action(ArgAction::Set))?
+            .arg(
+                Arg::new(alloc, "FILE")
+                    .num_args(0..)
+                    .action(ArgAction::Append),
+            )?
+            .arg(Arg::new(alloc, "stim").long("stim").action(ArgAction::Set))?
+            .arg(
+                Arg::new(alloc, "order")
+                    .long("order")
+                    .action(ArgAction::Set),
+            )?
+            .arg(flag(alloc, "source"))?
+            .arg(flag(alloc, "migrate"))?
+            .arg(flag(alloc, "hier"))?
+            .arg(flag(alloc, "clocks"))?
+            .arg(flag(alloc, "memory"))?,
+    )
+}
+
+fn flag<'a>(alloc: Global, name: &'a str) -> Arg<'a> {
+    Arg::new(alloc, name).long(name).action(ArgAction::SetTrue)
+}
+
+// Whether the stimulus is the word of that number.
+fn is_stim(m: &ArgMatches<'_>, words: &[String], stim: usize) -> bool {
+    match (m.get_str("stim"), words.get(stim)) {
+        (Some(a), Some(b)) => a == b.as_str(),
+        _ => false,
+    }
+}
+
+// Whether clap reads the words as the command says.
+fn agrees(m: &ArgMatches<'_>, words: &[String], command: Command) -> bool {
+    match command {
+        Command::Sim { stim, .. } => is_stim(m, words, stim),
+        Command::Svsim { stim, .. } => is_stim(m, words, stim),
+        Command::Gen { source, .. } => m.get_flag("source") == source,
+        Command::Compile { .. } => true,
+        Command::List { .. } => true,
+    }
+}
+
+/// The command that words make; None where they break the rules on words. Clap reads words that keep the rules, and takes all
+/// such words.
+pub fn read_command(alloc: Global, words: &[String]) -> Result<Option<Command>, NoMemory>
+    ensures { IfOk result (λ c. c ≡ command_of (map string_bytes words.now)) }
+{
+    let Some(command) = command_of(words) else {
+        return Ok(None);
+    };
+    match parser(alloc)?.try_get_matches_from(words) {
+        Ok(m) => {
+            if agrees(&m, words, command) {
+                Ok(Some(command))
+            } else {
+                Err(lost())
+            }
+        }
+        Err(_) => Err(NoMemory),
+    }
+}
