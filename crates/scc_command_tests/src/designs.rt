@@ -1,5 +1,6 @@
 //! Worked designs: what both sides show of them, what is listed of them, and the generated ones.
 use crate::command::{Answer, answered};
+use scc_base::Text;
 use std::alloc::Global;
 use std::test::Fail;
 
@@ -247,28 +248,20 @@ fn has(text: &[u8], line: &str) -> bool {
     text.split(|b| *b == b'\n').any(|l| l == line.as_bytes())
 }
 
-/// The trace of the source, where it is that of the emitted text and nothing is said; else None.
+/// The trace of the source, where it is that of the emitted text and nothing is said; else None. The files hold the stimulus too.
 fn trace(
     alloc: Global,
     top: &str,
-    files: &[(&str, &str)],
-    stimulus: &str,
+    held: &[(&str, &[u8])],
+    stimulus: &[u8],
 ) -> Result<Option<Answer>, Fail> {
-    let mut held = Vec::new(alloc);
-    for file in files {
-        held.push((file.0, file.1.as_bytes()))?;
-    }
-    held.push(("s", stimulus.as_bytes()))?;
-    let compiled = answered(alloc, &["compile", top, "a.cpp"], held.as_slice())?;
-    let source = answered(
-        alloc,
-        &["sim", top, "a.cpp", "--stim", "s"],
-        held.as_slice(),
-    )?;
+    let compiled = answered(alloc, &["compile", top, "a.cpp"], held)?;
+    let source = answered(alloc, &["sim", top, "a.cpp", "--stim", "s"], held)?;
+    let steps = Text::from_bytes(alloc, stimulus)?;
     let emitted = answered(
         alloc,
         &["svsim", top, "a.sv", "--stim", "s"],
-        &[("a.sv", compiled.out.bytes()), ("s", stimulus.as_bytes())],
+        &[("a.sv", compiled.out.bytes()), ("s", steps.bytes())],
     )?;
     let is_silent = compiled.is_silent() && source.is_silent() && emitted.is_silent();
     if !is_silent || emitted.out.bytes() != source.out.bytes() {
@@ -373,7 +366,8 @@ fn runs_both_sides(rt: HostRuntime) -> Result<(), Fail> {
             "0- q=05\n0+ q=05\n1- q=05\n1+ q=06\n2- q=05\n3- q=05\n4- q=05\n4+ q=06",
         ),
     ] {
-        let found = trace(rt.alloc(), top, &[("a.cpp", source)], stimulus)?;
+        let held = [("a.cpp", source.as_bytes()), ("s", stimulus.as_bytes())];
+        let found = trace(rt.alloc(), top, &held, stimulus.as_bytes())?;
         for line in lines.split('\n') {
             assert!(rt; shows(&found, line), "{line} of {source}");
         }
@@ -388,7 +382,8 @@ fn counts_round(rt: HostRuntime) -> Result<(), Fail> {
     for _ in 1..257 {
         stimulus.push_str("step 0\n")?;
     }
-    let found = trace(rt.alloc(), "Count", &[("a.cpp", COUNT)], stimulus.as_str())?;
+    let held = [("a.cpp", COUNT.as_bytes()), ("s", stimulus.as_bytes())];
+    let found = trace(rt.alloc(), "Count", &held, stimulus.as_bytes())?;
     assert!(rt; shows(&found, "255+ q=ff"));
     assert!(rt; shows(&found, "256+ q=00"));
     Ok(())
@@ -410,8 +405,12 @@ fn runs_a_fifo(rt: HostRuntime) -> Result<(), Fail> {
         stimulus.push_str(digits.as_str())?;
         stimulus.push_str("\n")?;
     }
-    let files = [("a.cpp", FIFO), ("fifo.h", FIFO_HEADER)];
-    let found = trace(rt.alloc(), "Fifo", &files, stimulus.as_str())?;
+    let held = [
+        ("a.cpp", FIFO.as_bytes()),
+        ("fifo.h", FIFO_HEADER.as_bytes()),
+        ("s", stimulus.as_bytes()),
+    ];
+    let found = trace(rt.alloc(), "Fifo", &held, stimulus.as_bytes())?;
     for line in [
         "0- dout=00 full=0 empty=1",
         "16+ dout=00 full=1 empty=0",
