@@ -1,17 +1,7 @@
-pub mod Low
-pub mod Words
-pub mod Exactly
-pub mod Places
-pub mod Found
-pub mod EveryRow
-pub mod Operated
-pub mod Alike
-pub mod Rules
 pub mod Validity
 pub mod Agreement
 pub mod Suited
 pub mod Parts
-pub mod Fewest
 pub mod Lowered
 pub mod Standing
 pub mod Applied

@@ -1,10 +1,10 @@
 -- Facts of numbers with their kinds.
 use Rattle.std.specs.Prelude.{◌≡◌, ℕ, ◌≤◌, ◌<◌, ◌+◌, ◌-◌, ◌^◌, Option, Some, None, option_and_then}
 use Rattle.std.proofs.Common.{arith, pow_mono}
-use Rattle.scc_bits.specs.declared.kind.Kind.{Kind}
-use Rattle.scc_bits.specs.declared.op.Op.{Op}
-use Rattle.scc_bits.specs.declared.rule.Rule.{Rule}
-use Rattle.scc_bits.specs.Kinds.{IsValid, Fits, width_of}
+use Rattle.scc_kinds.specs.declared.kind.Kind.{Kind}
+use Rattle.scc_kinds.specs.declared.op.Op.{Op}
+use Rattle.scc_kinds.specs.declared.rule.Rule.{Rule}
+use Rattle.scc_kinds.specs.Kinds.{IsValid, Fits, width_of}
 use Rattle.scc_bits.specs.Values.{answer_of, kind_of, rule_at}
 use Rattle.scc_bits.proofs.Validity.{answer_valid}
 

@@ -1,13 +1,4 @@
-pub mod Numbers
-pub mod Operators
-pub mod Kinds
-pub mod Groups
-pub mod Table
-pub mod Rows
-pub mod Counts
 pub mod Value
 pub mod Values
 pub mod Placed
 pub mod Standing
-pub mod Bits
-pub mod Constants

@@ -1,11 +1,11 @@
 //! Laws of the operator table.
-ghost use Rattle.std.specs.Prelude.{◌<◌, ◌≤◌, ◌^◌, Bool, ℤ, bit_and, bit_or, bit_xor, ◌≡◌, ℕ, false, Some};
-ghost use Rattle.scc_bits.specs.declared.op.Op.{Op};
-ghost use Rattle.scc_bits.specs.declared.kind.Kind.{Kind};
+ghost use Rattle.std.specs.Prelude.{◌<◌, ◌≤◌, Bool, ◌≡◌, ℕ, false, Some};
+ghost use Rattle.scc_kinds.specs.declared.op.Op.{Op};
+ghost use Rattle.scc_kinds.specs.declared.kind.Kind.{Kind};
 ghost use Rattle.scc_bits.specs.declared.operands.Operands.{Operands};
-ghost use Rattle.scc_bits.specs.Numbers.{low, reading, Holds, both, either, differing};
-ghost use Rattle.scc_bits.specs.Operators.{exact, Signs, Divisor};
-ghost use Rattle.scc_bits.specs.Kinds.{IsValid, Fits, width_of, is_signed, number_of, stored, converted};
+ghost use Rattle.scc_kinds.specs.Numbers.{low};
+ghost use Rattle.scc_kinds.specs.Operators.{exact, Signs, Divisor};
+ghost use Rattle.scc_kinds.specs.Kinds.{IsValid, Fits, width_of, is_signed, number_of, stored, converted};
 ghost use Rattle.scc_bits.specs.Values.{kind_of, is_too_wide, applied};
 ghost use Rattle.scc_bits.specs.Placed.{operands_of};
 
@@ -18,18 +18,4 @@ pub fn operands_keep_answer()
     ensures kinds { (o : Op) → (j k : Kind) → (p : Operands) → IsValid j → IsValid k → operands_of o j k ≡ Some p → IsValid p.left × IsValid p.right × IsValid p.answer }
     ensures signs { (o : Op) → (j k : Kind) → (p : Operands) → operands_of o j k ≡ Some p → Signs o (is_signed p.left) (is_signed p.right) }
     ensures divisor { (o : Op) → (j k : Kind) → (y : ℕ) → (p : Operands) → IsValid j → IsValid k → Fits k y → operands_of o j k ≡ Some p → Divisor o y → Divisor o (stored p.right (number_of k y)) }
-{}
-
-/// The words of w bits and the numbers that they hold, in either sign, stand for one another.
-pub fn words_hold_numbers()
-    ensures read { (s : Bool) → (w : ℕ) → (z : ℤ) → 1 ≤ w → Holds s w z → reading s w (low w z) ≡ z }
-    ensures written { (s : Bool) → (w x : ℕ) → x < 2 ^ w → low w (reading s w x) ≡ x }
-    ensures held { (s : Bool) → (w x : ℕ) → 1 ≤ w → x < 2 ^ w → Holds s w (reading s w x) }
-{}
-
-/// The bitwise operators on numbers act on the bits of two's complement, at every width.
-pub fn bits_are_in_twos_complement()
-    ensures and { (w : ℕ) → (a b : ℤ) → low w (both a b) ≡ bit_and (low w a) (low w b) }
-    ensures or { (w : ℕ) → (a b : ℤ) → low w (either a b) ≡ bit_or (low w a) (low w b) }
-    ensures xor { (w : ℕ) → (a b : ℤ) → low w (differing a b) ≡ bit_xor (low w a) (low w b) }
 {}

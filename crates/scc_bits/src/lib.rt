@@ -1,44 +1,26 @@
-//! Kinds of numbers, the words that hold them, and the operators on them.
+//! Kinds of numbers, the words that hold them, and the operators on them: what the operators answer for words of every
+//! kind, and numbers as values that carry their kind.
 #![tactic(auto)]
 
 mod application;
-mod arithmetic;
 mod bits;
-mod constant;
-mod convert;
-mod count;
-mod expression;
 mod form;
-mod group;
-mod kind;
 mod laws;
 mod number;
-mod op;
 mod operands;
-mod operation;
 mod result;
-mod rows;
-mod rule;
-mod table;
 mod taken;
 mod value;
-mod word;
 
 pub use application::apply;
 pub use bits::{concat, replace, select};
-pub use constant::counted;
-pub use convert::conv;
-pub use count::{common, promoted};
-pub use expression::{
-    choice_kind, concat_kind, converts, has_bits, is_bits, is_large, is_part, is_small, range_kind,
-};
-pub use group::{Group, group_of};
-pub use kind::{Kind, Word, fits, signed, valid, width};
-pub use laws::{bits_are_in_twos_complement, operands_keep_answer, words_hold_numbers};
-pub use op::Op;
+pub use laws::operands_keep_answer;
 pub use operands::Operands;
-pub use operation::{operate, takes_right};
 pub use result::{operand_kinds, result_kind, too_wide};
-pub use rule::{Rule, rule_of};
-pub use table::{Row, Table, find_rule, operators};
+pub use scc_kinds::{
+    Group, Kind, Op, Row, Rule, Table, Word, bits_are_in_twos_complement, choice_kind, common,
+    concat_kind, conv, converts, counted, find_rule, fits, group_of, has_bits, is_bits, is_large,
+    is_part, is_small, operate, operators, promoted, range_kind, rule_of, signed, takes_right,
+    valid, width, words_hold_numbers,
+};
 pub use value::{Fault, JoinFault, Value};

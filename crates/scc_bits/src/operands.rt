@@ -1,12 +1,13 @@
 //! The kinds in which the rules of the operator table take their operands, and those of their answers.
 ghost use Rattle.std.specs.Prelude.{◌≡◌, Some, None, if◌then◌else◌, nat_eq};
-ghost use Rattle.scc_bits.specs.Kinds.{width_of};
+ghost use Rattle.scc_kinds.specs.Kinds.{width_of};
 ghost use Rattle.scc_bits.specs.Values.{amount_kind, passes};
 ghost use Rattle.scc_bits.specs.Placed.{placed_of};
 
-use crate::count::{common, count, promoted, quotient_bits, room, some_signed, wide, wide_room};
-use crate::kind::{Kind, signed, width};
-use crate::rule::Rule;
+use scc_kinds::{
+    Kind, Rule, common, count, promoted, quotient_bits, room, signed, some_signed, wide, wide_room,
+    width,
+};
 
 /// The kinds in which an operator takes its operands, and that of its answer.
 #[derive(Clone, Copy, Debug, PartialEq, Eq)]

@@ -3,11 +3,8 @@ ghost use Rattle.std.specs.Prelude.{◌≡◌, option_map};
 ghost use Rattle.scc_bits.specs.Values.{kind_of, is_too_wide, rule_at};
 ghost use Rattle.scc_bits.specs.Placed.{operands_of};
 
-use crate::group::group_of;
-use crate::kind::Kind;
-use crate::op::Op;
 use crate::operands::{Operands, passes, placed};
-use crate::rule::{Rule, rule_of};
+use scc_kinds::{Kind, Op, Rule, group_of, rule_of};
 
 /// The rule of an operator for operands of two kinds, None where there is no row.
 #[inline(always)]

@@ -1,22 +1,20 @@
 //! A number with its kind.
 ghost use Rattle.std.specs.Prelude.{◌≡◌, ◌<◌, ◌≤◌, ◌^◌, ◌+◌, ◌-◌, ◌↔◌, IsTrue, Some, None, true, false, Err, IfOk, IfSome, IsSome, nat_eq, not, unwrap_or};
-ghost use Rattle.scc_bits.specs.Kinds.{IsValid, Fits, width_of, is_signed, number_of, stored};
-ghost use Rattle.scc_bits.specs.Constants.{CountsBy};
-ghost use Rattle.scc_bits.specs.Bits.{part, replaced, joined, range_of, concat_of, is_convertible};
-ghost use Rattle.scc_bits.specs.Operators.{Divisor};
+ghost use Rattle.scc_kinds.specs.Kinds.{IsValid, Fits, width_of, is_signed, number_of, stored};
+ghost use Rattle.scc_kinds.specs.Constants.{CountsBy};
+ghost use Rattle.scc_kinds.specs.Bits.{part, replaced, joined, range_of, concat_of, is_convertible};
+ghost use Rattle.scc_kinds.specs.Operators.{Divisor};
 ghost use Rattle.scc_bits.specs.Values.{kind_of, is_too_wide, applied};
 ghost use Rattle.scc_bits.specs.Value.{exactly, counts_beside};
 ghost use Rattle.scc_bits.specs.declared.value.Fault.TheVariants as fault;
 
 use crate::application::apply;
 use crate::bits::{concat, replace, select};
-use crate::constant::counted;
-use crate::convert::conv;
-use crate::expression::{concat_kind, converts, is_large, is_small, range_kind};
-use crate::kind::{Kind, Word, fits, signed, valid, width};
-use crate::op::Op;
-use crate::operation::takes_right;
 use crate::result::{result_kind, too_wide};
+use scc_kinds::{
+    Kind, Op, Word, concat_kind, conv, converts, counted, fits, is_large, is_small, range_kind,
+    signed, takes_right, valid, width,
+};
 use std::marker::Model;
 
 /// A number: a valid kind and a word that fits it. So no caller meets a condition on words.
@@ -28,7 +26,7 @@ pub struct Value {
 
 impl Model for Value {
     ghost use Rattle.scc_bits.specs.Value.{Number};
-    ghost use Rattle.scc_bits.specs.Kinds.{IsValid, Fits};
+    ghost use Rattle.scc_kinds.specs.Kinds.{IsValid, Fits};
 
     ghost Value = { Number };
 

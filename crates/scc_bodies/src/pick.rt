@@ -1,6 +1,6 @@
 //! Elements of arrays and vectors, bits, ranges of bits, and calls of the language on numbers (IEEE 1666-2011, 7.2 and 8.5).
 ghost use Rattle.std.specs.Prelude.{◌<◌, ◌≤◌, IfErr, IfSome};
-ghost use Rattle.scc_bits.specs.Kinds.{width_of};
+ghost use Rattle.scc_kinds.specs.Kinds.{width_of};
 ghost use Rattle.scc_bodies.specs.Refusals.{MayStop};
 
 use crate::draft::{Draft, bits, convert, operate_one};

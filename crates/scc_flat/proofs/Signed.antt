@@ -1,9 +1,9 @@
 -- The signs in which an operator on numbers of 128 bits takes its operands.
 use Rattle.std.specs.Prelude.{◌≡◌, Bool, ◌&&◌, not, true, false}
 use Rattle.std.proofs.Common.{refl}
-use Rattle.scc_bits.specs.declared.op.Op.{Op}
-use Rattle.scc_bits.specs.declared.op.Op.TheVariants as op
-use Rattle.scc_bits.specs.Operators.{Signs}
+use Rattle.scc_kinds.specs.declared.op.Op.{Op}
+use Rattle.scc_kinds.specs.declared.op.Op.TheVariants as op
+use Rattle.scc_kinds.specs.Operators.{Signs}
 use Rattle.scc_flat.specs.Shifts.{is_shift}
 
 and_true : (s : Bool) → s ≡ (s && true)

@@ -2,7 +2,7 @@
 use Rattle.std.specs.Prelude.{◌≡◌, ℕ, Bool, true, false, ◌||◌, List, [], ◌∷◌, Option, None, is_some, Ok, refl}
 use Rattle.std.proofs.Common.{◌∙◌, ap}
 use Rattle.scc_base.specs.declared.refusal.Place.{Place}
-use Rattle.scc_bits.specs.declared.op.Op.{Op}
+use Rattle.scc_kinds.specs.declared.op.Op.{Op}
 use Rattle.scc_tree.specs.declared.expr.Expr.{Expr}
 use Rattle.scc_tree.specs.declared.local.LocalTree.{LocalTree}
 use Rattle.scc_tree.specs.declared.simple.SimpleTree.{SimpleTree}

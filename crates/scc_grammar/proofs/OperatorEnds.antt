@@ -1,7 +1,7 @@
 -- An operator ends what is below its level.
 use Rattle.std.specs.Prelude.{◌≡◌, ℕ, zero, suc, true, ◌∷◌, Some, refl}
 use Rattle.scc_base.specs.declared.refusal.Place.{Place}
-use Rattle.scc_bits.specs.declared.op.Op.{Op}
+use Rattle.scc_kinds.specs.declared.op.Op.{Op}
 use Rattle.scc_grammar.specs.declared.terminal.Terminal.{Terminal}
 use Rattle.scc_grammar.specs.declared.terminal.Terminal.TheVariants as t
 use Rattle.scc_grammar.specs.Operators.{operator}

@@ -3,8 +3,8 @@ use Rattle.std.specs.Prelude.{◌≡◌, ℕ, zero, suc, ◌<◌, ◌≤◌, Boo
 use Rattle.std.proofs.Common.{arith, lit≤, inl, inr}
 use Rattle.scc_base.specs.declared.names.Name.{Name}
 use Rattle.scc_base.specs.declared.refusal.Place.{Place}
-use Rattle.scc_bits.specs.declared.op.Op.{Op}
-use Rattle.scc_bits.specs.declared.op.Op.TheVariants as op
+use Rattle.scc_kinds.specs.declared.op.Op.{Op}
+use Rattle.scc_kinds.specs.declared.op.Op.TheVariants as op
 use Rattle.scc_tree.specs.declared.expr.Expr.{Expr}
 use Rattle.scc_tree.specs.declared.expr.Link.{Link}
 use Rattle.scc_tree.specs.declared.expr.Part.{Part}

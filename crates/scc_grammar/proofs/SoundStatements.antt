@@ -2,8 +2,8 @@
 use Rattle.std.specs.Prelude.{◌≡◌, ℕ, Bool, true, false, List, ◌∷◌, Option, Some, None, refl}
 use Rattle.std.proofs.Common.{lit≤, inl, inr}
 use Rattle.scc_base.specs.declared.refusal.Place.{Place}
-use Rattle.scc_bits.specs.declared.op.Op.{Op}
-use Rattle.scc_bits.specs.declared.op.Op.TheVariants as op
+use Rattle.scc_kinds.specs.declared.op.Op.{Op}
+use Rattle.scc_kinds.specs.declared.op.Op.TheVariants as op
 use Rattle.scc_tree.specs.declared.expr.Expr.{Expr}
 use Rattle.scc_tree.specs.declared.expr.ExprNode.TheVariants as node
 use Rattle.scc_tree.specs.declared.local.Hold.{Hold}

@@ -3,7 +3,7 @@ use Rattle.std.specs.Prelude.{◌≡◌, Bool, true, false, not, ◌&&◌, List,
 use Rattle.std.proofs.Common.{lit≤}
 use Rattle.scc_base.specs.declared.names.Name.{Name}
 use Rattle.scc_base.specs.declared.refusal.Place.{Place}
-use Rattle.scc_bits.specs.declared.kind.Kind.{Kind}
+use Rattle.scc_kinds.specs.declared.kind.Kind.{Kind}
 use Rattle.scc_tree.specs.declared.ty.TyArg.{TyArg}
 use Rattle.scc_tree.specs.declared.ty.TyNode.TheVariants as ty
 use Rattle.scc_reading.specs.Reading.{◌>>=◌, pure}

@@ -3,10 +3,10 @@
 use Rattle.std.specs.Prelude.{◌≡◌, ℕ, zero, suc, Bool, true, false, List, [], ◌∷◌, Some, None}
 use Rattle.scc_base.specs.declared.names.Name.{Name}
 use Rattle.scc_base.specs.declared.refusal.Place.{Place}
-use Rattle.scc_bits.specs.declared.kind.Kind.{Kind}
-use Rattle.scc_bits.specs.declared.kind.Kind.TheVariants as kind
-use Rattle.scc_bits.specs.declared.kind.Word.{Word}
-use Rattle.scc_bits.specs.declared.op.Op.{Op}
+use Rattle.scc_kinds.specs.declared.kind.Kind.{Kind}
+use Rattle.scc_kinds.specs.declared.kind.Kind.TheVariants as kind
+use Rattle.scc_kinds.specs.declared.kind.Word.{Word}
+use Rattle.scc_kinds.specs.declared.op.Op.{Op}
 use Rattle.scc_tree.specs.declared.expr.Expr.{Expr}
 use Rattle.scc_tree.specs.declared.expr.ExprNode.TheVariants as node
 use Rattle.scc_tree.specs.declared.expr.Link.{Link}

@@ -1,9 +1,9 @@
 -- What a first token begins.
 use Rattle.std.specs.Prelude.{Bool, true, false, ◌||◌, Option, Some, None, is_some, if◌then◌else◌}
 use Rattle.scc_base.specs.declared.names.Name.{Name}
-use Rattle.scc_bits.specs.declared.kind.Kind.{Kind}
-use Rattle.scc_bits.specs.declared.kind.Kind.TheVariants as kind
-use Rattle.scc_bits.specs.declared.kind.Word.{Word}
+use Rattle.scc_kinds.specs.declared.kind.Kind.{Kind}
+use Rattle.scc_kinds.specs.declared.kind.Kind.TheVariants as kind
+use Rattle.scc_kinds.specs.declared.kind.Word.{Word}
 use Rattle.scc_tree.specs.declared.ty.Family.{Family}
 use Rattle.scc_grammar.specs.declared.terminal.Holder.{Holder}
 use Rattle.scc_grammar.specs.declared.terminal.Terminal.{Terminal}

@@ -1,7 +1,7 @@
 -- Operators (C++, "Expressions"): which tokens they are, and their precedence.
 use Rattle.std.specs.Prelude.{ℕ, zero, suc, Bool, true, false, Option, Some, None}
-use Rattle.scc_bits.specs.declared.op.Op.{Op}
-use Rattle.scc_bits.specs.declared.op.Op.TheVariants as op
+use Rattle.scc_kinds.specs.declared.op.Op.{Op}
+use Rattle.scc_kinds.specs.declared.op.Op.TheVariants as op
 use Rattle.scc_tree.specs.declared.expr.UnaryOp.{UnaryOp}
 use Rattle.scc_tree.specs.declared.expr.UnaryOp.TheVariants as unary
 use Rattle.scc_grammar.specs.declared.terminal.Terminal.{Terminal}

@@ -1,7 +1,7 @@
 -- Statements as functions that read from the left, and what opens a level, by the levels that are left.
 use Rattle.std.specs.Prelude.{ℕ, zero, suc, Bool, true, false, ◌||◌, List, ◌∷◌, Option, Some, None, if◌then◌else◌, is_some}
 use Rattle.scc_base.specs.declared.refusal.Place.{Place}
-use Rattle.scc_bits.specs.declared.op.Op.{Op}
+use Rattle.scc_kinds.specs.declared.op.Op.{Op}
 use Rattle.scc_tree.specs.declared.expr.Expr.{Expr}
 use Rattle.scc_tree.specs.declared.expr.ExprNode.TheVariants as node
 use Rattle.scc_tree.specs.declared.local.Decl.{Decl}

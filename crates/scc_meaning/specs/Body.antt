@@ -2,8 +2,8 @@
 -- and pointers and one whose calls are copied and pointers resolved. Each value that is assigned, written, passed or returned has
 -- the kind of its target: conversions are written out.
 use Rattle.std.specs.Prelude.{ℕ, Option}
-use Rattle.scc_bits.specs.declared.kind.Kind.{Kind}
-use Rattle.scc_bits.specs.declared.op.Op.{Op}
+use Rattle.scc_kinds.specs.declared.kind.Kind.{Kind}
+use Rattle.scc_kinds.specs.declared.op.Op.{Op}
 use Rattle.scc_meaning.specs.Location.{Location}
 
 mutual

@@ -1,6 +1,6 @@
 -- What a design has at its locations, and its processes (IEEE 1666-2011, 5.2 modules and processes, 6.4 signals).
 use Rattle.std.specs.Prelude.{ℕ, List, Bool, Option}
-use Rattle.scc_bits.specs.declared.kind.Kind.{Kind}
+use Rattle.scc_kinds.specs.declared.kind.Kind.{Kind}
 use Rattle.scc_meaning.specs.Location.{Location}
 use Rattle.scc_meaning.specs.Body.{Body}
 

@@ -1,7 +1,7 @@
 -- Steps of a design, what is observed in them, and starts.
 use Rattle.std.specs.Prelude.{◌≡◌, ℕ, ◌+◌, ◌<◌, ◌^◌, List, [], ◌∷◌, map, Bool, true, false, ◌&&◌, Option, Some, None}
 use Rattle.std.specs.List.{list_any}
-use Rattle.scc_bits.specs.Kinds.{width_of}
+use Rattle.scc_kinds.specs.Kinds.{width_of}
 use Rattle.scc_meaning.specs.Location.{Location, same}
 use Rattle.scc_meaning.specs.Design.{Thing, Number, Signal, Port, Sort, Combinational, Clocked, Thread, Process, Design}
 use Rattle.scc_meaning.specs.Store.{changed}

@@ -1,12 +1,12 @@
 -- Locations of left sides and values of expressions. Values are words in the expressions' kinds. None: a null pointer was followed, or
 -- an operator has no rule for its operands.
 use Rattle.std.specs.Prelude.{ℕ, zero, suc, Bool, true, false, List, [], ◌∷◌, Option, Some, None, option_map, option_and_then, if◌then◌else◌, nat_lt, unwrap_or}
-use Rattle.scc_bits.specs.declared.kind.Kind.{Kind}
-use Rattle.scc_bits.specs.declared.kind.Kind.TheVariants as kind
-use Rattle.scc_bits.specs.Numbers.{low}
-use Rattle.scc_bits.specs.Kinds.{width_of, number_of, stored}
+use Rattle.scc_kinds.specs.declared.kind.Kind.{Kind}
+use Rattle.scc_kinds.specs.declared.kind.Kind.TheVariants as kind
+use Rattle.scc_kinds.specs.Numbers.{low}
+use Rattle.scc_kinds.specs.Kinds.{width_of, number_of, stored}
 use Rattle.scc_bits.specs.Values.{kind_of, applied}
-use Rattle.scc_bits.specs.Bits.{part, replaced, joined}
+use Rattle.scc_kinds.specs.Bits.{part, replaced, joined}
 use Rattle.scc_meaning.specs.Location.{Location, Member, Element, Local, Answer, within}
 use Rattle.scc_meaning.specs.Design.{Thing, Number, Signal, Port, Places}
 use Rattle.scc_meaning.specs.Body.{Expr, Literal, Load, Read, Convert, Unary, Binary, Choose, Bit, Range, Join, Left, Declared, Result, This, At, Null, Follow, Field, Indexed, Pick, Whole, OneBit, Bits}

@@ -1,7 +1,7 @@
 -- Statements of a process, calls copied: each holds what follows it (IEEE 1666-2011, 5.2.11 `wait`; ISO C++ [stmt]).
 use Rattle.std.specs.Prelude.{ℕ, ◌+◌, max, Bool, true, false, ◌||◌, Option}
 use Rattle.scc_base.specs.declared.refusal.Place.{Place}
-use Rattle.scc_bits.specs.declared.op.Op.{Op}
+use Rattle.scc_kinds.specs.declared.op.Op.{Op}
 use Rattle.scc_meaning_core.specs.Term.{Term, Left, Pick}
 
 -- how a counted loop counts: its counter's cell, and what is compared and added at each turn

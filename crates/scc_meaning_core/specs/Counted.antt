@@ -1,8 +1,8 @@
 -- Counted loops: which loops are written out, and their turns. The form of loop is this project's own (ISO C++ [stmt.for]).
 use Rattle.std.specs.Prelude.{ℕ, zero, suc, Bool, true, false, not, ◌&&◌, ◌||◌, nat_eq, List, [], ◌∷◌, Option, Some, None, option_map, option_and_then, find, unwrap_or, is_some, slice_get}
 use Rattle.scc_base.specs.declared.refusal.Place.{Place}
-use Rattle.scc_bits.specs.declared.kind.Kind.{Kind}
-use Rattle.scc_bits.specs.Kinds.{number_of, stored}
+use Rattle.scc_kinds.specs.declared.kind.Kind.{Kind}
+use Rattle.scc_kinds.specs.Kinds.{number_of, stored}
 use Rattle.scc_meaning_core.specs.Term.{Term, Literal, Load, Read, Convert, Unary, Binary, Choose, Bit, Range, Join, Left, Cell, Prefix, Null, Follow, Member, Index, Pick, Whole, OneBit, Bits, kind_of}
 use Rattle.scc_meaning_core.specs.Code.{Code, Count, Pointed, Declared, Assigned, End, Put, Aim, If, Block, Loop, Exit, Wait, holds_wait}
 use Rattle.scc_meaning_core.specs.Static.{Cells, static, is_true}

@@ -1,7 +1,7 @@
 -- A core: its cells and processes (IEEE 1666-2011, 5.2 processes, 6.4 signals, 6.5 ports).
 use Rattle.std.specs.Prelude.{ℕ, Bool, true, false, Option, None, List}
 use Rattle.scc_base.specs.declared.refusal.Place.{Place}
-use Rattle.scc_bits.specs.declared.kind.Kind.{Kind}
+use Rattle.scc_kinds.specs.declared.kind.Kind.{Kind}
 use Rattle.scc_meaning.specs.Location.{Part}
 use Rattle.scc_meaning_core.specs.Term.{CellName}
 use Rattle.scc_meaning_core.specs.Code.{Code}

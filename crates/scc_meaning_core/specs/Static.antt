@@ -1,10 +1,10 @@
 -- Static values: of literals and of variables that no process can change. This project's own rule; C++ has constant expressions
 -- ([expr.const]) alone.
 use Rattle.std.specs.Prelude.{ℕ, zero, suc, Bool, true, false, List, [], ◌∷◌, ◌++◌, Option, Some, None, option_map, option_and_then, slice_get, find, if◌then◌else◌}
-use Rattle.scc_bits.specs.declared.kind.Kind.{Kind}
-use Rattle.scc_bits.specs.Kinds.{width_of, number_of, stored}
+use Rattle.scc_kinds.specs.declared.kind.Kind.{Kind}
+use Rattle.scc_kinds.specs.Kinds.{width_of, number_of, stored}
 use Rattle.scc_bits.specs.Values.{applied}
-use Rattle.scc_bits.specs.Bits.{part, joined}
+use Rattle.scc_kinds.specs.Bits.{part, joined}
 use Rattle.scc_meaning.specs.Value.{with_two, chosen, index_of, bit_at}
 use Rattle.scc_meaning_core.specs.Term.{Term, Literal, Load, Read, Convert, Unary, Binary, Choose, Bit, Range, Join, Left, Cell, Prefix, Null, Follow, Member, Index, kind_of}
 use Rattle.scc_meaning_core.specs.Program as program

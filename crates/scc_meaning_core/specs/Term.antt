@@ -2,9 +2,9 @@
 -- the kind of its value. Conversions are written out.
 use Rattle.std.specs.Prelude.{ℕ, Bool, Option, List}
 use Rattle.scc_base.specs.declared.refusal.Place.{Place}
-use Rattle.scc_bits.specs.declared.kind.Kind.{Kind}
-use Rattle.scc_bits.specs.declared.kind.Kind.TheVariants as kind
-use Rattle.scc_bits.specs.declared.op.Op.{Op}
+use Rattle.scc_kinds.specs.declared.kind.Kind.{Kind}
+use Rattle.scc_kinds.specs.declared.kind.Kind.TheVariants as kind
+use Rattle.scc_kinds.specs.declared.op.Op.{Op}
 use Rattle.scc_meaning.specs.Location.{Part}
 
 -- a local of a process: its number there and its identifier, which is no part of what tells it apart

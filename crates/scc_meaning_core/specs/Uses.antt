@@ -3,7 +3,7 @@
 use Rattle.std.specs.Prelude.{ℕ, Bool, true, false, ◌&&◌, ◌||◌, not, nat_eq, List, [], ◌∷◌, ◌++◌, ◌+◌, map, flat_map, Option, Some, None, option_map, slice_get, unwrap_or, if◌then◌else◌}
 use Rattle.std.specs.List.{list_any}
 use Rattle.scc_base.specs.declared.refusal.Place.{Place}
-use Rattle.scc_bits.specs.Kinds.{width_of}
+use Rattle.scc_kinds.specs.Kinds.{width_of}
 use Rattle.scc_meaning_core.specs.Term.{Term, Literal, Load, Read, Convert, Unary, Binary, Choose, Bit, Range, Join, Left, Cell, Prefix, Null, Follow, Member, Index, Pick, Whole, OneBit, Bits}
 use Rattle.scc_meaning_core.specs.Code.{Code, End, Put, Aim, If, Block, Loop, Exit, Wait}
 use Rattle.scc_meaning_core.specs.Program.{Sort, Port, is_root}

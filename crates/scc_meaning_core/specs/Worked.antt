@@ -1,9 +1,9 @@
 -- Bodies worked by hand: the counting thread, a thread with three states of which one stands in a branch, a kept and an unkept local.
 use Rattle.std.specs.Prelude.{ℕ, suc, Bool, true, false, List, [], ◌∷◌, Some, None}
 use Rattle.scc_base.specs.declared.refusal.Place.{Place}
-use Rattle.scc_bits.specs.declared.kind.Kind.{Kind}
-use Rattle.scc_bits.specs.declared.kind.Kind.TheVariants as kind
-use Rattle.scc_bits.specs.declared.op.Op.TheVariants as op
+use Rattle.scc_kinds.specs.declared.kind.Kind.{Kind}
+use Rattle.scc_kinds.specs.declared.kind.Kind.TheVariants as kind
+use Rattle.scc_kinds.specs.declared.op.Op.TheVariants as op
 use Rattle.scc_meaning.specs.Location.{Part}
 use Rattle.scc_meaning.specs.Location as location
 use Rattle.scc_meaning_core.specs.Term.{Term, Literal, Load, Read, Convert, Unary, Binary, Left, Pick, Whole, CellName}

@@ -1,7 +1,7 @@
 -- Bodies that are refused: variables that two methods share, a loop with a wait in one branch, a path that doesn't write an output, a read before any write.
 use Rattle.std.specs.Prelude.{ℕ, Bool, true, false, List, [], ◌∷◌, Option, Some, None}
 use Rattle.scc_base.specs.declared.refusal.Place.{Place}
-use Rattle.scc_bits.specs.declared.kind.Kind.TheVariants as kind
+use Rattle.scc_kinds.specs.declared.kind.Kind.TheVariants as kind
 use Rattle.scc_meaning_core.specs.Term.{Term, Read, Whole}
 use Rattle.scc_meaning_core.specs.Term as term
 use Rattle.scc_meaning_core.specs.Code.{Code, End, Put, If, Block, Loop, Exit, Wait}

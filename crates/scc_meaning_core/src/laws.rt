@@ -2,7 +2,7 @@
 ghost use Rattle.std.specs.Prelude.{◌≡◌, ℕ, List, [], ◌∷◌, length, drop, Option, Some, None, true, false};
 ghost use Rattle.scc_base.specs.declared.refusal.Refusal.{Refusal};
 ghost use Rattle.scc_meaning_core.specs.Term.{Cell, Read, Term};
-ghost use Rattle.scc_bits.specs.declared.kind.Kind.TheVariants as kind;
+ghost use Rattle.scc_kinds.specs.declared.kind.Kind.TheVariants as kind;
 ghost use Rattle.scc_meaning_core.specs.WorkedRules.{at, keeping, latching, may_not_wait, sharing};
 ghost use Rattle.scc_meaning_core.specs.Code.{Code, End, If, Block, numbered, size};
 ghost use Rattle.scc_meaning_core.specs.Program.{Program, Process};

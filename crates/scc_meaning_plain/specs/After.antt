@@ -5,7 +5,7 @@ use Rattle.std.specs.List.{list_any}
 use Rattle.scc_base.specs.declared.refusal.Place.{Place}
 use Rattle.scc_base.specs.declared.refusal.Refusal.{Refusal}
 use Rattle.scc_base.specs.declared.code.Code.TheVariants as reason
-use Rattle.scc_bits.specs.Kinds.{is_bool}
+use Rattle.scc_kinds.specs.Kinds.{is_bool}
 use Rattle.scc_meaning_core.specs.First.{or_else, first_of, first_numbered, first_some, when, refused, refused_beside}
 use Rattle.scc_meaning_plain.specs.Program.{Code, End, Declare, Assign, Point, Write, Call, If, Loop, Block, Exit, Return, Wait, Make, Bind, Process, Sensitive, Quiet, Reset, Plain}
 use Rattle.scc_meaning_plain.specs.Design.{Node, Port, Signal}

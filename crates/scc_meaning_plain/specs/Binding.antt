@@ -3,8 +3,8 @@ use Rattle.std.specs.Prelude.{ℕ, zero, suc, Bool, true, false, not, ◌&&◌, 
 use Rattle.std.specs.List.{list_any}
 use Rattle.scc_base.specs.declared.refusal.Place.{Place}
 use Rattle.scc_base.specs.declared.code.Code.TheVariants as reason
-use Rattle.scc_bits.specs.declared.kind.Kind.{Kind}
-use Rattle.scc_bits.specs.declared.kind.Kind.TheVariants as kind
+use Rattle.scc_kinds.specs.declared.kind.Kind.{Kind}
+use Rattle.scc_kinds.specs.declared.kind.Kind.TheVariants as kind
 use Rattle.scc_meaning.specs.Location.{Part, same_path}
 use Rattle.scc_meaning_core.specs.First.{refused, refused_beside}
 use Rattle.scc_meaning_core.specs.Resolved.{Tried, Made, Stopped, and_made, made_map}

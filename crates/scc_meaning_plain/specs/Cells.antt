@@ -1,7 +1,7 @@
 -- The cells of a design's objects, in construction order; modules have none. This project's own.
 use Rattle.std.specs.Prelude.{ℕ, suc, Bool, true, false, not, ◌&&◌, nat_eq, nat_lt, List, [], ◌∷◌, filter, length, take, Option, Some, None, option_map, option_and_then, slice_get, unwrap_or, find, position, if◌then◌else◌}
-use Rattle.scc_bits.specs.declared.kind.Kind.{Kind}
-use Rattle.scc_bits.specs.declared.kind.Kind.TheVariants as kind
+use Rattle.scc_kinds.specs.declared.kind.Kind.{Kind}
+use Rattle.scc_kinds.specs.declared.kind.Kind.TheVariants as kind
 use Rattle.scc_meaning.specs.Location.{Part, Member, Element, same_part}
 use Rattle.scc_meaning_core.specs.Program as core
 use Rattle.scc_meaning_plain.specs.Program.{Plain}

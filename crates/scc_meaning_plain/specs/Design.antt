@@ -1,7 +1,7 @@
 -- The design that construction leaves (IEEE 1666-2011, 4.2): objects in construction order, processes, targets, sizes of vectors.
 use Rattle.std.specs.Prelude.{ℕ, Bool, true, false, Option, Some, None, List}
 use Rattle.scc_base.specs.declared.refusal.Place.{Place}
-use Rattle.scc_bits.specs.declared.kind.Kind.{Kind}
+use Rattle.scc_kinds.specs.declared.kind.Kind.{Kind}
 use Rattle.scc_meaning.specs.Location.{Part}
 
 pub data Node : Type 0 where

@@ -3,7 +3,7 @@
 -- end of its function. This project's own.
 use Rattle.std.specs.Prelude.{ℕ, zero, suc, nat_eq, List, [], ◌∷◌, ◌++◌, map, length, Option, Some, None, option_map, option_and_then, slice_get, unwrap_or, position, if◌then◌else◌}
 use Rattle.std.specs.List.{list_any, range_with_len}
-use Rattle.scc_bits.specs.declared.kind.Kind.{Kind}
+use Rattle.scc_kinds.specs.declared.kind.Kind.{Kind}
 use Rattle.scc_meaning.specs.Location.{Part, Member, Root, same_root}
 use Rattle.scc_meaning.specs.Location as location
 use Rattle.scc_meaning_plain.specs.Term.{Left, Local}

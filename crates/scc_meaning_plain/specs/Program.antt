@@ -1,8 +1,8 @@
 -- A plain program: classes and functions without templates, whose statements hold what follows them (ISO C++ [stmt]; IEEE 1666-2011, 4.2, 5.2).
 use Rattle.std.specs.Prelude.{ℕ, Bool, Option, List}
 use Rattle.scc_base.specs.declared.refusal.Place.{Place}
-use Rattle.scc_bits.specs.declared.kind.Kind.{Kind}
-use Rattle.scc_bits.specs.declared.op.Op.{Op}
+use Rattle.scc_kinds.specs.declared.kind.Kind.{Kind}
+use Rattle.scc_kinds.specs.declared.op.Op.{Op}
 use Rattle.scc_meaning_plain.specs.Term.{Term, Left, Pick, Target, Argument}
 
 -- what stands where a member or local is declared

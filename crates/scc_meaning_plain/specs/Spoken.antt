@@ -1,6 +1,6 @@
 -- Functions of a plain program as bodies of the machine (ISO C++ [expr.call], [dcl.ref], [stmt]).
 use Rattle.std.specs.Prelude.{ℕ, suc, Bool, true, false, not, ◌&&◌, nat_lt, List, [], ◌∷◌, ◌++◌, Option, Some, None, option_map, slice_get, unwrap_or, is_some, if◌then◌else◌}
-use Rattle.scc_bits.specs.declared.kind.Kind.TheVariants as kind
+use Rattle.scc_kinds.specs.declared.kind.Kind.TheVariants as kind
 use Rattle.scc_meaning.specs.Body as body
 use Rattle.scc_meaning.specs.Body.{Expr}
 use Rattle.scc_running.specs.Body as machine

@@ -2,9 +2,9 @@
 -- written out.
 use Rattle.std.specs.Prelude.{ℕ}
 use Rattle.scc_base.specs.declared.refusal.Place.{Place}
-use Rattle.scc_bits.specs.declared.kind.Kind.{Kind}
-use Rattle.scc_bits.specs.declared.kind.Kind.TheVariants as kind
-use Rattle.scc_bits.specs.declared.op.Op.{Op}
+use Rattle.scc_kinds.specs.declared.kind.Kind.{Kind}
+use Rattle.scc_kinds.specs.declared.kind.Kind.TheVariants as kind
+use Rattle.scc_kinds.specs.declared.op.Op.{Op}
 
 mutual
   pub data Term : Type 0 where

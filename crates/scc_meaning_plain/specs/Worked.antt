@@ -1,9 +1,9 @@
 -- `int pick(int k) { return k; }` and a method `void f() { m = pick(1) + pick(0); }` of a top with an `int m`.
 use Rattle.std.specs.Prelude.{ℕ, true, false, [], ◌∷◌, Some, None}
 use Rattle.scc_base.specs.declared.refusal.Place.{Place}
-use Rattle.scc_bits.specs.declared.kind.Kind.{Kind}
-use Rattle.scc_bits.specs.declared.kind.Kind.TheVariants as kind
-use Rattle.scc_bits.specs.declared.op.Op.TheVariants as op
+use Rattle.scc_kinds.specs.declared.kind.Kind.{Kind}
+use Rattle.scc_kinds.specs.declared.kind.Kind.TheVariants as kind
+use Rattle.scc_kinds.specs.declared.op.Op.TheVariants as op
 use Rattle.scc_meaning.specs.Location as location
 use Rattle.scc_meaning_core.specs.Term as core
 use Rattle.scc_meaning_core.specs.Code as stmt

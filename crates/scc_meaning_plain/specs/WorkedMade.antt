@@ -1,8 +1,8 @@
 -- `struct C { int n; C(int k) : n(k) {} };` and a top `C* q; C r; int* z;` whose constructor is
 -- `T() : r(3), z(&r.n) { for (int i = 0; i < 2; i++) *z = *z + i; q = new C(*z + 4); }`.
 use Rattle.std.specs.Prelude.{ℕ, true, false, List, [], ◌∷◌, map, Option, Some, None}
-use Rattle.scc_bits.specs.declared.op.Op.TheVariants as op
-use Rattle.scc_bits.specs.declared.kind.Kind.TheVariants as kind
+use Rattle.scc_kinds.specs.declared.op.Op.TheVariants as op
+use Rattle.scc_kinds.specs.declared.kind.Kind.TheVariants as kind
 use Rattle.scc_meaning_core.specs.Resolved.{Tried, Made}
 use Rattle.scc_meaning_plain.specs.Term.{Term, Left, Literal, Load, Binary, Local, This, Follow, Whole, Value, Address}
 use Rattle.scc_meaning_plain.specs.Term as term

@@ -3,10 +3,10 @@
 use Rattle.std.specs.Prelude.{ℕ, Bool, true, false, ◌&&◌, nat_lt, List, [], ◌∷◌, Option, Some, None, option_map, option_and_then, slice_get, unwrap_or, if◌then◌else◌}
 use Rattle.scc_base.specs.declared.refusal.Place.{Place}
 use Rattle.scc_base.specs.declared.code.Code.TheVariants as reason
-use Rattle.scc_bits.specs.declared.kind.Kind.{Kind}
-use Rattle.scc_bits.specs.Kinds.{width_of, number_of, stored}
+use Rattle.scc_kinds.specs.declared.kind.Kind.{Kind}
+use Rattle.scc_kinds.specs.Kinds.{width_of, number_of, stored}
 use Rattle.scc_bits.specs.Values.{applied}
-use Rattle.scc_bits.specs.Bits.{part, replaced, joined}
+use Rattle.scc_kinds.specs.Bits.{part, replaced, joined}
 use Rattle.scc_meaning.specs.Location.{Location, Part, Member, Element, Root, Local, within}
 use Rattle.scc_meaning.specs.Value.{chosen, index_of, bit_at, with_bit}
 use Rattle.scc_meaning_core.specs.First.{refused}

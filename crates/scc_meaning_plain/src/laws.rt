@@ -1,6 +1,6 @@
 //! Laws that cite the definitions.
 ghost use Rattle.std.specs.Prelude.{◌≡◌, ℕ, List, [], ◌∷◌, length, option_map, Option, Some, None, true, false};
-ghost use Rattle.scc_bits.specs.declared.op.Op.TheVariants as op;
+ghost use Rattle.scc_kinds.specs.declared.op.Op.TheVariants as op;
 ghost use Rattle.scc_meaning_core.specs.Term as core;
 ghost use Rattle.scc_meaning_core.specs.Code as stmt;
 ghost use Rattle.scc_meaning_plain.specs.Static.{inlined};

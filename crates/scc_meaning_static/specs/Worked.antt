@@ -2,7 +2,7 @@
 use Rattle.std.specs.Prelude.{ℕ, zero, suc, ◌-◌, true, List, []}
 use Rattle.scc_base.specs.declared.refusal.Place.{Place}
 use Rattle.scc_base.specs.declared.code.Code.TheVariants as reason
-use Rattle.scc_bits.specs.declared.kind.Kind.TheVariants as kind
+use Rattle.scc_kinds.specs.declared.kind.Kind.TheVariants as kind
 use Rattle.scc_meaning_static.specs.Walk.{Args, Nil, Cons, Value}
 use Rattle.scc_meaning_static.specs.Walked.{Walked, pure, fault}
 use Rattle.scc_meaning_static.specs.World.{Key, Constant, Owner, File, In, Link, World, world}

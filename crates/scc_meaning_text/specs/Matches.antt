@@ -2,7 +2,7 @@
 -- 9.2.2.4; the names are this project's own).
 use Rattle.std.specs.Prelude.{◌≡◌, ◌⊎◌, ℕ, nat_eq, Bool, true, false, List, [], ◌∷◌, map, filter, flat_map, take, length, Option, Some, None, option_map, slice_get, unwrap_or, bytes_eq}
 use Rattle.std.specs.List.{list_any}
-use Rattle.scc_bits.specs.Kinds.{width_of}
+use Rattle.scc_kinds.specs.Kinds.{width_of}
 use Rattle.scc_meaning.specs.Location.{Location}
 use Rattle.scc_meaning.specs.Design.{Thing, Number, Signal, Port}
 use Rattle.scc_running.specs.Design.{Design, TopPort, is_input}

@@ -1,7 +1,7 @@
 -- Steps of a design, what is observed in them, and starts (IEEE 1666-2011, 4.2.1; a step and what it shows are this project's own).
 use Rattle.std.specs.Prelude.{◌≡◌, ℕ, ◌<◌, ◌^◌, List, [], ◌∷◌, map, Bool, true, false, ◌&&◌, Option, Some, None}
 use Rattle.std.specs.List.{list_any}
-use Rattle.scc_bits.specs.Kinds.{width_of}
+use Rattle.scc_kinds.specs.Kinds.{width_of}
 use Rattle.scc_meaning.specs.Location.{Location, same}
 use Rattle.scc_meaning.specs.Design.{Thing, Number, Signal, Port, Sort, Combinational, Clocked, Thread}
 use Rattle.scc_meaning.specs.Store.{changed}

@@ -1,7 +1,7 @@
 -- Any order: a free scheduler of a step (IEEE 1666-2011, 4.2.1.2: the order in which processes run in an evaluation phase isn't determined).
 use Rattle.std.specs.Prelude.{◌≡◌, ℕ, suc, Bool, true, false, not, ◌&&◌, nat_eq, List, [], ◌∷◌, filter, length, Option, Some, None, option_map, unwrap_or, slice_get, if◌then◌else◌}
 use Rattle.std.specs.List.{list_any}
-use Rattle.scc_bits.specs.declared.kind.Kind.{Kind}
+use Rattle.scc_kinds.specs.declared.kind.Kind.{Kind}
 use Rattle.scc_meaning.specs.Location.{Location}
 use Rattle.scc_meaning.specs.Design.{Signal, Sort, Combinational}
 use Rattle.scc_running.specs.Design.{Process, Design}

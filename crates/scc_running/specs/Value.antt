@@ -1,11 +1,11 @@
 -- Locations of left sides, values of expressions, and what an assignment does (IEEE 1666-2011, 7.2; ISO C++ [expr]). Values are words in the
 -- expressions' kinds. None: a null pointer was followed, or an operator has no rule for its operands.
 use Rattle.std.specs.Prelude.{ℕ, List, [], ◌∷◌, ◌++◌, Option, Some, None, option_map, option_and_then}
-use Rattle.scc_bits.specs.declared.kind.Kind.{Kind}
-use Rattle.scc_bits.specs.declared.kind.Kind.TheVariants as kind
-use Rattle.scc_bits.specs.Kinds.{width_of, number_of, stored}
+use Rattle.scc_kinds.specs.declared.kind.Kind.{Kind}
+use Rattle.scc_kinds.specs.declared.kind.Kind.TheVariants as kind
+use Rattle.scc_kinds.specs.Kinds.{width_of, number_of, stored}
 use Rattle.scc_bits.specs.Values.{applied}
-use Rattle.scc_bits.specs.Bits.{part, replaced, joined}
+use Rattle.scc_kinds.specs.Bits.{part, replaced, joined}
 use Rattle.scc_meaning.specs.Location.{Location, Member, Element, Local, Answer, within}
 use Rattle.scc_meaning.specs.Design.{Thing, Number, Signal, Port}
 use Rattle.scc_meaning.specs.Body.{Expr, Literal, Load, Read, Convert, Unary, Binary, Choose, Bit, Range, Join, Left, Declared, Result, This, At, Null, Follow, Field, Indexed, Pick, Whole, OneBit, Bits, Target, Address, Copy}

@@ -1,6 +1,6 @@
 -- The trace of a module on a stimulus (IEEE 1800-2017, 4.4): its observations, step by step.
 use Rattle.std.specs.Prelude.{◌≡◌, ℕ, ◌+◌, Bool, true, false, List, [], ◌∷◌, ◌++◌, map, codes}
-use Rattle.scc_bits.specs.declared.kind.Word.{Word}
+use Rattle.scc_kinds.specs.declared.kind.Word.{Word}
 use Rattle.scc_svtree.specs.declared.expr.VarId.{VarId}
 use Rattle.scc_svtree.specs.declared.module.SvModule.{SvModule}
 use Rattle.scc_svtree.specs.Steps.{StepInput, Step, Steps}

@@ -1,6 +1,6 @@
 -- The module that a text says, from the text as it is written. It may have wrong sizes, names and drivers.
 use Rattle.std.specs.Prelude.{ℕ, ◌+◌, ◌-◌, ◌^◌, min, List, [], ◌∷◌, ◌++◌, map, bytes_eq, option_map, position, unwrap_or, Option, Some, None}
-use Rattle.scc_bits.specs.declared.kind.Word.{Word}
+use Rattle.scc_kinds.specs.declared.kind.Word.{Word}
 use Rattle.scc_svtree.specs.declared.expr.VarId.{VarId}
 use Rattle.scc_svtree.specs.declared.expr.SvLiteral.{SvLiteral}
 use Rattle.scc_svtree.specs.declared.expr.SvExpr.{SvExpr}

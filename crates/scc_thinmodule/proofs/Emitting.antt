@@ -2,11 +2,11 @@
 use Rattle.std.proofs.Common.{◌≡◌, ℕ, ◌<◌, ◌≤◌, ◌^◌, max, List, length, false, cond, ◌&&◌, Option, Some, None, ap, refl, sym, ◌∙◌, arith, pos, subst, inl, inr}
 use Rattle.std.proofs.Math.Nat.{pow-le-pow_right, le-max_right}
 use Rattle.std.proofs.lemmas.Bool.Decides.{eqb_tells}
-use Rattle.scc_bits.specs.Numbers.{low, reading}
-use Rattle.scc_bits.specs.Operators.{exact}
-use Rattle.scc_bits.specs.declared.op.Op.{Op}
-use Rattle.scc_bits.specs.declared.op.Op.TheVariants as op
-use Rattle.scc_bits.proofs.Low.{low_low, low_word, low_less}
+use Rattle.scc_kinds.specs.Numbers.{low, reading}
+use Rattle.scc_kinds.specs.Operators.{exact}
+use Rattle.scc_kinds.specs.declared.op.Op.{Op}
+use Rattle.scc_kinds.specs.declared.op.Op.TheVariants as op
+use Rattle.scc_kinds.proofs.Low.{low_low, low_word, low_less}
 use Rattle.scc_svtree.specs.declared.expr.SvExpr.{SvExpr}
 use Rattle.scc_svtree.specs.Term.{term_of}
 use Rattle.scc_svtree.specs.Sizes.{Sized, sized, fixed, sized_binary, sized_context, sized_cast, assigned}

@@ -2,9 +2,9 @@
 use Rattle.std.proofs.Common.{◌≡◌, ℕ, zero, suc, ◌≤◌, List, [], ◌∷◌, length, Bool, true, false, nat_le, ◌&&◌, ◌==◌, Option, Some, None, refl, sym, ◌∙◌, subst, inl, inr, ◌⊎◌}
 use Rattle.std.specs.Prelude.{option_map}
 use Rattle.std.proofs.lemmas.Bool.Decides.{leb_tells}
-use Rattle.scc_bits.specs.declared.kind.Kind.{Kind}
-use Rattle.scc_bits.specs.declared.kind.Kind.TheVariants as kind
-use Rattle.scc_bits.specs.declared.kind.Word as bits
+use Rattle.scc_kinds.specs.declared.kind.Kind.{Kind}
+use Rattle.scc_kinds.specs.declared.kind.Kind.TheVariants as kind
+use Rattle.scc_kinds.specs.declared.kind.Word as bits
 use Rattle.scc_svtree.specs.Sound.{Each}
 use Rattle.scc_thin.specs.declared.thin.numbers.TheConstants.{SC_MODULE, SC_UINT, SC_IN, SC_OUT, VOID, LESS, GREATER, SHIFT_RIGHT, SEMICOLON, COMMA, BRACE_OPEN, BRACE_CLOSE, PAREN_OPEN, PAREN_CLOSE}
 use Rattle.scc_thin.specs.declared.thin.token.Token.{Token}

@@ -1,7 +1,7 @@
 -- The statements of an emitted module: each assigns an output a value of inputs, with right sizes.
 use Rattle.std.proofs.Common.{◌≡◌, ℕ, zero, suc, ◌+◌, ◌<◌, ◌^◌, List, [], ◌∷◌, ◌++◌, map, length, Bool, true, false, cond, ◌&&◌, ◌||◌, nat_eq, Option, Some, None, ap, refl, sym, ◌∙◌, arith, pos, subst, inl, inr, ◌⊎◌}
 use Rattle.std.proofs.lemmas.Bool.Decides.{eqb_tells}
-use Rattle.scc_bits.proofs.Low.{low_less}
+use Rattle.scc_kinds.proofs.Low.{low_less}
 use Rattle.scc_svtree.specs.declared.expr.SvExpr.{SvExpr, fold-roll-SvExpr}
 use Rattle.scc_svtree.specs.declared.expr.SvExprNode.{roll-SvExprNode, fold-roll-SvExprNode}
 use Rattle.scc_svtree.specs.declared.expr.SvExprNode.TheOpen as node

@@ -1,9 +1,9 @@
 -- What the method of a thin text writes.
 use Rattle.std.proofs.Common.{◌≡◌, ℕ, zero, suc, ◌<◌, ◌≤◌, List, [], ◌∷◌, ◌++◌, map, length, false, Option, Some, None, option_map, ap, refl, sym, ◌∙◌, arith, append_assoc, append-nil, pos}
-use Rattle.scc_bits.specs.declared.kind.Kind.TheVariants as kind
-use Rattle.scc_bits.specs.Numbers.{low}
-use Rattle.scc_bits.specs.Operators.{exact}
-use Rattle.scc_bits.specs.Kinds.{stored, number_of}
+use Rattle.scc_kinds.specs.declared.kind.Kind.TheVariants as kind
+use Rattle.scc_kinds.specs.Numbers.{low}
+use Rattle.scc_kinds.specs.Operators.{exact}
+use Rattle.scc_kinds.specs.Kinds.{stored, number_of}
 use Rattle.scc_bits.specs.Values.{applied, kind_of}
 use Rattle.scc_meaning.specs.Location.{Location}
 use Rattle.scc_meaning.specs.Design.{Signal, Places}

@@ -5,8 +5,8 @@ use Rattle.std.specs.List.{list_any, list_all}
 use Rattle.scc_base.specs.Names.{with_name, fixed_names}
 use Rattle.scc_base.specs.declared.code.Code.{Code}
 use Rattle.scc_base.specs.declared.code.Code.TheVariants as code
-use Rattle.scc_bits.specs.declared.kind.Kind.{Kind}
-use Rattle.scc_bits.specs.declared.kind.Word as bits
+use Rattle.scc_kinds.specs.declared.kind.Kind.{Kind}
+use Rattle.scc_kinds.specs.declared.kind.Word as bits
 use Rattle.scc_svtree.specs.Sound as sv
 use Rattle.scc_svtree.specs.Sound.{Each, is_simple, all_word_bytes}
 use Rattle.scc_tokens.specs.declared.piece.Form.{Form}

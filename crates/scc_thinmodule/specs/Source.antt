@@ -1,8 +1,8 @@
 -- The design that a thin text denotes: its ports, and one combinational method that runs its writes.
 use Rattle.std.specs.Prelude.{ℕ, ◌+◌, List, [], ◌∷◌, map, Bool, false, true, Option, Some, None, if◌then◌else◌, slice_get, option_map}
-use Rattle.scc_bits.specs.declared.kind.Kind.TheVariants as kind
-use Rattle.scc_bits.specs.declared.op.Op.{Op}
-use Rattle.scc_bits.specs.declared.op.Op.TheVariants as op
+use Rattle.scc_kinds.specs.declared.kind.Kind.TheVariants as kind
+use Rattle.scc_kinds.specs.declared.op.Op.{Op}
+use Rattle.scc_kinds.specs.declared.op.Op.TheVariants as op
 use Rattle.scc_meaning.specs.Location.{Location, Root, Top, Part, Member}
 use Rattle.scc_meaning.specs.Body as body
 use Rattle.scc_meaning.specs.Body.{Expr, Body}

@@ -1,9 +1,9 @@
 -- Integer literals: their forms, and the first kind that holds each (C++, "Integer literals").
 use Rattle.std.specs.Prelude.{ℕ, ◌+◌, ◌-◌, ◌*◌, ◌^◌, List, [], ◌∷◌, take, drop, length, Bool, true, false, ◌||◌, ◌&&◌, not, ◌==◌, nat_le, nat_lt, if◌then◌else◌, Option, Some, None, option_and_then, option_map, codes, bytes_eq, slice_index}
 use Rattle.std.specs.List.{prefix_len}
-use Rattle.scc_bits.specs.declared.kind.Kind.{Kind}
-use Rattle.scc_bits.specs.declared.kind.Kind.TheVariants.{Native}
-use Rattle.scc_bits.specs.declared.kind.Word.{Word}
+use Rattle.scc_kinds.specs.declared.kind.Kind.{Kind}
+use Rattle.scc_kinds.specs.declared.kind.Kind.TheVariants.{Native}
+use Rattle.scc_kinds.specs.declared.kind.Word.{Word}
 
 -- the value of a digit, 36 where the byte is a digit of no base
 abbrev pub digit_of : ℕ → ℕ

@@ -3,8 +3,8 @@ use Rattle.std.specs.Prelude.{ℕ, ◌+◌, ◌<◌, ◌≤◌, List, [], ◌∷
 use Rattle.std.specs.List.{prefix_len}
 use Rattle.scc_base.specs.declared.code.Code.{Code}
 use Rattle.scc_base.specs.declared.code.Code.TheVariants as code
-use Rattle.scc_bits.specs.declared.kind.Kind.{Kind}
-use Rattle.scc_bits.specs.declared.kind.Word.{Word}
+use Rattle.scc_kinds.specs.declared.kind.Kind.{Kind}
+use Rattle.scc_kinds.specs.declared.kind.Word.{Word}
 use Rattle.scc_tokens.specs.declared.piece.Line.{Line}
 use Rattle.scc_tokens.specs.declared.piece.Line.TheVariants.{Start, Middle, Directive}
 use Rattle.scc_tokens.specs.declared.piece.Form.{Form}

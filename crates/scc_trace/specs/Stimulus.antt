@@ -4,7 +4,7 @@ use Rattle.scc_base.specs.declared.code.Code.{Code}
 use Rattle.scc_base.specs.declared.code.Code.TheVariants.{StimText, StimPort as WrongPorts, StimValue}
 use Rattle.scc_base.specs.declared.refusal.Refusal.{Refusal}
 use Rattle.scc_base.specs.declared.refusal.Place.{Place}
-use Rattle.scc_bits.specs.declared.kind.Word.{Word}
+use Rattle.scc_kinds.specs.declared.kind.Word.{Word}
 use Rattle.scc_trace.specs.declared.stim.StimPort.{StimPort}
 use Rattle.scc_trace.specs.declared.stim.StimStep.{StimStep}
 use Rattle.scc_trace.specs.declared.stim.Version.{Version}

@@ -1,7 +1,7 @@
 -- The texts that are written: stimuli of version 2, and lines of traces.
 use Rattle.std.specs.Prelude.{ℕ, zero, suc, ◌+◌, ◌*◌, ◌/◌, ◌%◌, ◌^◌, nat_lt, nat_le, nat_eq, Bool, true, false, not, ◌&&◌, if◌then◌else◌, List, [], ◌∷◌, ◌++◌, flat_map, codes, decimal}
 use Rattle.std.specs.List.{list_all}
-use Rattle.scc_bits.specs.declared.kind.Word.{Word}
+use Rattle.scc_kinds.specs.declared.kind.Word.{Word}
 use Rattle.scc_trace.specs.declared.stim.StimPort.{StimPort}
 use Rattle.scc_trace.specs.declared.stim.StimStep.{StimStep}
 use Rattle.scc_trace.specs.Cut.{Bytes}

@@ -1,5 +1,5 @@
 use Rattle.std.proofs.Common.{List, subst}
-use Rattle.scc_bits.specs.declared.kind.Word.{Word}
+use Rattle.scc_kinds.specs.declared.kind.Word.{Word}
 use Rattle.scc_svtree.specs.Steps.{IsSettledStep}
 use Rattle.scc_svtree.specs.Variables.{word_at}
 use Rattle.scc_svrun.specs.Runs.{given}

@@ -1,0 +1,10 @@
+pub mod Low
+pub mod Words
+pub mod Exactly
+pub mod Places
+pub mod Found
+pub mod EveryRow
+pub mod Operated
+pub mod Alike
+pub mod Rules
+pub mod Fewest

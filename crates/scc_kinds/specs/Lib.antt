@@ -1,0 +1,9 @@
+pub mod Numbers
+pub mod Operators
+pub mod Kinds
+pub mod Groups
+pub mod Table
+pub mod Rows
+pub mod Counts
+pub mod Bits
+pub mod Constants
