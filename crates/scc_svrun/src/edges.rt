@@ -11,7 +11,7 @@ use crate::resets::{is_active, load};
 use crate::store::put;
 use scc_bits::Word;
 use scc_svtree::{SvBlock, SvModule, SvReset, SvSet, VarId};
-use scc_svvalues::{width, written};
+use scc_svtree::{width, written};
 
 /// Which clocks have an edge: all, or those of a list.
 #[derive(Clone, Copy)]

@@ -12,7 +12,7 @@ use crate::store::put;
 use scc_base::NoMemory;
 use scc_bits::Word;
 use scc_svtree::{Dir, SvBlock, SvModule, SvVar, VarId};
-use scc_svvalues::width;
+use scc_svtree::width;
 use std::alloc::Global;
 
 fn is_marked(marks: &[bool], v: usize) -> bool

@@ -12,7 +12,7 @@ ghost use Rattle.scc_svrun.specs.Valued.{IsValuation};
 use crate::store::{put, splice};
 use scc_bits::Word;
 use scc_svtree::{SvArm, SvExpr, SvLeft, SvModule, SvStmt};
-use scc_svvalues::{value, width, written};
+use scc_svtree::{value, width, written};
 
 fn assign(m: &SvModule, left: SvLeft, of: &SvExpr, x: &mut [Word])
     requires select { IsSelect (width_at m.now.vars) left }

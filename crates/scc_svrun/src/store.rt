@@ -6,7 +6,7 @@ ghost use Rattle.scc_svrun.specs.Valued.{IsValuation};
 
 use scc_bits::{Kind, Word, replace};
 use scc_svtree::{SvModule, VarId};
-use scc_svvalues::width;
+use scc_svtree::width;
 
 /// Gives a variable a word.
 #[tactic(auto, using(crate::proofs::Updating::inside, crate::proofs::Updating::set_word, crate::proofs::Updating::set_fits))]

@@ -9,3 +9,4 @@ pub mod Agree
 pub mod Kept
 pub mod Settling
 pub mod Combs
+pub mod Again

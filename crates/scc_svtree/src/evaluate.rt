@@ -5,21 +5,20 @@ ghost use Rattle.scc_kinds.specs.Operators.{exact};
 ghost use Rattle.scc_svtree.specs.Classes.{IsLogical};
 ghost use Rattle.scc_svtree.specs.Joined.{joined_word};
 ghost use Rattle.scc_svtree.specs.Sized.{AllSized, IsSelect, IsSized, total_length};
-ghost use Rattle.scc_svtree.specs.Sizes.{length_of, sized, sized_left, sized_unary, value_of};
+ghost use Rattle.scc_svtree.specs.Sizes.{assigned, length_of, sized, sized_left, sized_unary, value_of};
 ghost use Rattle.scc_svtree.specs.Term.{term_of};
 ghost use Rattle.scc_svtree.specs.Variables.{Fitting, IsWidth, width_at, word_at};
 
 use crate::class::{Class, kind_of};
 use crate::resize::{apply, resize, select, shift, test};
 use crate::sizing::{length, lengths, signed, width};
-use crate::{SvExpr, SvExprNode, SvLeft, SvModule, SvUnary, Valuation, VarId};
-use scc_base::List;
+use crate::{SvExpr, SvExprNode, SvLeft, SvModule, SvUnary, VarId};
 use scc_bits::{Op, Word};
 
 const ZERO: Word = Word { bits: 0 };
 
 // The word of a variable.
-fn word_of(x: &Valuation, v: VarId) -> Word
+fn word_of(x: &[Word], v: VarId) -> Word
     ensures { result.bits ≡ word_at x.now v.0 }
 {
     match x.get(v.0 as usize) {
@@ -40,7 +39,7 @@ fn extended(w: u32, x: Word, n: u32, s: bool) -> Word
 }
 
 // What stands at a left side, in a context of n bits and a sign.
-fn left(m: &SvModule, l: SvLeft, x: &Valuation, n: u32, s: bool) -> Word
+fn left(m: &SvModule, l: SvLeft, x: &[Word], n: u32, s: bool) -> Word
     requires sized { IsSelect (width_at m.now.vars) l }
     requires fits { Fitting m.now.vars x.now }
     requires context { IsWidth n }
@@ -77,7 +76,7 @@ struct Form {
 }
 
 #[tactic(auto, using(crate::proofs::Values::same_length, crate::proofs::Values::same_sign, crate::proofs::Joined::width_of_sized))]
-fn shape(m: &SvModule, e: &SvExpr, x: &Valuation) -> Form
+fn shape(m: &SvModule, e: &SvExpr, x: &[Word]) -> Form
     requires sized { IsSized (width_at m.now.vars) (term_of e.now) }
     ensures len { result.len ≡ (sized false (width_at m.now.vars) (word_at x.now) (term_of e.now)).len }
     ensures signed { result.signed ≡ (sized false (width_at m.now.vars) (word_at x.now) (term_of e.now)).signed }
@@ -120,8 +119,9 @@ fn truth(op: Op, a: Operand, b: Operand) -> Word
     test(op, 128, false, a.word, b.word)
 }
 
+// What casts and signs stand around is taken by itself too, so that lengths and signs are asked for once in a nest of them.
 #[cycle(value)]
-fn alone(m: &SvModule, e: &SvExpr, x: &Valuation) -> Operand
+fn alone(m: &SvModule, e: &SvExpr, x: &[Word]) -> Operand
     requires sized { IsSized (width_at m.now.vars) (term_of e.now) }
     requires fits { Fitting m.now.vars x.now }
     ensures len { result.len ≡ (sized false (width_at m.now.vars) (word_at x.now) (term_of e.now)).len }
@@ -130,19 +130,39 @@ fn alone(m: &SvModule, e: &SvExpr, x: &Valuation) -> Operand
     ensures width { IsWidth result.len }
     ensures fits { result.word.bits < 2 ^ result.len }
 {
-    let shape = shape(m, e, x);
-    let word = word(m, e, x, shape.len, shape.signed);
-    Operand {
-        len: shape.len,
-        signed: shape.signed,
-        word,
+    match e.node.get() {
+        SvExprNode::Cast { width, of } => {
+            let a = alone(m, of, x);
+            Operand {
+                len: *width,
+                signed: a.signed,
+                word: resize(a.len, *width, a.signed, a.word),
+            }
+        }
+        SvExprNode::Sign { signed, of } => {
+            let a = alone(m, of, x);
+            Operand {
+                len: a.len,
+                signed: *signed,
+                word: a.word,
+            }
+        }
+        _ => {
+            let shape = shape(m, e, x);
+            let word = word(m, e, x, shape.len, shape.signed);
+            Operand {
+                len: shape.len,
+                signed: shape.signed,
+                word,
+            }
+        }
     }
 }
 
 // An expression in a context of n bits and a sign.
 #[cycle(value)]
 #[tactic(auto, using(crate::proofs::Divisors::divisor_word, crate::proofs::Divisors::context_signs, crate::proofs::Divisors::shift_signs, crate::proofs::Divisors::comparison_signs, crate::proofs::Divisors::shift_divisor, crate::proofs::Divisors::comparison_divisor))]
-fn word(m: &SvModule, e: &SvExpr, x: &Valuation, n: u32, s: bool) -> Word
+fn word(m: &SvModule, e: &SvExpr, x: &[Word], n: u32, s: bool) -> Word
     requires sized { IsSized (width_at m.now.vars) (term_of e.now) }
     requires fits { Fitting m.now.vars x.now }
     requires context { IsWidth n }
@@ -200,7 +220,7 @@ fn word(m: &SvModule, e: &SvExpr, x: &Valuation, n: u32, s: bool) -> Word
 }
 
 #[cycle(value)]
-fn unary(m: &SvModule, op: SvUnary, of: &SvExpr, x: &Valuation, n: u32, s: bool) -> Word
+fn unary(m: &SvModule, op: SvUnary, of: &SvExpr, x: &[Word], n: u32, s: bool) -> Word
     requires sized { IsSized (width_at m.now.vars) (term_of of.now) }
     requires fits { Fitting m.now.vars x.now }
     requires context { IsWidth n }
@@ -222,7 +242,7 @@ fn unary(m: &SvModule, op: SvUnary, of: &SvExpr, x: &Valuation, n: u32, s: bool)
 
 // The bits of a concatenation.
 #[cycle(value)]
-fn joined(m: &SvModule, parts: &[SvExpr], x: &Valuation) -> Word
+fn joined(m: &SvModule, parts: &[SvExpr], x: &[Word]) -> Word
     requires sized { AllSized (width_at m.now.vars) (map term_of parts.now) }
     requires short { total_length (width_at m.now.vars) (map term_of parts.now) ≤ 128 }
     requires fits { Fitting m.now.vars x.now }
@@ -240,11 +260,27 @@ fn joined(m: &SvModule, parts: &[SvExpr], x: &Valuation) -> Word
 /// the expression's length. It takes no memory.
 ///
 /// Every variable has a width of 1 to 128, no size in the expression is wrong, and each word fits its variable.
-pub fn value(m: &SvModule, e: &SvExpr, x: &Valuation) -> Word
+pub fn value(m: &SvModule, e: &SvExpr, x: &[Word]) -> Word
     requires sized { IsSized (width_at m.now.vars) (term_of e.now) }
     requires fits { Fitting m.now.vars x.now }
     ensures value { result.bits ≡ value_of (width_at m.now.vars) (word_at x.now) (term_of e.now) }
     ensures fits { result.bits < 2 ^ length_of (width_at m.now.vars) (term_of e.now) }
 {
     alone(m, e, x).word
+}
+
+/// The word that an assignment of an expression to w bits writes (IEEE 1800-2017, 10.7 and 11.8.2).
+///
+/// Every variable has a width of 1 to 128, no size in the expression is wrong, and each word fits its variable.
+pub fn written(m: &SvModule, e: &SvExpr, x: &[Word], w: u32) -> Word
+    requires sized { IsSized (width_at m.now.vars) (term_of e.now) }
+    requires fits { Fitting m.now.vars x.now }
+    requires width { IsWidth w }
+    ensures value { result.bits ≡ assigned w (sized false (width_at m.now.vars) (word_at x.now) (term_of e.now)) }
+    ensures fits { result.bits < 2 ^ w }
+{
+    let shape = shape(m, e, x);
+    let n = shape.len.max(w);
+    let bits = word(m, e, x, n, shape.signed);
+    resize(n, w, false, bits)
 }

@@ -17,6 +17,7 @@ use Rattle.scc_svtree.proofs.Trees.{term_binary, term_concat}
 use Rattle.scc_svtree.proofs.Joined.{joined_parts, joined_short, joined_long, width_of_sized}
 use Rattle.scc_svtree.proofs.Concats.{joined_is, joined_fits, joined_room, joined_step}
 use Rattle.scc_svtree.proofs.Divisors.{divisor_word}
+use Rattle.scc_svtree.proofs.Again.{term_cast, term_sign, cast_word, sign_word}
 use Rattle.scc_svtree.proofs.evaluate.+value.Goals as goal
 
 -- the parts from here on are this one and those behind it
@@ -153,3 +154,22 @@ word-returns-in-Concat-clause-value t c =
     whole ∙ ap (λ l. low n (reading s l (low l (pos c.joined.result.bits)))) c.lengths.ensures.length
     ∙ ap (λ v. low n (reading s (total_length width ts) (low (total_length width ts) (pos v)))) c.joined.ensures.word
     ∙ ap (λ r. r.word n s) (sym (joined_is width x ts)) ∙ ap (λ y. (sized false width x y).word n s) (sym is)
+
+pub alone-returns-in-Cast-clause-word : goal.alone-returns-in-Cast-clause-word
+alone-returns-in-Cast-clause-word t c =
+    let width = width_at c.args.m.now.vars in
+    let x = word_at c.args.x.now in
+    let a = c.alone-a in
+    let of : Term = term_of c.in-Cast.of in
+    let is : term_of c.args.e.now ≡ term.Cast c.in-Cast.width of = term_cast c.args.e.now c.in-Cast.width c.in-Cast.of (sym c.get.ensures.value ∙ c.in-Cast.is) in
+    cast_word width x of c.in-Cast.width c.resize.result.bits a.result.len a.result.word.bits a.result.signed c.resize.ensures.fits c.resize.ensures.word a.ensures.len a.ensures.signed a.ensures.word
+    ∙ ap (λ y. value_of width x y) (sym is)
+
+pub alone-returns-in-Sign-clause-word : goal.alone-returns-in-Sign-clause-word
+alone-returns-in-Sign-clause-word t c =
+    let width = width_at c.args.m.now.vars in
+    let x = word_at c.args.x.now in
+    let a = c.alone-a-in-Sign in
+    let of : Term = term_of c.in-Sign.of in
+    let is : term_of c.args.e.now ≡ term.Sign c.in-Sign.signed of = term_sign c.args.e.now c.in-Sign.signed c.in-Sign.of (sym c.get.ensures.value ∙ c.in-Sign.is) in
+    sign_word width x of c.in-Sign.signed a.result.word.bits a.result.len a.ensures.fits a.ensures.len a.ensures.word ∙ ap (λ y. value_of width x y) (sym is)
