@@ -10,7 +10,11 @@ ghost use Rattle.scc_tokens.specs.Walk.{split_line, idle_line, active_line, want
 use crate::read::{ask, number_of};
 use scc_base::{Code, Files, List, Names, Place, Text};
 use scc_directives::define::{define, include_once, undefine};
-use scc_directives::{Directive, File, Halt, Macros, Operand, Out, Sides, Source, Words, close_side, directive_of, included_name, is_hash, is_line_end, is_own, line_len, open_side, operand_of, quoted, take_token, turn_side};
+use scc_directives::{
+    Directive, File, Halt, Macros, Operand, Out, Sides, Source, Words, close_side, directive_of,
+    included_name, is_hash, is_line_end, is_own, line_len, open_side, operand_of, quoted,
+    take_token, turn_side,
+};
 use scc_lexer::{Token, TokenKind};
 use std::alloc::Global;
 use std::str;
