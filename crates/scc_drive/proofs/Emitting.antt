@@ -14,7 +14,7 @@ use Rattle.scc_svtree.specs.declared.module.SvModule.{SvModule}
 use Rattle.scc_svread.specs.Read.{ReadAs, ReadBack, RefusedAs}
 use Rattle.scc_svtrace.specs.Ports.{in_ports}
 use Rattle.scc_svtrace.specs.Traced.{IsTrace, IsUntraced}
-use Rattle.scc_tokens.specs.declared.file.Source.{Source}
+use Rattle.scc_directives.specs.declared.file.Source.{Source}
 use Rattle.scc_tokens.specs.Files.{first_part}
 use Rattle.scc_trace.specs.Stimulus.{stim_of}
 use Rattle.scc_drive.specs.declared.spots.Spot.{Spot}

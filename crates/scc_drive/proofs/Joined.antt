@@ -7,13 +7,13 @@ use Rattle.scc_base.specs.Outside.{Shelf, Told, Rose}
 use Rattle.scc_base.specs.declared.code.Code.{Code}
 use Rattle.scc_base.specs.declared.refusal.Refusal.{Refusal}
 use Rattle.scc_base.specs.declared.refusal.Stop.TheVariants as stop
-use Rattle.scc_tokens.specs.declared.file.Source.{Source}
+use Rattle.scc_directives.specs.declared.file.Source.{Source}
 use Rattle.scc_tokens.specs.declared.joining.Joined.{Joined}
 use Rattle.scc_tokens.specs.declared.joining.JoinFault.{JoinFault}
 use Rattle.scc_tokens.specs.declared.joining.JoinFault.TheVariants as fault
 use Rattle.scc_tokens.specs.Files.{HoldsAll, ToldAll, first_part}
 use Rattle.scc_tokens.specs.Join.{join_of, JoinSays, Somewhere}
-use Rattle.scc_tokens.specs.Steps as join
+use Rattle.scc_directives.specs.Steps as join
 use Rattle.scc_tree.specs.declared.item.FileTree.{FileTree}
 use Rattle.scc_grammar.specs.Claim.{IsReadFile}
 use Rattle.scc_thinmodule.specs.Identifiers.{AreIdentifiers}

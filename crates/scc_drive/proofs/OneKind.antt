@@ -16,11 +16,11 @@ use Rattle.scc_svwritten.specs.Written.{raw_of}
 use Rattle.scc_drive.proofs.OneModule.{reads_module, one_module}
 use Rattle.scc_thin.specs.declared.design.Design.{Design}
 use Rattle.scc_thin.specs.Thin.{thin_of}
-use Rattle.scc_tokens.specs.declared.file.Source.{Source}
+use Rattle.scc_directives.specs.declared.file.Source.{Source}
 use Rattle.scc_tokens.specs.declared.joining.Joined.{Joined}
 use Rattle.scc_tokens.specs.Files.{first_part}
 use Rattle.scc_tokens.specs.Join.{join_of}
-use Rattle.scc_tokens.specs.Steps as join
+use Rattle.scc_directives.specs.Steps as join
 use Rattle.scc_trace.specs.Stimulus.{stim_of}
 use Rattle.scc_trace.specs.declared.stim.StimStep.{StimStep}
 use Rattle.scc_words.specs.declared.command.Command.{Command}

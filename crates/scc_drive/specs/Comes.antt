@@ -11,12 +11,12 @@ use Rattle.scc_base.specs.declared.refusal.Stop.TheVariants as stop
 use Rattle.scc_svtree.specs.declared.module.SvModule.{SvModule}
 use Rattle.scc_svread.specs.Read.{ReadAs, ReadBack, RefusedAs}
 use Rattle.scc_svtrace.specs.Ports.{in_ports}
-use Rattle.scc_tokens.specs.declared.file.Source.{Source}
+use Rattle.scc_directives.specs.declared.file.Source.{Source}
 use Rattle.scc_tokens.specs.declared.joining.Joined.{Joined}
-use Rattle.scc_tokens.specs.declared.token.Token.{Token}
+use Rattle.scc_lexer.specs.declared.token.Token.{Token}
 use Rattle.scc_tokens.specs.Files.{first_part}
 use Rattle.scc_tokens.specs.Join.{join_of}
-use Rattle.scc_tokens.specs.Steps as join
+use Rattle.scc_directives.specs.Steps as join
 use Rattle.scc_tree.specs.declared.item.FileTree.{FileTree}
 use Rattle.scc_grammar.specs.Claim.{IsReadFile, IsFault}
 use Rattle.scc_thin.specs.declared.design.Design.{Design}

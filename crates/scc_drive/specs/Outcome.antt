@@ -6,7 +6,7 @@ use Rattle.scc_svtree.specs.declared.module.SvModule.{SvModule}
 use Rattle.scc_svtext.specs.Emitted.{SvReads}
 use Rattle.scc_svtrace.specs.Traced.{IsTrace}
 use Rattle.scc_stages.specs.Emitted.{IsEmitted}
-use Rattle.scc_tokens.specs.declared.file.Source.{Source}
+use Rattle.scc_directives.specs.declared.file.Source.{Source}
 use Rattle.scc_thin.specs.declared.design.Design.{Design}
 use Rattle.scc_thinmodule.specs.Same.{Matches, ShowsTheSame}
 use Rattle.scc_drive.specs.declared.spots.Spot.{Spot}

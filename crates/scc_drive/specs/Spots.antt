@@ -1,7 +1,7 @@
 -- Where a place stands in its file, as a refusal says it.
 use Rattle.std.specs.Prelude.{◌≡◌, ◌≤◌, ℕ, ◌+◌, List, [], ◌∷◌, take, length, if◌then◌else◌, ◌==◌, Option, Some, None, slice_get}
 use Rattle.scc_base.specs.declared.refusal.Place.{Place}
-use Rattle.scc_tokens.specs.declared.file.Source.{Source}
+use Rattle.scc_directives.specs.declared.file.Source.{Source}
 use Rattle.scc_drive.specs.declared.spots.Spot.{Spot}
 
 -- The line and the column behind these bytes, from a line and a column on: an LF begins the next line.

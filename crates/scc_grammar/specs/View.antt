@@ -1,8 +1,8 @@
 -- Joined tokens as the grammar sees them: words and marks are terminals by the numbers that they have in their lists.
 use Rattle.std.specs.Prelude.{ℕ, List, map, Option, Some, None, slice_get}
-use Rattle.scc_tokens.specs.declared.token.Token.{Token}
-use Rattle.scc_tokens.specs.declared.token.TokenKind.{TokenKind}
-use Rattle.scc_tokens.specs.declared.token.TokenKind.TheVariants as kind
+use Rattle.scc_lexer.specs.declared.token.Token.{Token}
+use Rattle.scc_lexer.specs.declared.token.TokenKind.{TokenKind}
+use Rattle.scc_lexer.specs.declared.token.TokenKind.TheVariants as kind
 use Rattle.scc_grammar.specs.declared.terminal.Seen.{Seen}
 use Rattle.scc_grammar.specs.declared.terminal.Terminal.{Terminal}
 use Rattle.scc_grammar.specs.declared.terminal.Terminal.TheVariants as t

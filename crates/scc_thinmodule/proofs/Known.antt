@@ -4,16 +4,16 @@ use Rattle.scc_base.specs.Names.{fixed_names}
 use Rattle.scc_base.specs.Outside.{Shelf}
 use Rattle.scc_base.specs.declared.code.Code.{Code}
 use Rattle.scc_base.specs.declared.refusal.Place.{Place}
-use Rattle.scc_tokens.specs.declared.directive.Words.{Words}
-use Rattle.scc_tokens.specs.declared.file.File.{File}
-use Rattle.scc_tokens.specs.declared.file.Source.{Source}
+use Rattle.scc_directives.specs.declared.directive.Words.{Words}
+use Rattle.scc_directives.specs.declared.file.File.{File}
+use Rattle.scc_directives.specs.declared.file.Source.{Source}
 use Rattle.scc_tokens.specs.declared.joining.Joined.{Joined}
-use Rattle.scc_tokens.specs.declared.sides.Side.{Side}
-use Rattle.scc_tokens.specs.declared.token.Token.{Token}
-use Rattle.scc_tokens.specs.Directive.{with_names, word_texts, words_in}
+use Rattle.scc_directives.specs.declared.sides.Side.{Side}
+use Rattle.scc_lexer.specs.declared.token.Token.{Token}
+use Rattle.scc_directives.specs.Directive.{with_names, word_texts, words_in}
 use Rattle.scc_tokens.specs.Files.{Asked, asked, asked_by, read_by, lexed_by, number_of, names_read, file_of}
 use Rattle.scc_tokens.specs.Join.{starts, asked_walked, root_joined, roots_joined, number_after, roots_finished, join_of}
-use Rattle.scc_tokens.specs.Steps.{Stopped}
+use Rattle.scc_directives.specs.Steps.{Stopped}
 use Rattle.scc_tokens.specs.Walk.{Full, Inside, Lines, Taken, Stepped, number_asked, text_asked, text_if, admitted, admitted_asked, file_included, then_by, stepped_with, name_stepped, found_stepped, front_taken, first_place, step_taken, in_file, at_file, entered, walk_on, walk_behind, tokens_of, file_walked}
 use Rattle.scc_thinmodule.specs.Identifiers.{AreIdentifiers}
 use Rattle.scc_thinmodule.proofs.Spelt.{read_kept, first_names}

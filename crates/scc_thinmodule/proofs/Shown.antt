@@ -6,11 +6,11 @@ use Rattle.scc_base.specs.Outside.{Shelf}
 use Rattle.scc_svtree.specs.Sound as sv
 use Rattle.scc_svtree.specs.Sound.{Each, is_simple}
 use Rattle.scc_svtree.specs.Variables.{IsWidth}
-use Rattle.scc_tokens.specs.declared.file.Source.{Source}
+use Rattle.scc_directives.specs.declared.file.Source.{Source}
 use Rattle.scc_tokens.specs.declared.joining.Joined.{Joined}
-use Rattle.scc_tokens.specs.declared.token.Token as joined
-use Rattle.scc_tokens.specs.declared.token.TokenKind.{TokenKind}
-use Rattle.scc_tokens.specs.declared.token.TokenKind.TheVariants as kind
+use Rattle.scc_lexer.specs.declared.token.Token as joined
+use Rattle.scc_lexer.specs.declared.token.TokenKind.{TokenKind}
+use Rattle.scc_lexer.specs.declared.token.TokenKind.TheVariants as kind
 use Rattle.scc_tokens.specs.Join.{join_of}
 use Rattle.scc_thin.specs.declared.design.Design.{Design}
 use Rattle.scc_thin.specs.declared.design.Port.{Port}

@@ -9,7 +9,7 @@ use Rattle.scc_thin.specs.declared.design.Design.{Design}
 use Rattle.scc_thin.specs.declared.design.Port.{Port}
 use Rattle.scc_thin.specs.declared.design.Put.{Put}
 use Rattle.scc_thin.specs.declared.design.Second.{Second}
-use Rattle.scc_tokens.specs.declared.token.Token as joined
+use Rattle.scc_lexer.specs.declared.token.Token as joined
 use Rattle.scc_thin.specs.declared.thin.token.Token.{Token}
 use Rattle.scc_thin.specs.declared.thin.token.Token.TheVariants.{Word, Mark, Name, Number}
 use Rattle.scc_thin.specs.declared.thin.tree.Group.{Group}

@@ -9,20 +9,20 @@ use Rattle.scc_kinds.specs.declared.kind.Kind.{Kind}
 use Rattle.scc_kinds.specs.declared.kind.Word as bits
 use Rattle.scc_svtree.specs.Sound as sv
 use Rattle.scc_svtree.specs.Sound.{Each, is_simple, all_word_bytes}
-use Rattle.scc_tokens.specs.declared.piece.Form.{Form}
-use Rattle.scc_tokens.specs.declared.piece.Form.TheVariants as form
-use Rattle.scc_tokens.specs.declared.piece.Line.{Line}
-use Rattle.scc_tokens.specs.declared.piece.Line.TheVariants.{Start, Middle, Directive}
-use Rattle.scc_tokens.specs.declared.piece.Piece.{Piece}
-use Rattle.scc_tokens.specs.declared.piece.Piece.TheVariants.{Taken, Fault}
-use Rattle.scc_tokens.specs.Bytes.{is_letter, is_word_byte, is_digit, is_blank}
-use Rattle.scc_tokens.specs.Directive.{with_names, word_texts}
+use Rattle.scc_lexer.specs.declared.piece.Form.{Form}
+use Rattle.scc_lexer.specs.declared.piece.Form.TheVariants as form
+use Rattle.scc_lexer.specs.declared.piece.Line.{Line}
+use Rattle.scc_lexer.specs.declared.piece.Line.TheVariants.{Start, Middle, Directive}
+use Rattle.scc_lexer.specs.declared.piece.Piece.{Piece}
+use Rattle.scc_lexer.specs.declared.piece.Piece.TheVariants.{Taken, Fault}
+use Rattle.scc_lexer.specs.Bytes.{is_letter, is_word_byte, is_digit, is_blank}
+use Rattle.scc_directives.specs.Directive.{with_names, word_texts}
 use Rattle.scc_tokens.specs.Files.{names_read}
-use Rattle.scc_tokens.specs.Numbering.{with_form, names_on, names_behind, names_after}
-use Rattle.scc_tokens.specs.Number.{literal_of}
-use Rattle.scc_tokens.specs.Piece.{word_form_by, literal_form_by, word_len, number_len, enclosed, front_token, line_end, hash_piece, comment_piece_by, first_is, sound_token, flaw_of, token_piece_by, token_piece, piece_at}
-use Rattle.scc_tokens.specs.Words.{word_index, is_outside, mark_at}
-use Rattle.scc_tokens.specs.Enclosed.{text_end, comment_end}
+use Rattle.scc_lexer.specs.Numbering.{with_form, names_on, names_behind, names_after}
+use Rattle.scc_lexer.specs.Number.{literal_of}
+use Rattle.scc_lexer.specs.Piece.{word_form_by, literal_form_by, word_len, number_len, enclosed, front_token, line_end, hash_piece, comment_piece_by, first_is, sound_token, flaw_of, token_piece_by, token_piece, piece_at}
+use Rattle.scc_lexer.specs.Words.{word_index, is_outside, mark_at}
+use Rattle.scc_lexer.specs.Enclosed.{text_end, comment_end}
 use Rattle.scc_thinmodule.specs.Identifiers.{AreIdentifiers}
 use Rattle.scc_thinmodule.proofs.Chains.{and_first, and_second}
 use Rattle.scc_thinmodule.proofs.Plain.{each_append}

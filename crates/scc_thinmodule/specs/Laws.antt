@@ -3,9 +3,9 @@ use Rattle.std.specs.Prelude.{◌≡◌, ℕ, List, false, Some, Ok}
 use Rattle.scc_base.specs.Names.{fixed_names}
 use Rattle.scc_base.specs.Outside.{Shelf}
 use Rattle.scc_svtree.specs.Sound.{IsSound}
-use Rattle.scc_tokens.specs.declared.file.Source.{Source}
+use Rattle.scc_directives.specs.declared.file.Source.{Source}
 use Rattle.scc_tokens.specs.declared.joining.Joined.{Joined}
-use Rattle.scc_tokens.specs.declared.token.Token.{Token}
+use Rattle.scc_lexer.specs.declared.token.Token.{Token}
 use Rattle.scc_tokens.specs.Join.{join_of}
 use Rattle.scc_thin.specs.declared.design.Design.{Design}
 use Rattle.scc_thinmodule.specs.Emitted.{module_of}

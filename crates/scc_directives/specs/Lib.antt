@@ -1,0 +1,13 @@
+pub mod Active
+pub mod Define
+pub mod Directive
+pub mod Expand
+pub mod Expands
+pub mod File
+pub mod Included
+pub mod Laws
+pub mod Lines
+pub mod Macros
+pub mod Out
+pub mod Sides
+pub mod Steps

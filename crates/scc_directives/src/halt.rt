@@ -1,0 +1,22 @@
+//! Why joining stops.
+ghost use Rattle.std.specs.Prelude.{◌≡◌};
+ghost use Rattle.scc_directives.specs.declared.halt.Halt.TheVariants as halt;
+
+use scc_base::{Code, NoMemory, Place, Text};
+
+/// Why joining stops.
+#[derive(Debug, Drop)]
+pub enum Halt {
+    Refused { code: Code, place: Place },
+    Missing(Text),
+    Failed(Text),
+    NoMemory,
+}
+
+impl From<NoMemory> for Halt {
+    ghost from_gives = { λ _ e. e ≡ halt.NoMemory };
+
+    fn from(_: NoMemory) -> Halt {
+        Halt::NoMemory
+    }
+}

@@ -1,0 +1,9 @@
+pub mod Deriving
+pub mod Faulting
+pub mod Tidy
+pub mod Counting
+pub mod Total
+pub mod Known
+pub mod Live
+pub mod Chosen
+pub mod Decided

@@ -1,0 +1,7 @@
+//! What joined files are, by derivations, and that joining gives it (C++, "Preprocessing directives"). Definitions and lemmas
+//! alone, over those of `scc_tokens`.
+#![tactic(auto)]
+
+mod laws;
+
+pub use laws::parts_are_joined;

@@ -1,0 +1,9 @@
+pub mod Ascii
+pub mod Ends
+pub mod Numbers
+pub mod Scanning
+pub mod Spelling
+pub mod Longest
+pub mod PieceLaws
+pub mod ScanLaws
+pub mod Placing

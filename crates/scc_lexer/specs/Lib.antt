@@ -1,0 +1,13 @@
+pub mod Answers
+pub mod Bytes
+pub mod Enclosed
+pub mod Laws
+pub mod Lexes
+pub mod Named
+pub mod Number
+pub mod Numbering
+pub mod Piece
+pub mod Scan
+pub mod Slots
+pub mod Spelled
+pub mod Words
