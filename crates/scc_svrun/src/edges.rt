@@ -10,8 +10,7 @@ ghost use Rattle.scc_svrun.specs.Valued.{IsValuation};
 use crate::resets::{is_active, load};
 use crate::store::put;
 use scc_bits::Word;
-use scc_svtree::{SvBlock, SvModule, SvReset, SvSet, VarId};
-use scc_svtree::{width, written};
+use scc_svtree::{SvBlock, SvModule, SvReset, SvSet, VarId, width, written};
 
 /// Which clocks have an edge: all, or those of a list.
 #[derive(Clone, Copy)]

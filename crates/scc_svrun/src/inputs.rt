@@ -11,8 +11,7 @@ ghost use Rattle.scc_svrun.specs.Valued.{IsValuation};
 use crate::store::put;
 use scc_base::NoMemory;
 use scc_bits::Word;
-use scc_svtree::{Dir, SvBlock, SvModule, SvVar, VarId};
-use scc_svtree::width;
+use scc_svtree::{Dir, SvBlock, SvModule, SvVar, VarId, width};
 use std::alloc::Global;
 
 fn is_marked(marks: &[bool], v: usize) -> bool
