@@ -3,7 +3,7 @@ use Rattle.std.proofs.Common.{◌≡◌, ℕ, List, Option, Some, None, Result, 
 use Rattle.std.specs.Prelude.{IfErr, IfOk, false}
 use Rattle.scc_base.specs.declared.code.Code.TheVariants.{NotYet}
 use Rattle.scc_svtext.specs.ModuleText.{module_text}
-use Rattle.scc_grammar.specs.Claim.{IsReadFile}
+use Rattle.scc_syntax.specs.Claim.{IsReadFile}
 use Rattle.scc_stages.specs.Emitted.{IsEmitted}
 use Rattle.scc_thin.specs.declared.design.Design.{Design}
 use Rattle.scc_thin.specs.Thin.{thin_of}

@@ -9,7 +9,7 @@ use Rattle.scc_base.specs.declared.refusal.Stop.TheVariants as stop
 use Rattle.scc_tokens.specs.declared.joining.Joined.{Joined}
 use Rattle.scc_tokens.specs.declared.joining.JoinFault.{JoinFault}
 use Rattle.scc_tokens.specs.declared.joining.JoinFault.TheVariants as fault
-use Rattle.scc_grammar.specs.Claim.{IsFault}
+use Rattle.scc_syntax.specs.Claim.{IsFault}
 use Rattle.scc_stages.specs.Refusals.{is_later}
 use Rattle.scc_drive.specs.declared.spots.Spot.{Spot}
 use Rattle.scc_drive.specs.declared.stopped.Stopped.{Stopped}

@@ -1,22 +1,22 @@
 -- The loops of the code of declarations.
 use Rattle.std.specs.Prelude.{◌≡◌, ℕ, Bool, true, false, not, [], ◌∷◌, length, ◌<◌, Ok, refl}
-use Rattle.scc_grammar.specs.Marks as m
-use Rattle.scc_grammar.specs.Names.{Names}
-use Rattle.scc_grammar.specs.ParseItems as i
-use Rattle.scc_grammar.specs.ParseFile as p
-use Rattle.scc_grammar.specs.ParseFile.{is_member, is_part}
-use Rattle.scc_grammar.specs.Answer.{Fails}
-use Rattle.scc_grammar.specs.declared.halt.Halt.{Halt}
-use Rattle.scc_grammar.specs.declared.terminal.Seen.{Seen}
-use Rattle.scc_grammar.specs.declared.terminal.Terminal.{Terminal}
-use Rattle.scc_grammar.specs.declared.terminal.Terminal.TheVariants as t
-use Rattle.scc_grammar.specs.Bodies.{Body}
-use Rattle.scc_grammar.specs.Text.{Text, Parser, Outcome, next_is, next_says}
+use Rattle.scc_terminals.specs.Marks as m
+use Rattle.scc_terminals.specs.Names.{Names}
+use Rattle.scc_syntax.specs.ParseItems as i
+use Rattle.scc_syntax.specs.ParseFile as p
+use Rattle.scc_syntax.specs.ParseFile.{is_member, is_part}
+use Rattle.scc_terminals.specs.Answer.{Fails}
+use Rattle.scc_terminals.specs.declared.halt.Halt.{Halt}
+use Rattle.scc_terminals.specs.declared.terminal.Seen.{Seen}
+use Rattle.scc_terminals.specs.declared.terminal.Terminal.{Terminal}
+use Rattle.scc_terminals.specs.declared.terminal.Terminal.TheVariants as t
+use Rattle.scc_syntax.specs.Bodies.{Body}
+use Rattle.scc_terminals.specs.Text.{Text, Parser, Outcome, next_is, next_says}
 use Rattle.scc_reading.specs.Reading.{is_next, repeat_on}
 use Rattle.scc_reading.proofs.Loop.{turns_of, turns_in_of, TurnsOn, turns_on_of}
-use Rattle.scc_grammar.proofs.Loops.{fails_through, Loop, loop_of, LoopIn, loop_in_of}
-use Rattle.scc_grammar.proofs.SoundItems.{sound_front, sound_one_enumerator, sound_one_prm, sound_one_init}
-use Rattle.scc_grammar.proofs.SoundFile.{sound_one_param, RMember, sound_member, RPart, sound_part}
+use Rattle.scc_grammarsound.proofs.Loops.{fails_through, Loop, loop_of, LoopIn, loop_in_of}
+use Rattle.scc_grammarsound.proofs.SoundItems.{sound_front, sound_one_enumerator, sound_one_prm, sound_one_init}
+use Rattle.scc_grammarsound.proofs.SoundFile.{sound_one_param, RMember, sound_member, RPart, sound_part}
 
 pub loop_fronts : Loop (next_says i.front) i.one_front
 loop_fronts = loop_of (turns_of _ 0 _ _ sound_front)

@@ -4,12 +4,12 @@ use Rattle.std.proofs.Common.{ap, ◌∙◌}
 use Rattle.scc_tree.specs.declared.item.Param.{Param}
 use Rattle.scc_reading.specs.Reading.{and_then, pure, repeat_in, ◌>>◌}
 use Rattle.scc_reading.proofs.Leaves.{ok_is}
-use Rattle.scc_grammar.specs.Answer.{onto_in}
-use Rattle.scc_grammar.specs.Names.{Names}
-use Rattle.scc_grammar.specs.ParseExpressions as e
-use Rattle.scc_grammar.specs.ParseFile as f
-use Rattle.scc_grammar.specs.ParseItems.{Params}
-use Rattle.scc_grammar.specs.Text.{Text, Outcome, Parser}
+use Rattle.scc_terminals.specs.Answer.{onto_in}
+use Rattle.scc_terminals.specs.Names.{Names}
+use Rattle.scc_syntax.specs.ParseExpressions as e
+use Rattle.scc_syntax.specs.ParseFile as f
+use Rattle.scc_syntax.specs.ParseItems.{Params}
+use Rattle.scc_terminals.specs.Text.{Text, Outcome, Parser}
 
 abbrev closed_off : List Param × Params → Parser (Names × List Param)
 closed_off y = e.close_unless y.1.closed false >> pure (y.1.names, y.0)

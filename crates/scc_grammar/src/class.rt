@@ -1,30 +1,30 @@
 //! Classes and modules (C++, [class]; IEEE 1666-2011, section 5.2).
 ghost use Rattle.std.specs.Prelude.{◌≡◌, [], Some, None, OnOk, true, false};
-ghost use Rattle.scc_grammar.specs.Answer.{Gives};
-ghost use Rattle.scc_grammar.specs.Bodies as b;
-ghost use Rattle.scc_grammar.specs.Items as grammar;
-ghost use Rattle.scc_grammar.specs.Names.{no_names};
-ghost use Rattle.scc_grammar.specs.ParseFile as p;
-ghost use Rattle.scc_grammar.specs.ParseItems as i;
-ghost use Rattle.scc_grammar.specs.Text.{mark, next_is};
+ghost use Rattle.scc_terminals.specs.Answer.{Gives};
+ghost use Rattle.scc_syntax.specs.Bodies as b;
+ghost use Rattle.scc_syntax.specs.Items as grammar;
+ghost use Rattle.scc_terminals.specs.Names.{no_names};
+ghost use Rattle.scc_syntax.specs.ParseFile as p;
+ghost use Rattle.scc_syntax.specs.ParseItems as i;
+ghost use Rattle.scc_terminals.specs.Text.{mark, next_is};
 ghost use Rattle.scc_reading.specs.Reading.{is_next};
 
-use crate::first::name_at;
-use crate::halt::{Halt, place_of};
-use crate::marks::*;
 use crate::member::{Members, all_members};
-use crate::next::*;
-use crate::reader::{Read, Reader};
-use crate::table::Table;
-use crate::terminal::{Seen, Terminal};
-use crate::types::ty_args;
-use crate::words::*;
 use scc_base::{List, Name, NoMemory, Place};
+use scc_expressiongrammar::first::name_at;
+use scc_expressiongrammar::types::ty_args;
+use scc_terminals::halt::{Halt, place_of};
+use scc_terminals::marks::*;
+use scc_terminals::next::*;
+use scc_terminals::reader::{Read, Reader};
+use scc_terminals::table::Table;
+use scc_terminals::terminal::{Seen, Terminal};
+use scc_terminals::words::*;
 use scc_tree::{ClassTree, Item, ItemNode, Param, TyArg};
 use std::alloc::Global;
 
 // Whether a class is a module, by what stands behind a `:`.
-#[tactic(auto, unfolding(crate::specs::ParseItems::bases))]
+#[tactic(auto, unfolding(scc_syntax::specs::ParseItems::bases))]
 fn bases(ts: &[Seen]) -> Read<'_, bool>
     ensures { Gives (λ x. (x.0, x.1.now)) result (i.bases ts.now) }
 {
@@ -52,7 +52,7 @@ fn may_specialise(params: &Option<List<Param>>) -> bool
 }
 
 // The arguments of a specialisation.
-#[tactic(auto, unfolding(crate::specs::ParseFile::special))]
+#[tactic(auto, unfolding(scc_syntax::specs::ParseFile::special))]
 fn special<'a>(
     c: Reader,
     params: &Option<List<Param>>,
@@ -86,7 +86,7 @@ fn declare(names: &mut Table, params: &Option<List<Param>>, x: Name) -> Result<(
 }
 
 // The members of a class, in braces.
-#[tactic(auto, unfolding(crate::specs::ParseFile::class_body))]
+#[tactic(auto, unfolding(scc_syntax::specs::ParseFile::class_body))]
 fn class_body<'a>(
     alloc: Global,
     names: &mut Table,
@@ -132,7 +132,7 @@ fn class_item(
 }
 
 // A module, behind its word.
-#[tactic(auto, unfolding(crate::specs::ParseFile::module_class))]
+#[tactic(auto, unfolding(scc_syntax::specs::ParseFile::module_class))]
 fn module_class<'a>(
     alloc: Global,
     names: &mut Table,
@@ -151,7 +151,7 @@ fn module_class<'a>(
 }
 
 // A class, behind its word.
-#[tactic(auto, unfolding(crate::specs::ParseFile::plain_class))]
+#[tactic(auto, unfolding(scc_syntax::specs::ParseFile::plain_class))]
 fn plain_class<'a>(
     alloc: Global,
     names: &mut Table,
@@ -213,7 +213,7 @@ pub fn begins_class(ts: &[Seen]) -> bool
 }
 
 /// A class or a module, behind the parameters of a template where it has some.
-#[tactic(auto, unfolding(crate::specs::ParseFile::class_at))]
+#[tactic(auto, unfolding(scc_syntax::specs::ParseFile::class_at))]
 pub fn class_at<'a>(
     alloc: Global,
     names: &mut Table,

@@ -1,28 +1,28 @@
 //! Enumerations and definitions of types.
 ghost use Rattle.std.specs.Prelude.{◌≡◌, ◌∷◌, [], Some, None, IfOk};
-ghost use Rattle.scc_grammar.specs.Answer.{Gives, onto};
-ghost use Rattle.scc_grammar.specs.Bodies.{item_of};
-ghost use Rattle.scc_grammar.specs.ParseItems as p;
-ghost use Rattle.scc_grammar.specs.Text.{identifier, next_is, next_says};
+ghost use Rattle.scc_terminals.specs.Answer.{Gives, onto};
+ghost use Rattle.scc_syntax.specs.Bodies.{item_of};
+ghost use Rattle.scc_syntax.specs.ParseItems as p;
+ghost use Rattle.scc_terminals.specs.Text.{identifier, next_is, next_says};
 ghost use Rattle.scc_reading.specs.Reading.{is_next, repeat};
-ghost use Rattle.scc_grammar.specs.Marks as m;
+ghost use Rattle.scc_terminals.specs.Marks as m;
 
-use crate::chain::expr;
-use crate::first::name_at;
-use crate::halt::{Halt, place_of};
-use crate::marks::*;
-use crate::next::*;
-use crate::nodes::one;
-use crate::reader::{Read, Reader};
-use crate::table::Table;
-use crate::terminal::{Seen, Terminal};
-use crate::types::type_at;
 use scc_base::{List, Name, Place};
+use scc_expressiongrammar::chain::expr;
+use scc_expressiongrammar::first::name_at;
+use scc_expressiongrammar::types::type_at;
+use scc_terminals::halt::{Halt, place_of};
+use scc_terminals::marks::*;
+use scc_terminals::next::*;
+use scc_terminals::nodes::one;
+use scc_terminals::reader::{Read, Reader};
+use scc_terminals::table::Table;
+use scc_terminals::terminal::{Seen, Terminal};
 use scc_tree::{Enumerator, Expr, Item, ItemNode};
 use std::alloc::Global;
 
 // What may stand behind a name as its value.
-#[tactic(auto, unfolding(crate::specs::ParseItems::value))]
+#[tactic(auto, unfolding(scc_syntax::specs::ParseItems::value))]
 fn value<'a>(c: Reader, ts: &'a [Seen]) -> Read<'a, Option<Expr>>
     ensures { Gives (λ x. (x.0, x.1.now)) result (p.value c.entry.levels c.entry.names.now ts.now) }
 {
@@ -34,7 +34,7 @@ fn value<'a>(c: Reader, ts: &'a [Seen]) -> Read<'a, Option<Expr>>
     Ok((None, ts))
 }
 
-#[tactic(auto, unfolding(crate::specs::ParseItems::enumerator))]
+#[tactic(auto, unfolding(scc_syntax::specs::ParseItems::enumerator))]
 fn enumerator<'a>(c: Reader, ts: &'a [Seen]) -> Read<'a, Enumerator>
     ensures { Gives (λ x. (x.0, x.1.now)) result (p.enumerator c.entry.levels c.entry.names.now ts.now) }
 {
@@ -68,7 +68,7 @@ fn more_enumerators<'a>(
 }
 
 // The names of an enumeration, in braces.
-#[tactic(auto, unfolding(crate::specs::ParseItems::numbers))]
+#[tactic(auto, unfolding(scc_syntax::specs::ParseItems::numbers))]
 fn numbers<'a>(c: Reader, ts: &'a [Seen]) -> Read<'a, List<Enumerator>>
     ensures { Gives (λ x. (x.0, x.1.now)) result (p.numbers c.entry.levels c.entry.names.now ts.now) }
 {
@@ -93,7 +93,7 @@ pub fn named_item(place: Place, name: Name, node: ItemNode) -> Item
 }
 
 /// A definition of a type, behind its word.
-#[tactic(auto, unfolding(crate::specs::ParseItems::alias))]
+#[tactic(auto, unfolding(scc_syntax::specs::ParseItems::alias))]
 pub fn alias<'a>(alloc: Global, names: &mut Table, levels: u32, ts: &'a [Seen]) -> Read<'a, Item>
     ensures { Gives (λ x. ((names.new, x.0), x.1.now)) result (p.alias levels names.old ts.now) }
 {
@@ -110,7 +110,7 @@ pub fn alias<'a>(alloc: Global, names: &mut Table, levels: u32, ts: &'a [Seen]) 
 }
 
 /// An enumeration, behind its word, which stands at the place.
-#[tactic(auto, unfolding(crate::specs::ParseItems::enumeration))]
+#[tactic(auto, unfolding(scc_syntax::specs::ParseItems::enumeration))]
 pub fn enumeration<'a>(
     alloc: Global,
     names: &mut Table,

@@ -1,24 +1,24 @@
 //! Files.
 ghost use Rattle.std.specs.Prelude.{◌≡◌, [], Some, None, true};
-ghost use Rattle.scc_grammar.specs.Answer.{Gives};
-ghost use Rattle.scc_grammar.specs.Bodies as b;
-ghost use Rattle.scc_grammar.specs.ParseFile as p;
-ghost use Rattle.scc_grammar.specs.ParseItems as i;
-ghost use Rattle.scc_grammar.specs.Text.{next_is, next_says, pick};
+ghost use Rattle.scc_terminals.specs.Answer.{Gives};
+ghost use Rattle.scc_syntax.specs.Bodies as b;
+ghost use Rattle.scc_syntax.specs.ParseFile as p;
+ghost use Rattle.scc_syntax.specs.ParseItems as i;
+ghost use Rattle.scc_terminals.specs.Text.{next_is, next_says, pick};
 ghost use Rattle.scc_reading.specs.Reading.{and_then, choose, is_next, pure, repeat_on, token};
 
 use crate::class::{begins_class, class_at};
 use crate::enumeration::{alias, enumeration};
-use crate::halt::{Halt, place_of};
-use crate::marks::semicolon;
 use crate::member::Members;
 use crate::outside::{fronted, fronts, outside};
-use crate::reader::{Read, Reader};
-use crate::table::Table;
 use crate::template::template;
-use crate::terminal::{Seen, Terminal};
-use crate::words::{library, namespace};
 use scc_base::{List, NoMemory};
+use scc_terminals::halt::{Halt, place_of};
+use scc_terminals::marks::semicolon;
+use scc_terminals::reader::{Read, Reader};
+use scc_terminals::table::Table;
+use scc_terminals::terminal::{Seen, Terminal};
+use scc_terminals::words::{library, namespace};
 use scc_tree::{Item, Param};
 use std::alloc::Global;
 
@@ -64,7 +64,7 @@ fn begins_word(ts: &[Seen]) -> bool
 }
 
 // A declaration that begins with a word of its own.
-#[tactic(auto, unfolding(crate::specs::ParseFile::part_by, crate::specs::ParseItems::item_by))]
+#[tactic(auto, unfolding(scc_syntax::specs::ParseFile::part_by, scc_syntax::specs::ParseItems::item_by))]
 fn worded_part<'a>(
     alloc: Global,
     names: &mut Table,
@@ -124,7 +124,7 @@ fn worded_part<'a>(
 }
 
 // One declaration of a file.
-#[tactic(auto, unfolding(crate::specs::ParseFile::part))]
+#[tactic(auto, unfolding(scc_syntax::specs::ParseFile::part))]
 fn part<'a>(
     alloc: Global,
     names: &mut Table,
@@ -178,7 +178,7 @@ fn parts<'a>(
 }
 
 /// The declarations of a whole file.
-#[tactic(auto, unfolding(crate::specs::ParseFile::program, crate::specs::ParseFile::file))]
+#[tactic(auto, unfolding(scc_syntax::specs::ParseFile::program, scc_syntax::specs::ParseFile::file))]
 pub fn program(alloc: Global, ts: &[Seen]) -> Result<List<Item>, Halt>
     ensures { Gives (λ items. (items, [])) result (p.program 128 ts.now) }
 {

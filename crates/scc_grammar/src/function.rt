@@ -1,32 +1,32 @@
 //! Functions, constructors and constants, behind their names.
 ghost use Rattle.std.specs.Prelude.{◌≡◌, ◌∷◌, [], Some, None};
-ghost use Rattle.scc_grammar.specs.Answer.{Gives, onto};
-ghost use Rattle.scc_grammar.specs.Bodies as b;
-ghost use Rattle.scc_grammar.specs.Marks as m;
-ghost use Rattle.scc_grammar.specs.ParseItems as p;
-ghost use Rattle.scc_grammar.specs.Text.{next_is, pick};
+ghost use Rattle.scc_terminals.specs.Answer.{Gives, onto};
+ghost use Rattle.scc_syntax.specs.Bodies as b;
+ghost use Rattle.scc_terminals.specs.Marks as m;
+ghost use Rattle.scc_syntax.specs.ParseItems as p;
+ghost use Rattle.scc_terminals.specs.Text.{next_is, pick};
 ghost use Rattle.scc_reading.specs.Reading.{repeat, token};
 
-use crate::chain::expr;
 use crate::enumeration::named_item;
-use crate::first::name_at;
-use crate::halt::{Halt, place_of};
-use crate::local::hold_at;
-use crate::marks::*;
-use crate::next::*;
-use crate::nodes::one;
-use crate::postfix::cargs;
-use crate::reader::{Read, Reader};
-use crate::stmt::block_of;
-use crate::terminal::{Seen, Terminal};
-use crate::types::{ty_args, type_at};
-use crate::words::*;
 use scc_base::{List, Name, Place};
+use scc_expressiongrammar::chain::expr;
+use scc_expressiongrammar::first::name_at;
+use scc_expressiongrammar::postfix::cargs;
+use scc_expressiongrammar::types::{ty_args, type_at};
+use scc_statementgrammar::local::hold_at;
+use scc_statementgrammar::stmt::block_of;
+use scc_terminals::halt::{Halt, place_of};
+use scc_terminals::marks::*;
+use scc_terminals::next::*;
+use scc_terminals::nodes::one;
+use scc_terminals::reader::{Read, Reader};
+use scc_terminals::terminal::{Seen, Terminal};
+use scc_terminals::words::*;
 use scc_tree::{FunctionTree, Init, Item, ItemNode, Prm, Stmt, Ty, TyArg};
 use std::alloc::Global;
 
 // A `const` that may stand behind the parameters.
-#[tactic(auto, unfolding(crate::specs::ParseItems::qualifier))]
+#[tactic(auto, unfolding(scc_syntax::specs::ParseItems::qualifier))]
 pub fn qualifier(ts: &[Seen]) -> Read<'_, ()>
     ensures { Gives (λ x. (x.0, x.1.now)) result (p.qualifier ts.now) }
 {
@@ -37,7 +37,7 @@ pub fn qualifier(ts: &[Seen]) -> Read<'_, ()>
     Ok(((), ts))
 }
 
-#[tactic(auto, unfolding(crate::specs::ParseItems::prm))]
+#[tactic(auto, unfolding(scc_syntax::specs::ParseItems::prm))]
 fn prm<'a>(c: Reader, ts: &'a [Seen]) -> Read<'a, Prm>
     ensures { Gives (λ x. (x.0, x.1.now)) result (p.prm c.entry.levels c.entry.names.now ts.now) }
 {
@@ -74,7 +74,7 @@ fn more_prms<'a>(c: Reader, found: List<Prm>, ts: &'a [Seen]) -> Read<'a, List<P
 }
 
 /// Parameters, between their brackets.
-#[tactic(auto, unfolding(crate::specs::ParseItems::prms))]
+#[tactic(auto, unfolding(scc_syntax::specs::ParseItems::prms))]
 pub fn prms<'a>(c: Reader, ts: &'a [Seen]) -> Read<'a, List<Prm>>
     ensures { Gives (λ x. (x.0, x.1.now)) result (p.prms c.entry.levels c.entry.names.now ts.now) }
 {
@@ -91,7 +91,7 @@ pub fn prms<'a>(c: Reader, ts: &'a [Seen]) -> Read<'a, List<Prm>>
 }
 
 /// A body, or the end of a declaration without one.
-#[tactic(auto, unfolding(crate::specs::ParseItems::body))]
+#[tactic(auto, unfolding(scc_syntax::specs::ParseItems::body))]
 pub fn body<'a>(c: Reader, ts: &'a [Seen]) -> Read<'a, Option<List<Stmt>>>
     ensures { Gives (λ x. (x.0, x.1.now)) result (p.body c.entry.levels c.entry.names.now ts.now) }
 {
@@ -126,7 +126,7 @@ fn init_start(ts: &[Seen]) -> Read<'_, (Option<Name>, Place)>
     }
 }
 
-#[tactic(auto, unfolding(crate::specs::ParseItems::init))]
+#[tactic(auto, unfolding(scc_syntax::specs::ParseItems::init))]
 fn init<'a>(c: Reader, ts: &'a [Seen]) -> Read<'a, Init>
     ensures { Gives (λ x. (x.0, x.1.now)) result (p.init c.entry.levels c.entry.names.now ts.now) }
 {
@@ -158,7 +158,7 @@ fn more_inits<'a>(c: Reader, found: List<Init>, ts: &'a [Seen]) -> Read<'a, List
 }
 
 /// The initialisers of a constructor, which may stand behind its parameters.
-#[tactic(auto, unfolding(crate::specs::ParseItems::inits))]
+#[tactic(auto, unfolding(scc_syntax::specs::ParseItems::inits))]
 pub fn inits<'a>(c: Reader, ts: &'a [Seen]) -> Read<'a, List<Init>>
     ensures { Gives (λ x. (x.0, x.1.now)) result (p.inits c.entry.levels c.entry.names.now ts.now) }
 {
@@ -172,7 +172,7 @@ pub fn inits<'a>(c: Reader, ts: &'a [Seen]) -> Read<'a, List<Init>>
 }
 
 /// The arguments that may stand behind a class's name.
-#[tactic(auto, unfolding(crate::specs::ParseItems::named_args))]
+#[tactic(auto, unfolding(scc_syntax::specs::ParseItems::named_args))]
 pub fn named_args<'a>(c: Reader, x: Name, ts: &'a [Seen]) -> Read<'a, Option<List<TyArg>>>
     ensures { Gives (λ x. (x.0, x.1.now)) result (p.named_args c.entry.levels c.entry.names.now x ts.now) }
 {
@@ -233,7 +233,7 @@ pub fn function_item(of: FunctionTree) -> Item
 }
 
 /// The rest of a function, behind its name.
-#[tactic(auto, unfolding(crate::specs::ParseItems::function_rest))]
+#[tactic(auto, unfolding(scc_syntax::specs::ParseItems::function_rest))]
 pub fn function_rest<'a>(
     c: Reader,
     gives: Option<Ty>,
@@ -254,7 +254,7 @@ pub fn function_rest<'a>(
 }
 
 /// The rest of a constructor, behind its name.
-#[tactic(auto, unfolding(crate::specs::ParseItems::constructor_rest))]
+#[tactic(auto, unfolding(scc_syntax::specs::ParseItems::constructor_rest))]
 pub fn constructor_rest<'a>(c: Reader, x: (Name, Place), ts: &'a [Seen]) -> Read<'a, Item>
     ensures { Gives (λ x. (x.0, x.1.now)) result (p.constructor_rest c.entry.levels c.entry.names.now x ts.now) }
 {
@@ -267,7 +267,7 @@ pub fn constructor_rest<'a>(c: Reader, x: (Name, Place), ts: &'a [Seen]) -> Read
 }
 
 /// The rest of a constant, behind its name.
-#[tactic(auto, unfolding(crate::specs::ParseItems::constant_rest))]
+#[tactic(auto, unfolding(scc_syntax::specs::ParseItems::constant_rest))]
 pub fn constant_rest<'a>(c: Reader, ty: Ty, x: (Name, Place), ts: &'a [Seen]) -> Read<'a, Item>
     ensures { Gives (λ x. (x.0, x.1.now)) result (p.constant_rest c.entry.levels c.entry.names.now ty x ts.now) }
 {

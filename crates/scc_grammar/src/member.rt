@@ -1,32 +1,32 @@
 //! Members of classes (C++, [class.mem]).
 ghost use Rattle.std.specs.Prelude.{◌≡◌, ◌∷◌, ◌++◌, [], Ok, Some, None, IfOk, true};
-ghost use Rattle.scc_grammar.specs.Answer.{Gives};
-ghost use Rattle.scc_grammar.specs.Bodies as b;
-ghost use Rattle.scc_grammar.specs.Fields.{Again, fields_onto};
-ghost use Rattle.scc_grammar.specs.Marks as m;
-ghost use Rattle.scc_grammar.specs.ParseFile as p;
-ghost use Rattle.scc_grammar.specs.ParseItems as i;
-ghost use Rattle.scc_grammar.specs.ParseItems.{MemberStart as start};
-ghost use Rattle.scc_grammar.specs.ParseStatements as s;
-ghost use Rattle.scc_grammar.specs.Text.{mark, next_is, next_says, pick};
+ghost use Rattle.scc_terminals.specs.Answer.{Gives};
+ghost use Rattle.scc_syntax.specs.Bodies as b;
+ghost use Rattle.scc_syntax.specs.Fields.{Again, fields_onto};
+ghost use Rattle.scc_terminals.specs.Marks as m;
+ghost use Rattle.scc_syntax.specs.ParseFile as p;
+ghost use Rattle.scc_syntax.specs.ParseItems as i;
+ghost use Rattle.scc_syntax.specs.ParseItems.{MemberStart as start};
+ghost use Rattle.scc_syntax.specs.ParseStatements as s;
+ghost use Rattle.scc_terminals.specs.Text.{mark, next_is, next_says, pick};
 ghost use Rattle.scc_tree.specs.declared.ty.Ty as typing;
 ghost use Rattle.scc_reading.specs.Reading.{is_next, repeat, token};
 
 use crate::enumeration::{alias, enumeration};
-use crate::first::name_at;
 use crate::function::*;
-use crate::halt::{Halt, place_of};
-use crate::local::{decl, sizes};
-use crate::marks::*;
-use crate::next::*;
 use crate::outside::{before_constant, constant_twice, fronts, is_first_name, named_of};
-use crate::part::{Sort, TypeRead};
-use crate::reader::{Read, Reader};
-use crate::table::Table;
-use crate::terminal::{Seen, Terminal};
-use crate::types::{base_at, constant_type, is_constant, type_at};
-use crate::words::*;
 use scc_base::{List, Name, NoMemory, Place};
+use scc_expressiongrammar::first::name_at;
+use scc_expressiongrammar::types::{base_at, constant_type, is_constant, type_at};
+use scc_statementgrammar::local::{decl, sizes};
+use scc_terminals::halt::{Halt, place_of};
+use scc_terminals::marks::*;
+use scc_terminals::next::*;
+use scc_terminals::part::{Sort, TypeRead};
+use scc_terminals::reader::{Read, Reader};
+use scc_terminals::table::Table;
+use scc_terminals::terminal::{Seen, Terminal};
+use scc_terminals::words::*;
 use scc_tree::{Decl, Expr, Field, Hold, Item, Ty};
 use std::alloc::Global;
 
@@ -90,7 +90,7 @@ fn more_fields<'a>(c: Reader, members: &mut Members, typed: &[Seen], ts: &'a [Se
 }
 
 /// The rest of fields of a type, which the tokens `typed` begin with, behind the first one.
-#[tactic(auto, unfolding(crate::specs::ParseFile::fields_rest))]
+#[tactic(auto, unfolding(scc_syntax::specs::ParseFile::fields_rest))]
 fn fields_rest<'a>(
     c: Reader,
     members: &mut Members,
@@ -109,7 +109,7 @@ fn fields_rest<'a>(
 }
 
 // Fields of a type, behind the first one's name.
-#[tactic(auto, unfolding(crate::specs::ParseFile::fields_named))]
+#[tactic(auto, unfolding(scc_syntax::specs::ParseFile::fields_named))]
 fn fields_named<'a>(
     c: Reader,
     members: &mut Members,
@@ -131,7 +131,7 @@ fn fields_named<'a>(
     fields_rest(c, members, typed, ty, first, rest)
 }
 
-#[tactic(auto, unfolding(crate::specs::ParseFile::member_function))]
+#[tactic(auto, unfolding(scc_syntax::specs::ParseFile::member_function))]
 fn member_function<'a>(
     c: Reader,
     members: &mut Members,
@@ -146,7 +146,7 @@ fn member_function<'a>(
     Ok(((), rest))
 }
 
-#[tactic(auto, unfolding(crate::specs::ParseFile::member_constant))]
+#[tactic(auto, unfolding(scc_syntax::specs::ParseFile::member_constant))]
 fn member_constant<'a>(
     c: Reader,
     members: &mut Members,
@@ -171,7 +171,7 @@ fn no_front(found: &[bool]) -> bool
 }
 
 // Behind the name behind a type.
-#[tactic(auto, unfolding(crate::specs::ParseFile::member_named))]
+#[tactic(auto, unfolding(scc_syntax::specs::ParseFile::member_named))]
 fn member_named<'a>(
     c: Reader,
     members: &mut Members,
@@ -193,7 +193,7 @@ fn member_named<'a>(
     member_function(c, members, Some(ty), x, ts)
 }
 
-#[tactic(auto, unfolding(crate::specs::ParseFile::named_member))]
+#[tactic(auto, unfolding(scc_syntax::specs::ParseFile::named_member))]
 fn named_member<'a>(
     c: Reader,
     members: &mut Members,
@@ -231,7 +231,7 @@ fn is_held(found: &[bool], ts: &[Seen]) -> bool
 }
 
 // Behind a type.
-#[tactic(auto, unfolding(crate::specs::ParseFile::member_typed))]
+#[tactic(auto, unfolding(scc_syntax::specs::ParseFile::member_typed))]
 fn member_typed<'a>(
     c: Reader,
     members: &mut Members,
@@ -251,7 +251,7 @@ fn member_typed<'a>(
 }
 
 // Behind a `const`, which stands at the place and before these tokens.
-#[tactic(auto, using(crate::proofs::TypeAgain::again_constant), unfolding(crate::specs::ParseFile::constant_member))]
+#[tactic(auto, using(crate::proofs::TypeAgain::again_constant), unfolding(scc_syntax::specs::ParseFile::constant_member))]
 fn constant_member<'a>(
     c: Reader,
     members: &mut Members,
@@ -275,7 +275,7 @@ fn constant_member<'a>(
 }
 
 // What begins with a name.
-#[tactic(auto, using(crate::proofs::TypeAgain::again_named), unfolding(crate::specs::ParseFile::member_name))]
+#[tactic(auto, using(crate::proofs::TypeAgain::again_named), unfolding(scc_syntax::specs::ParseFile::member_name))]
 fn member_name<'a>(c: Reader, members: &mut Members, ts: &'a [Seen]) -> Read<'a, ()>
     ensures { Gives (λ r. (b.body_of c.entry.names.now members.new.items members.new.fields, r.1.now)) result (p.member_name c.entry.levels (b.body_of c.entry.names.now members.old.items members.old.fields) ts.now) }
 {
@@ -293,7 +293,7 @@ fn member_name<'a>(c: Reader, members: &mut Members, ts: &'a [Seen]) -> Read<'a,
 }
 
 // Behind `static` and `inline`.
-#[tactic(auto, using(crate::proofs::TypeAgain::again_base), unfolding(crate::specs::ParseFile::member_fronted))]
+#[tactic(auto, using(crate::proofs::TypeAgain::again_base), unfolding(scc_syntax::specs::ParseFile::member_fronted))]
 fn member_fronted<'a>(
     c: Reader,
     members: &mut Members,
@@ -319,7 +319,7 @@ fn member_fronted<'a>(
 }
 
 // Behind `public`, `private` or `protected`.
-#[tactic(auto, unfolding(crate::specs::ParseFile::member_by))]
+#[tactic(auto, unfolding(scc_syntax::specs::ParseFile::member_by))]
 fn access<'a>(c: Reader, members: &mut Members, w: Place, ts: &'a [Seen]) -> Read<'a, ()>
     ensures { Gives (λ r. (b.body_of c.entry.names.now members.new.items members.new.fields, r.1.now)) result (p.member_by c.entry.levels (b.body_of c.entry.names.now members.old.items members.old.fields) i.access_start w ts.now) }
 {
@@ -328,7 +328,7 @@ fn access<'a>(c: Reader, members: &mut Members, w: Place, ts: &'a [Seen]) -> Rea
 }
 
 // Behind `SC_HAS_PROCESS`.
-#[tactic(auto, unfolding(crate::specs::ParseFile::member_by))]
+#[tactic(auto, unfolding(scc_syntax::specs::ParseFile::member_by))]
 fn has_process<'a>(c: Reader, members: &mut Members, w: Place, ts: &'a [Seen]) -> Read<'a, ()>
     ensures { Gives (λ r. (b.body_of c.entry.names.now members.new.items members.new.fields, r.1.now)) result (p.member_by c.entry.levels (b.body_of c.entry.names.now members.old.items members.old.fields) i.has_process_start w ts.now) }
 {
@@ -340,7 +340,7 @@ fn has_process<'a>(c: Reader, members: &mut Members, w: Place, ts: &'a [Seen]) -
 }
 
 // Behind `SC_CTOR`.
-#[tactic(auto, unfolding(crate::specs::ParseFile::member_by))]
+#[tactic(auto, unfolding(scc_syntax::specs::ParseFile::member_by))]
 fn module_constructor<'a>(
     c: Reader,
     members: &mut Members,
@@ -360,7 +360,7 @@ fn module_constructor<'a>(
 }
 
 // Behind `explicit`.
-#[tactic(auto, unfolding(crate::specs::ParseFile::member_by))]
+#[tactic(auto, unfolding(scc_syntax::specs::ParseFile::member_by))]
 fn explicit<'a>(c: Reader, members: &mut Members, w: Place, ts: &'a [Seen]) -> Read<'a, ()>
     ensures { Gives (λ r. (b.body_of c.entry.names.now members.new.items members.new.fields, r.1.now)) result (p.member_by c.entry.levels (b.body_of c.entry.names.now members.old.items members.old.fields) i.explicit_start w ts.now) }
 {
@@ -371,7 +371,7 @@ fn explicit<'a>(c: Reader, members: &mut Members, w: Place, ts: &'a [Seen]) -> R
 }
 
 // Behind `typedef`.
-#[tactic(auto, unfolding(crate::specs::ParseFile::member_by, crate::specs::ParseItems::item_by))]
+#[tactic(auto, unfolding(scc_syntax::specs::ParseFile::member_by, scc_syntax::specs::ParseItems::item_by))]
 fn member_alias<'a>(
     alloc: Global,
     names: &mut Table,
@@ -388,7 +388,7 @@ fn member_alias<'a>(
 }
 
 // Behind `enum`.
-#[tactic(auto, unfolding(crate::specs::ParseFile::member_by, crate::specs::ParseItems::item_by))]
+#[tactic(auto, unfolding(scc_syntax::specs::ParseFile::member_by, scc_syntax::specs::ParseItems::item_by))]
 fn member_enumeration<'a>(
     alloc: Global,
     names: &mut Table,
@@ -405,7 +405,7 @@ fn member_enumeration<'a>(
 }
 
 /// A member.
-#[tactic(auto, unfolding(crate::specs::ParseFile::member, crate::specs::ParseFile::member_by))]
+#[tactic(auto, unfolding(scc_syntax::specs::ParseFile::member, scc_syntax::specs::ParseFile::member_by))]
 fn member<'a>(
     alloc: Global,
     names: &mut Table,
@@ -478,7 +478,7 @@ fn member<'a>(
 }
 
 /// Members, up to the brace that closes them.
-#[tactic(auto, unfolding(crate::specs::ParseFile::members))]
+#[tactic(auto, unfolding(scc_syntax::specs::ParseFile::members))]
 pub fn all_members<'a>(
     alloc: Global,
     names: &mut Table,

@@ -1,25 +1,25 @@
 //! Functions, constants and bodies outside their class, in files.
 ghost use Rattle.std.specs.Prelude.{◌≡◌, [], IfOk};
-ghost use Rattle.scc_grammar.specs.Answer.{Gives, onto};
-ghost use Rattle.scc_grammar.specs.Bodies as b;
-ghost use Rattle.scc_grammar.specs.ParseItems as p;
-ghost use Rattle.scc_grammar.specs.Text.{next_says, pick};
+ghost use Rattle.scc_terminals.specs.Answer.{Gives, onto};
+ghost use Rattle.scc_syntax.specs.Bodies as b;
+ghost use Rattle.scc_syntax.specs.ParseItems as p;
+ghost use Rattle.scc_terminals.specs.Text.{next_says, pick};
 ghost use Rattle.scc_reading.specs.Reading.{is_next, pure, repeat, token};
 
 use crate::enumeration::begins_name;
-use crate::first::name_at;
 use crate::function::*;
-use crate::halt::{Halt, place_of};
-use crate::marks::*;
-use crate::next::*;
-use crate::nodes::constant_of;
-use crate::part::{Sort, TypeRead};
-use crate::reader::{Read, Reader};
-use crate::stmt::block_of;
-use crate::terminal::{Seen, Terminal};
-use crate::types::{base_at, constant_type, is_constant, named_type, type_at};
-use crate::words::*;
 use scc_base::{List, Name, NoMemory, Place};
+use scc_expressiongrammar::first::name_at;
+use scc_expressiongrammar::types::{base_at, constant_type, is_constant, named_type, type_at};
+use scc_statementgrammar::stmt::block_of;
+use scc_terminals::halt::{Halt, place_of};
+use scc_terminals::marks::*;
+use scc_terminals::next::*;
+use scc_terminals::nodes::constant_of;
+use scc_terminals::part::{Sort, TypeRead};
+use scc_terminals::reader::{Read, Reader};
+use scc_terminals::terminal::{Seen, Terminal};
+use scc_terminals::words::*;
 use scc_tree::{FunctionTree, Item, ItemNode, Param, Ty, TyArg, TyNode};
 use std::alloc::Global;
 
@@ -75,7 +75,7 @@ fn more_fronts<'a>(found: List<bool>, ts: &'a [Seen]) -> Read<'a, List<bool>>
 }
 
 /// `static` and `inline`, each any number of times.
-#[tactic(auto, unfolding(crate::specs::ParseItems::fronts))]
+#[tactic(auto, unfolding(scc_syntax::specs::ParseItems::fronts))]
 pub fn fronts<'a>(alloc: Global, ts: &'a [Seen]) -> Read<'a, List<bool>>
     ensures { Gives (λ x. (x.0, x.1.now)) result (p.fronts ts.now) }
 {
@@ -150,7 +150,7 @@ fn outside_item(
 }
 
 /// The rest of a function outside its class, behind the class's name.
-#[tactic(auto, unfolding(crate::specs::ParseItems::outside_function))]
+#[tactic(auto, unfolding(scc_syntax::specs::ParseItems::outside_function))]
 fn outside_function<'a>(
     c: Reader,
     of_template: List<Param>,
@@ -174,7 +174,7 @@ fn outside_function<'a>(
 }
 
 /// The rest of a constructor outside its class, behind the class's name and its arguments.
-#[tactic(auto, unfolding(crate::specs::ParseItems::outside_constructor))]
+#[tactic(auto, unfolding(scc_syntax::specs::ParseItems::outside_constructor))]
 fn outside_constructor<'a>(
     c: Reader,
     of_template: List<Param>,
@@ -197,7 +197,7 @@ fn outside_constructor<'a>(
 }
 
 // Behind the name behind a type, or `void`.
-#[tactic(auto, unfolding(crate::specs::ParseItems::named_function))]
+#[tactic(auto, unfolding(scc_syntax::specs::ParseItems::named_function))]
 fn named_function<'a>(
     c: Reader,
     found: &[bool],
@@ -217,7 +217,7 @@ fn named_function<'a>(
 }
 
 // Behind a type.
-#[tactic(auto, unfolding(crate::specs::ParseItems::typed))]
+#[tactic(auto, unfolding(scc_syntax::specs::ParseItems::typed))]
 fn typed<'a>(c: Reader, found: &[bool], of: TypeRead, ts: &'a [Seen]) -> Read<'a, Item>
     ensures { Gives (λ x. (x.0, x.1.now)) result (p.typed c.entry.levels c.entry.names.now found.now of ts.now) }
 {
@@ -232,7 +232,7 @@ fn typed<'a>(c: Reader, found: &[bool], of: TypeRead, ts: &'a [Seen]) -> Read<'a
 }
 
 /// A constant behind its second `const`; the first one stands at the place.
-#[tactic(auto, unfolding(crate::specs::ParseItems::constant_twice))]
+#[tactic(auto, unfolding(scc_syntax::specs::ParseItems::constant_twice))]
 pub fn constant_twice<'a>(c: Reader, q: Place, ts: &'a [Seen]) -> Read<'a, Item>
     ensures { Gives (λ x. (x.0, x.1.now)) result (p.constant_twice c.entry.levels c.entry.names.now q ts.now) }
 {
@@ -242,7 +242,7 @@ pub fn constant_twice<'a>(c: Reader, q: Place, ts: &'a [Seen]) -> Read<'a, Item>
 }
 
 // Behind a `const`, which stands at the place.
-#[tactic(auto, unfolding(crate::specs::ParseItems::constant_by))]
+#[tactic(auto, unfolding(scc_syntax::specs::ParseItems::constant_by))]
 fn constant_by<'a>(c: Reader, found: &[bool], q: Place, ts: &'a [Seen]) -> Read<'a, Item>
     ensures { Gives (λ x. (x.0, x.1.now)) result (p.constant_by c.entry.levels c.entry.names.now found.now q ts.now) }
 {
@@ -255,7 +255,7 @@ fn constant_by<'a>(c: Reader, found: &[bool], q: Place, ts: &'a [Seen]) -> Read<
 }
 
 // What begins with a name.
-#[tactic(auto, unfolding(crate::specs::ParseItems::by_name))]
+#[tactic(auto, unfolding(scc_syntax::specs::ParseItems::by_name))]
 fn by_name<'a>(c: Reader, ts: &'a [Seen]) -> Read<'a, Item>
     ensures { Gives (λ x. (x.0, x.1.now)) result (p.by_name c.entry.levels c.entry.names.now ts.now) }
 {
@@ -271,7 +271,7 @@ fn by_name<'a>(c: Reader, ts: &'a [Seen]) -> Read<'a, Item>
 }
 
 /// A function, a constant or a body outside its class, behind `static` and `inline`.
-#[tactic(auto, unfolding(crate::specs::ParseItems::fronted))]
+#[tactic(auto, unfolding(scc_syntax::specs::ParseItems::fronted))]
 pub fn fronted<'a>(c: Reader, found: &[bool], ts: &'a [Seen]) -> Read<'a, Item>
     ensures { Gives (λ x. (x.0, x.1.now)) result (p.fronted c.entry.levels c.entry.names.now found.now ts.now) }
 {
@@ -292,7 +292,7 @@ pub fn fronted<'a>(c: Reader, found: &[bool], ts: &'a [Seen]) -> Read<'a, Item>
 }
 
 // Behind the parameters of a template, and `inline`.
-#[tactic(auto, unfolding(crate::specs::ParseItems::outside_result))]
+#[tactic(auto, unfolding(scc_syntax::specs::ParseItems::outside_result))]
 fn outside_result<'a>(c: Reader, params: List<Param>, ts: &'a [Seen]) -> Read<'a, Item>
     ensures { Gives (λ x. (x.0, x.1.now)) result (p.outside_result c.entry.levels c.entry.names.now params ts.now) }
 {
@@ -306,7 +306,7 @@ fn outside_result<'a>(c: Reader, params: List<Param>, ts: &'a [Seen]) -> Read<'a
     outside_function(c, params, Some(of.ty), x, rest)
 }
 
-#[tactic(auto, unfolding(crate::specs::ParseItems::outside_name))]
+#[tactic(auto, unfolding(scc_syntax::specs::ParseItems::outside_name))]
 fn outside_name<'a>(c: Reader, params: List<Param>, ts: &'a [Seen]) -> Read<'a, Item>
     ensures { Gives (λ x. (x.0, x.1.now)) result (p.outside_name c.entry.levels c.entry.names.now params ts.now) }
 {
@@ -324,7 +324,7 @@ fn outside_name<'a>(c: Reader, params: List<Param>, ts: &'a [Seen]) -> Read<'a, 
 }
 
 /// A body outside its class, behind the parameters of a template.
-#[tactic(auto, unfolding(crate::specs::ParseItems::outside))]
+#[tactic(auto, unfolding(scc_syntax::specs::ParseItems::outside))]
 pub fn outside<'a>(c: Reader, params: List<Param>, ts: &'a [Seen]) -> Read<'a, Item>
     ensures { Gives (λ x. (x.0, x.1.now)) result (p.outside c.entry.levels c.entry.names.now params ts.now) }
 {

@@ -1,22 +1,22 @@
 //! Parameters of templates.
 ghost use Rattle.std.specs.Prelude.{◌≡◌, ◌∷◌, ◌++◌, [], Some, None, true, false};
-ghost use Rattle.scc_grammar.specs.Answer.{Gives, onto_in};
-ghost use Rattle.scc_grammar.specs.ParseFile as p;
-ghost use Rattle.scc_grammar.specs.ParseItems as i;
-ghost use Rattle.scc_grammar.specs.Text.{pick};
+ghost use Rattle.scc_terminals.specs.Answer.{Gives, onto_in};
+ghost use Rattle.scc_syntax.specs.ParseFile as p;
+ghost use Rattle.scc_syntax.specs.ParseItems as i;
+ghost use Rattle.scc_terminals.specs.Text.{pick};
 ghost use Rattle.scc_reading.specs.Reading.{repeat_in, token};
 
-use crate::chain::additive;
-use crate::first::{close_unless, name_at};
-use crate::halt::{Halt, place_of};
-use crate::marks::*;
-use crate::next::*;
-use crate::nodes::one;
-use crate::reader::{Read, Reader};
-use crate::table::Table;
-use crate::terminal::{Seen, Terminal};
-use crate::types::{follows, type_at};
 use scc_base::{List, Name, Place};
+use scc_expressiongrammar::chain::additive;
+use scc_expressiongrammar::first::{close_unless, name_at};
+use scc_expressiongrammar::types::{follows, type_at};
+use scc_terminals::halt::{Halt, place_of};
+use scc_terminals::marks::*;
+use scc_terminals::next::*;
+use scc_terminals::nodes::one;
+use scc_terminals::reader::{Read, Reader};
+use scc_terminals::table::Table;
+use scc_terminals::terminal::{Seen, Terminal};
 use scc_tree::{Param, ParamSort, TyArg};
 use std::alloc::Global;
 
@@ -49,7 +49,7 @@ fn preset_of(x: (Name, Place), sort: ParamSort, preset: Option<TyArg>) -> Param
 }
 
 // Behind the name of a parameter that stands for a value.
-#[tactic(auto, unfolding(crate::specs::ParseFile::param_by))]
+#[tactic(auto, unfolding(scc_syntax::specs::ParseFile::param_by))]
 fn value_param<'a>(
     alloc: Global,
     names: &Table,
@@ -74,7 +74,7 @@ fn value_param<'a>(
 }
 
 // Behind the name of a parameter that stands for a type.
-#[tactic(auto, unfolding(crate::specs::ParseFile::param_by))]
+#[tactic(auto, unfolding(scc_syntax::specs::ParseFile::param_by))]
 fn type_param<'a>(
     alloc: Global,
     names: &mut Table,
@@ -101,7 +101,7 @@ fn type_param<'a>(
 }
 
 // A parameter, and whether a `>>` closed the list around it, too.
-#[tactic(auto, unfolding(crate::specs::ParseFile::param))]
+#[tactic(auto, unfolding(scc_syntax::specs::ParseFile::param))]
 fn param<'a>(
     alloc: Global,
     names: &mut Table,
@@ -152,7 +152,7 @@ fn more_params<'a>(
     Ok(((found, closed), rest))
 }
 
-#[tactic(auto, unfolding(crate::specs::ParseFile::params))]
+#[tactic(auto, unfolding(scc_syntax::specs::ParseFile::params))]
 fn params<'a>(
     alloc: Global,
     names: &mut Table,
@@ -169,7 +169,7 @@ fn params<'a>(
 }
 
 /// The parameters of a template, behind its word.
-#[tactic(auto, unfolding(crate::specs::ParseFile::template))]
+#[tactic(auto, unfolding(scc_syntax::specs::ParseFile::template))]
 pub fn template<'a>(
     alloc: Global,
     names: &mut Table,

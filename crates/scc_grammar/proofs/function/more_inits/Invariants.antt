@@ -1,8 +1,8 @@
 use Rattle.std.proofs.Common.{◌≡◌, length}
-use Rattle.scc_grammar.specs.Answer.{onto}
-use Rattle.scc_grammar.specs.Marks as m
-use Rattle.scc_grammar.specs.ParseItems as p
-use Rattle.scc_grammar.specs.Text.{next_is}
+use Rattle.scc_terminals.specs.Answer.{onto}
+use Rattle.scc_terminals.specs.Marks as m
+use Rattle.scc_syntax.specs.ParseItems as p
+use Rattle.scc_terminals.specs.Text.{next_is}
 use Rattle.scc_reading.specs.Reading.{repeat}
 use Rattle.scc_grammar.proofs.function.more_inits.Given as goal
 

@@ -1,7 +1,7 @@
 use Rattle.std.proofs.Common.{◌≡◌, length}
-use Rattle.scc_grammar.specs.Answer.{onto_in}
-use Rattle.scc_grammar.specs.ParseFile as p
-use Rattle.scc_grammar.specs.ParseItems as i
+use Rattle.scc_terminals.specs.Answer.{onto_in}
+use Rattle.scc_syntax.specs.ParseFile as p
+use Rattle.scc_syntax.specs.ParseItems as i
 use Rattle.scc_reading.specs.Reading.{repeat_in}
 use Rattle.scc_grammar.proofs.template.more_params.Given as goal
 

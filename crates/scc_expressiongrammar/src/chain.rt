@@ -1,0 +1,214 @@
+//! Expressions.
+ghost use Rattle.std.specs.Prelude.{◌≡◌, ◌∷◌, ◌++◌, ◌≤◌, ◌<◌, [], List, IfOk, is_some, true, false};
+ghost use Rattle.scc_terminals.specs.Answer.{Gives, onto, onto_in};
+ghost use Rattle.scc_terminals.specs.First as f;
+ghost use Rattle.scc_terminals.specs.Nodes as nodes;
+ghost use Rattle.scc_terminals.specs.Operators as o;
+ghost use Rattle.scc_syntax.specs.ParseExpressions as e;
+ghost use Rattle.scc_syntax.specs.ParseStatements.{inner};
+ghost use Rattle.scc_terminals.specs.Text.{next_says};
+ghost use Rattle.scc_reading.specs.Reading.{pure, repeat};
+
+use crate::first::*;
+use crate::opening::*;
+use crate::postfix::*;
+use crate::primary::*;
+use crate::types::*;
+use scc_base::{List, Name, NoMemory, Place};
+use scc_bits::{Kind, Word};
+use scc_terminals::halt::{Halt, place_of};
+use scc_terminals::marks::*;
+use scc_terminals::next::*;
+use scc_terminals::nodes::*;
+use scc_terminals::part::{Bracketed, Placed, Sort, TypeRead};
+use scc_terminals::reader::{Read, Reader};
+use scc_terminals::terminal::{Holder, Seen, Terminal};
+use scc_terminals::words::*;
+use scc_tree::{Expr, ExprNode, Family, Link, Part, PartNode, Ty, TyArg, TyNode};
+use std::alloc::Global;
+
+/// An operand with the operators before it.
+#[tactic(auto, unfolding(scc_syntax::specs::ParseExpressions::unary))]
+#[cycle(expression)]
+pub fn unary<'a>(c: Reader, ts: &'a [Seen]) -> Read<'a, Placed>
+    ensures { Gives (λ x. (x.0, x.1.now)) result (e.unary c.entry.names.now (inner c.entry.names.now c.entry.levels) ts.now) }
+{
+    if begins_operated(ts) {
+        let ((op, place), rest) = unary_operator_at(ts)?;
+        let (of, rest) = open_unary(c, rest)?;
+        let of = Expr::new(c.alloc, place, ExprNode::Unary { op, of })?;
+        return Ok((Placed { place, of }, rest));
+    }
+    if begins_paren_open(ts) {
+        let (place, rest) = paren_open(ts)?;
+        let (found, rest) = open_bracketed(c, rest)?;
+        let (of, rest) = after_open(c, place, found, rest)?;
+        return Ok((Placed { place, of }, rest));
+    }
+    let (first, rest) = primary(c, ts)?;
+    let place = first.place;
+    let (of, rest) = postfix_after(c, place, first.of, rest)?;
+    Ok((Placed { place, of }, rest))
+}
+
+#[cycle(expression)]
+pub fn operand<'a>(c: Reader, ts: &'a [Seen]) -> Read<'a, Expr>
+    ensures { Gives (λ x. (x.0, x.1.now)) result (e.operand c.entry.names.now (inner c.entry.names.now c.entry.levels) ts.now) }
+{
+    let (found, rest) = unary(c, ts)?;
+    Ok((found.of, rest))
+}
+
+#[cycle(expression)]
+pub fn link<'a>(c: Reader, k: u32, ts: &'a [Seen]) -> Read<'a, Link>
+    requires { k < 10 }
+    ensures { Gives (λ x. (x.0, x.1.now)) result (e.link_of c.entry.names.now (inner c.entry.names.now c.entry.levels) k ts.now) }
+{
+    let ((op, place), rest) = operator_at(k, ts)?;
+    let (first, rest) = unary(c, rest)?;
+    let (operand, rest) = chain_after(c, k, first.place, first.of, rest)?;
+    let of = Link { op, place, operand };
+    Ok((of, rest))
+}
+
+#[cycle(expression)]
+pub fn links<'a>(c: Reader, k: u32, ts: &'a [Seen]) -> Read<'a, List<Link>>
+    requires { k < 10 }
+    ensures { Gives (λ x. (x.0, x.1.now)) result (repeat (next_says (o.operator k)) (e.link_of c.entry.names.now (inner c.entry.names.now c.entry.levels) k) ts.now) }
+{
+    let mut found = List::new(c.alloc);
+    let mut rest = ts;
+    while begins_operator(k, rest) {
+        let (next, after) = link(c, k, rest)?;
+        found.push(next)?;
+        rest = after;
+    }
+    Ok((found, rest))
+}
+
+// The rest of a chain of the levels below `k`, whose first operand was read.
+#[tactic(auto, unfolding(scc_syntax::specs::ParseExpressions::chain_after))]
+#[cycle(expression)]
+pub fn chain_after<'a>(c: Reader, k: u32, p: Place, first: Expr, ts: &'a [Seen]) -> Read<'a, Expr>
+    requires { k ≤ 10 }
+    ensures { Gives (λ x. (x.0, x.1.now)) result (e.chain_after c.entry.names.now (inner c.entry.names.now c.entry.levels) k p first ts.now) }
+{
+    if k == 0 {
+        return Ok((first, ts));
+    }
+    let (low, rest) = chain_after(c, k - 1, p, first, ts)?;
+    let (found, rest) = links(c, k - 1, rest)?;
+    Ok((chain_of(c.alloc, p, low, found)?, rest))
+}
+
+#[tactic(auto, unfolding(scc_syntax::specs::ParseExpressions::choice_after))]
+#[cycle(expression)]
+pub fn choice_after<'a>(c: Reader, p: Place, test: Expr, ts: &'a [Seen]) -> Read<'a, Expr>
+    ensures { Gives (λ x. (x.0, x.1.now)) result (e.choice_after c.entry.names.now (inner c.entry.names.now c.entry.levels) p test ts.now) }
+{
+    if !begins_question(ts) {
+        return Ok((test, ts));
+    }
+    let (_, rest) = question(ts)?;
+    let (yes, rest) = open_expr(c, rest)?;
+    let (_, rest) = colon(rest)?;
+    let (no, rest) = open_expr(c, rest)?;
+    let node = ExprNode::Cond { test, yes, no };
+    Ok((Expr::new(c.alloc, p, node)?, rest))
+}
+
+#[tactic(auto, unfolding(scc_syntax::specs::ParseExpressions::expr_after))]
+#[cycle(expression)]
+pub fn expr_after<'a>(c: Reader, p: Place, first: Expr, ts: &'a [Seen]) -> Read<'a, Expr>
+    ensures { Gives (λ x. (x.0, x.1.now)) result (e.expr_after c.entry.names.now (inner c.entry.names.now c.entry.levels) p first ts.now) }
+{
+    let (test, rest) = chain_after(c, 10, p, first, ts)?;
+    choice_after(c, p, test, rest)
+}
+
+/// An expression.
+#[tactic(auto, unfolding(scc_syntax::specs::ParseExpressions::expr))]
+#[cycle(expression)]
+pub fn expr<'a>(c: Reader, ts: &'a [Seen]) -> Read<'a, Expr>
+    ensures { Gives (λ x. (x.0, x.1.now)) result (e.expr c.entry.names.now (inner c.entry.names.now c.entry.levels) ts.now) }
+{
+    let (first, rest) = unary(c, ts)?;
+    expr_after(c, first.place, first.of, rest)
+}
+
+/// Operands joined by `+`, `-` and the operators that bind tighter.
+#[tactic(auto, unfolding(scc_syntax::specs::ParseExpressions::additive))]
+#[cycle(expression)]
+pub fn additive<'a>(c: Reader, ts: &'a [Seen]) -> Read<'a, Expr>
+    ensures { Gives (λ x. (x.0, x.1.now)) result (e.additive c.entry.names.now (inner c.entry.names.now c.entry.levels) ts.now) }
+{
+    let (first, rest) = unary(c, ts)?;
+    chain_after(c, 2, first.place, first.of, rest)
+}
+
+#[tactic(auto, unfolding(scc_syntax::specs::ParseExpressions::postfix_of))]
+#[cycle(expression)]
+pub fn postfix_of<'a>(c: Reader, of: TypeRead, ts: &'a [Seen]) -> Read<'a, Expr>
+    ensures { Gives (λ x. (x.0, x.1.now)) result (e.postfix_of c.entry.names.now (inner c.entry.names.now c.entry.levels) of ts.now) }
+{
+    let p = of.place;
+    let (first, rest) = after_base(c, of, ts)?;
+    postfix_after(c, p, first, rest)
+}
+
+#[tactic(auto, unfolding(scc_syntax::specs::ParseExpressions::after_bracket_type))]
+#[cycle(expression)]
+pub fn after_bracket_type<'a>(c: Reader, of: TypeRead, ts: &'a [Seen]) -> Read<'a, Bracketed>
+    ensures { Gives (λ x. (x.0, x.1.now)) result (e.after_bracket_type c.entry.names.now (inner c.entry.names.now c.entry.levels) of ts.now) }
+{
+    if is_constant(of.sort) {
+        return Ok((Bracketed::AType(of.ty), ts));
+    }
+    if goes_on(ts) {
+        let p = of.place;
+        let (first, rest) = postfix_of(c, of, ts)?;
+        let (of, rest) = expr_after(c, p, first, rest)?;
+        return Ok((Bracketed::AnExpr(of), rest));
+    }
+    Ok((Bracketed::AType(of.ty), ts))
+}
+
+// What stands behind a `(`: a type, or the first expression.
+#[tactic(auto, unfolding(scc_syntax::specs::ParseExpressions::bracketed))]
+#[cycle(expression)]
+pub fn bracketed<'a>(c: Reader, ts: &'a [Seen]) -> Read<'a, Bracketed>
+    ensures { Gives (λ x. (x.0, x.1.now)) result (e.bracketed c.entry.names.now (inner c.entry.names.now c.entry.levels) ts.now) }
+{
+    if begins_type(c.names, ts) {
+        let (of, rest) = type_at(c, false, ts)?;
+        return after_bracket_type(c, of, rest);
+    }
+    let (of, rest) = expr(c, ts)?;
+    Ok((Bracketed::AnExpr(of), rest))
+}
+
+#[tactic(auto, unfolding(scc_syntax::specs::ParseExpressions::new_at))]
+#[cycle(expression)]
+pub fn new_at<'a>(c: Reader, ts: &'a [Seen]) -> Read<'a, Expr>
+    ensures { Gives (λ x. (x.0, x.1.now)) result (e.new_at c.entry.names.now (inner c.entry.names.now c.entry.levels) ts.now) }
+{
+    let (p, rest) = new_word(ts)?;
+    let (of, rest) = base_at(c, false, rest)?;
+    let (_, rest) = paren_open(rest)?;
+    let (args, rest) = cargs(c, rest)?;
+    let (_, rest) = paren_close(rest)?;
+    let node = ExprNode::Make { ty: of.ty, args };
+    Ok((Expr::new(c.alloc, p, node)?, rest))
+}
+
+/// An expression, or a `new` in its place.
+#[tactic(auto, unfolding(scc_syntax::specs::ParseExpressions::argument))]
+#[cycle(expression)]
+pub fn argument<'a>(c: Reader, ts: &'a [Seen]) -> Read<'a, Expr>
+    ensures { Gives (λ x. (x.0, x.1.now)) result (e.argument c.entry.names.now (inner c.entry.names.now c.entry.levels) ts.now) }
+{
+    if begins_new_word(ts) {
+        return new_at(c, ts);
+    }
+    expr(c, ts)
+}

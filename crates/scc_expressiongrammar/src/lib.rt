@@ -1,0 +1,9 @@
+//! Readers of types and expressions.
+#![tactic(auto)]
+
+pub mod chain;
+pub mod first;
+pub mod opening;
+pub mod postfix;
+pub mod primary;
+pub mod types;

@@ -1,0 +1,117 @@
+//! What opens a level among types and expressions.
+ghost use Rattle.std.specs.Prelude.{◌≡◌, ◌∷◌, ◌++◌, ◌≤◌, ◌<◌, [], List, IfOk, is_some, true, false};
+ghost use Rattle.scc_terminals.specs.Answer.{Gives, onto, onto_in};
+ghost use Rattle.scc_terminals.specs.First as f;
+ghost use Rattle.scc_terminals.specs.Nodes as nodes;
+ghost use Rattle.scc_terminals.specs.Operators as o;
+ghost use Rattle.scc_syntax.specs.ParseExpressions as e;
+ghost use Rattle.scc_syntax.specs.ParseStatements.{inner};
+ghost use Rattle.scc_terminals.specs.Text.{next_says};
+ghost use Rattle.scc_reading.specs.Reading.{pure, repeat};
+
+use crate::chain::*;
+use crate::first::*;
+use crate::types::*;
+use scc_base::{List, Name, NoMemory, Place};
+use scc_bits::{Kind, Word};
+use scc_terminals::halt::{Halt, place_of};
+use scc_terminals::marks::*;
+use scc_terminals::next::*;
+use scc_terminals::nodes::*;
+use scc_terminals::part::{Bracketed, Placed, Sort, TypeRead};
+use scc_terminals::reader::{Read, Reader};
+use scc_terminals::terminal::{Holder, Seen, Terminal};
+use scc_terminals::words::*;
+use scc_tree::{Expr, ExprNode, Family, Link, Part, PartNode, Ty, TyArg, TyNode};
+use std::alloc::Global;
+
+#[cycle(expression)]
+pub fn open_expr<'a>(c: Reader, ts: &'a [Seen]) -> Read<'a, Expr>
+    ensures { Gives (λ x. (x.0, x.1.now)) result ((inner c.entry.names.now c.entry.levels).expr ts.now) }
+{
+    if c.levels > 0 {
+        return expr(c.within(), ts);
+    }
+    if begins_expr(c.names, ts) {
+        return Err(Halt::TooDeep(place_of(ts)));
+    }
+    Err(Halt::Unexpected(place_of(ts)))
+}
+
+#[cycle(expression)]
+pub fn open_additive<'a>(c: Reader, ts: &'a [Seen]) -> Read<'a, Expr>
+    ensures { Gives (λ x. (x.0, x.1.now)) result ((inner c.entry.names.now c.entry.levels).additive ts.now) }
+{
+    if c.levels > 0 {
+        return additive(c.within(), ts);
+    }
+    if begins_expr(c.names, ts) {
+        return Err(Halt::TooDeep(place_of(ts)));
+    }
+    Err(Halt::Unexpected(place_of(ts)))
+}
+
+#[cycle(expression)]
+pub fn open_type<'a>(c: Reader, ts: &'a [Seen]) -> Read<'a, TypeRead>
+    ensures { Gives (λ x. (x.0, x.1.now)) result ((inner c.entry.names.now c.entry.levels).ty ts.now) }
+{
+    if c.levels > 0 {
+        return type_at(c.within(), true, ts);
+    }
+    if begins_type(c.names, ts) {
+        return Err(Halt::TooDeep(place_of(ts)));
+    }
+    Err(Halt::Unexpected(place_of(ts)))
+}
+
+#[cycle(expression)]
+pub fn open_ty_arg<'a>(c: Reader, ts: &'a [Seen]) -> Read<'a, (TyArg, bool)>
+    ensures { Gives (λ x. (x.0, x.1.now)) result ((inner c.entry.names.now c.entry.levels).ty_arg ts.now) }
+{
+    if c.levels > 0 {
+        return ty_arg(c.within(), ts);
+    }
+    if begins_ty_arg(c.names, ts) {
+        return Err(Halt::TooDeep(place_of(ts)));
+    }
+    Err(Halt::Unexpected(place_of(ts)))
+}
+
+#[cycle(expression)]
+pub fn open_bracketed<'a>(c: Reader, ts: &'a [Seen]) -> Read<'a, Bracketed>
+    ensures { Gives (λ x. (x.0, x.1.now)) result ((inner c.entry.names.now c.entry.levels).bracketed ts.now) }
+{
+    if c.levels > 0 {
+        return bracketed(c.within(), ts);
+    }
+    if begins_ty_arg(c.names, ts) {
+        return Err(Halt::TooDeep(place_of(ts)));
+    }
+    Err(Halt::Unexpected(place_of(ts)))
+}
+
+#[cycle(expression)]
+pub fn open_unary<'a>(c: Reader, ts: &'a [Seen]) -> Read<'a, Expr>
+    ensures { Gives (λ x. (x.0, x.1.now)) result ((inner c.entry.names.now c.entry.levels).unary ts.now) }
+{
+    if c.levels > 0 {
+        return operand(c.within(), ts);
+    }
+    if begins_expr(c.names, ts) {
+        return Err(Halt::TooDeep(place_of(ts)));
+    }
+    Err(Halt::Unexpected(place_of(ts)))
+}
+
+#[cycle(expression)]
+pub fn open_argument<'a>(c: Reader, ts: &'a [Seen]) -> Read<'a, Expr>
+    ensures { Gives (λ x. (x.0, x.1.now)) result ((inner c.entry.names.now c.entry.levels).argument ts.now) }
+{
+    if c.levels > 0 {
+        return argument(c.within(), ts);
+    }
+    if begins_argument(c.names, ts) {
+        return Err(Halt::TooDeep(place_of(ts)));
+    }
+    Err(Halt::Unexpected(place_of(ts)))
+}

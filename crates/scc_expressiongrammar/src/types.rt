@@ -1,0 +1,336 @@
+//! Types.
+ghost use Rattle.std.specs.Prelude.{◌≡◌, ◌∷◌, ◌++◌, ◌≤◌, ◌<◌, [], List, IfOk, is_some, true, false, not, ◌&&◌};
+ghost use Rattle.scc_terminals.specs.Answer.{Gives, onto, onto_in};
+ghost use Rattle.scc_terminals.specs.First as f;
+ghost use Rattle.scc_terminals.specs.Marks as m;
+ghost use Rattle.scc_terminals.specs.Nodes as nodes;
+ghost use Rattle.scc_terminals.specs.Operators as o;
+ghost use Rattle.scc_syntax.specs.ParseExpressions as e;
+ghost use Rattle.scc_syntax.specs.ParseStatements.{inner};
+ghost use Rattle.scc_terminals.specs.Text.{next_says};
+ghost use Rattle.scc_reading.specs.Reading.{pure, is_next};
+
+use crate::chain::*;
+use crate::first::*;
+use crate::opening::*;
+use crate::primary::*;
+use scc_base::{List, Name, NoMemory, Place};
+use scc_bits::{Kind, Word};
+use scc_terminals::halt::{Halt, place_of};
+use scc_terminals::marks::*;
+use scc_terminals::next::*;
+use scc_terminals::nodes::*;
+use scc_terminals::part::{Bracketed, Placed, Sort, TypeRead};
+use scc_terminals::reader::{Read, Reader};
+use scc_terminals::terminal::{Holder, Seen, Terminal};
+use scc_terminals::words::*;
+use scc_tree::{Expr, ExprNode, Family, Link, Part, PartNode, Ty, TyArg, TyNode};
+use std::alloc::Global;
+
+// An `int` that may stand there.
+#[tactic(auto, unfolding(scc_syntax::specs::ParseExpressions::int_word))]
+pub fn int_word(ts: &[Seen]) -> Read<'_, ()>
+    ensures { Gives (λ x. (x.0, x.1.now)) result (e.int_word ts.now) }
+{
+    if !begins_int(ts) {
+        return Ok(((), ts));
+    }
+    let (_, rest) = int(ts)?;
+    Ok(((), rest))
+}
+
+pub fn native(bits: u8, signed: bool) -> Kind
+    ensures { result ≡ nodes.native bits signed }
+{
+    Kind::Native { bits, signed }
+}
+
+// What may stand behind `signed` or `unsigned`.
+#[tactic(auto, unfolding(scc_syntax::specs::ParseExpressions::integer))]
+pub fn integer(signed: bool, ts: &[Seen]) -> Read<'_, Kind>
+    ensures { Gives (λ x. (x.0, x.1.now)) result (e.integer signed ts.now) }
+{
+    if begins_int(ts) {
+        let (_, rest) = int(ts)?;
+        return Ok((native(32, signed), rest));
+    }
+    if begins_short(ts) {
+        let (_, rest) = short(ts)?;
+        let (_, rest) = int_word(rest)?;
+        return Ok((native(16, signed), rest));
+    }
+    if begins_char(ts) {
+        let (_, rest) = char(ts)?;
+        return Ok((native(8, signed), rest));
+    }
+    Ok((native(32, signed), ts))
+}
+
+pub fn word_type(
+    alloc: Global,
+    place: Place,
+    node: TyNode,
+    both: bool,
+) -> Result<TypeRead, NoMemory>
+    ensures { IfOk result (λ t. t ≡ e.word_type place (nodes.base_of place node) both) }
+{
+    Ok(TypeRead {
+        place,
+        ty: base_of(alloc, place, node)?,
+        sort: Sort::Word,
+        both,
+    })
+}
+
+pub fn named_type(
+    alloc: Global,
+    place: Place,
+    node: TyNode,
+    both: bool,
+) -> Result<TypeRead, NoMemory>
+    ensures { IfOk result (λ t. t ≡ e.named_type place (nodes.base_of place node) both) }
+{
+    Ok(TypeRead {
+        place,
+        ty: base_of(alloc, place, node)?,
+        sort: Sort::Named,
+        both,
+    })
+}
+
+pub fn clock_type(alloc: Global, place: Place) -> Result<TypeRead, NoMemory>
+    ensures { IfOk result (λ t. t ≡ e.word_type place (nodes.clock_of place) false) }
+{
+    let of = base_of(alloc, place, TyNode::Number(Kind::Bool))?;
+    word_type(alloc, place, TyNode::Input(of), false)
+}
+
+// Whether one more argument follows, where the last one may have closed the list.
+pub fn follows(closed: bool, ts: &[Seen]) -> bool
+    ensures { result ≡ is_next (λ s. not closed && m.comma s.terminal) ts.now }
+{
+    match ts {
+        [t, ..] => !closed && matches!(t.terminal, Terminal::Comma),
+        [] => false,
+    }
+}
+
+#[cycle(expression)]
+pub fn one_ty_arg<'a>(c: Reader, ts: &'a [Seen]) -> Read<'a, (TyArg, bool)>
+    ensures { Gives (λ x. (x.0, x.1.now)) result (e.one_ty_arg c.entry.names.now (inner c.entry.names.now c.entry.levels) false ts.now) }
+{
+    let (_, rest) = comma(ts)?;
+    open_ty_arg(c, rest)
+}
+
+#[cycle(expression)]
+pub fn more_ty_args<'a>(
+    c: Reader,
+    found: List<TyArg>,
+    closed: bool,
+    ts: &'a [Seen],
+) -> Read<'a, (List<TyArg>, bool)>
+    ensures { Gives (λ x. (x.0, x.1.now)) result (onto_in found (e.more_ty_args c.entry.names.now (inner c.entry.names.now c.entry.levels) closed) ts.now) }
+{
+    let mut found = found;
+    let mut closed = closed;
+    let mut rest = ts;
+    while follows(closed, rest) {
+        let ((next, both), after) = one_ty_arg(c, rest)?;
+        found.push(next)?;
+        closed = both;
+        rest = after;
+    }
+    Ok(((found, closed), rest))
+}
+
+/// The arguments behind a `<`, and what closes them.
+#[tactic(auto, unfolding(scc_syntax::specs::ParseExpressions::ty_args))]
+#[cycle(expression)]
+pub fn ty_args<'a>(c: Reader, inside: bool, ts: &'a [Seen]) -> Read<'a, (List<TyArg>, bool)>
+    ensures { Gives (λ x. (x.0, x.1.now)) result (e.ty_args c.entry.names.now (inner c.entry.names.now c.entry.levels) inside ts.now) }
+{
+    if begins_close(ts) {
+        let (both, rest) = close(inside, ts)?;
+        return Ok(((List::new(c.alloc), both), rest));
+    }
+    let ((first, closed), rest) = open_ty_arg(c, ts)?;
+    let found = one(c.alloc, first)?;
+    let ((found, closed), rest) = more_ty_args(c, found, closed, rest)?;
+    let (both, rest) = close_unless(closed, inside, rest)?;
+    Ok(((found, both), rest))
+}
+
+/// The rest of a type behind its name, which stands at the place.
+#[tactic(auto, unfolding(scc_syntax::specs::ParseExpressions::named_by))]
+#[cycle(expression)]
+pub fn named_by<'a>(
+    c: Reader,
+    inside: bool,
+    x: Name,
+    p: Place,
+    ts: &'a [Seen],
+) -> Read<'a, TypeRead>
+    ensures { Gives (λ x. (x.0, x.1.now)) result (e.named_by c.entry.names.now (inner c.entry.names.now c.entry.levels) inside x p ts.now) }
+{
+    if c.names.is_template(x) && begins_less(ts) {
+        let (_, rest) = less(ts)?;
+        let ((args, both), rest) = ty_args(c, inside, rest)?;
+        let node = TyNode::Named {
+            name: x,
+            args: Some(args),
+        };
+        return Ok((named_type(c.alloc, p, node, both)?, rest));
+    }
+    let node = TyNode::Named {
+        name: x,
+        args: None,
+    };
+    Ok((named_type(c.alloc, p, node, false)?, ts))
+}
+
+#[tactic(auto, unfolding(scc_syntax::specs::ParseExpressions::base_by))]
+#[cycle(expression)]
+pub fn sized_rest<'a>(
+    c: Reader,
+    inside: bool,
+    family: Family,
+    p: Place,
+    ts: &'a [Seen],
+) -> Read<'a, TypeRead>
+    ensures { Gives (λ x. (x.0, x.1.now)) result (e.base_by c.entry.names.now (inner c.entry.names.now c.entry.levels) inside (f.sized_start family) p ts.now) }
+{
+    let (_, rest) = less(ts)?;
+    let (width, rest) = open_additive(c, rest)?;
+    let (both, rest) = close(inside, rest)?;
+    let node = TyNode::Sized { family, width };
+    Ok((word_type(c.alloc, p, node, both)?, rest))
+}
+
+#[tactic(auto, unfolding(scc_syntax::specs::ParseExpressions::base_by))]
+#[cycle(expression)]
+pub fn holder_rest<'a>(
+    c: Reader,
+    inside: bool,
+    holder: Holder,
+    p: Place,
+    ts: &'a [Seen],
+) -> Read<'a, TypeRead>
+    ensures { Gives (λ x. (x.0, x.1.now)) result (e.base_by c.entry.names.now (inner c.entry.names.now c.entry.levels) inside (f.holder_start holder) p ts.now) }
+{
+    let (_, rest) = less(ts)?;
+    let (of, rest) = open_type(c, rest)?;
+    let (both, rest) = close_unless(of.both, inside, rest)?;
+    let node = held(holder, of.ty);
+    Ok((word_type(c.alloc, p, node, both)?, rest))
+}
+
+/// A type without `const`.
+#[tactic(auto, unfolding(scc_syntax::specs::ParseExpressions::base_at, scc_syntax::specs::ParseExpressions::base_by))]
+#[cycle(expression)]
+pub fn base_at<'a>(c: Reader, inside: bool, ts: &'a [Seen]) -> Read<'a, TypeRead>
+    ensures { Gives (λ x. (x.0, x.1.now)) result (e.base_at c.entry.names.now (inner c.entry.names.now c.entry.levels) inside ts.now) }
+{
+    let [t, rest @ ..] = ts else {
+        return Err(Halt::Unexpected(None));
+    };
+    let p = t.place;
+    match t.terminal {
+        Terminal::Bool => number_type(c.alloc, p, Kind::Bool, rest),
+        Terminal::Int => number_type(c.alloc, p, native(32, true), rest),
+        Terminal::Long(signed) => number_type(c.alloc, p, native(64, signed), rest),
+        Terminal::Short => {
+            let (_, rest) = int_word(rest)?;
+            number_type(c.alloc, p, native(16, true), rest)
+        }
+        Terminal::Signed => {
+            let (kind, rest) = integer(true, rest)?;
+            number_type(c.alloc, p, kind, rest)
+        }
+        Terminal::Unsigned => {
+            let (kind, rest) = integer(false, rest)?;
+            number_type(c.alloc, p, kind, rest)
+        }
+        Terminal::Sized(family) => sized_rest(c, inside, family, p, rest),
+        Terminal::Holder(holder) => holder_rest(c, inside, holder, p, rest),
+        Terminal::ClockInput => Ok((clock_type(c.alloc, p)?, rest)),
+        Terminal::ModuleName => Ok((word_type(c.alloc, p, TyNode::ModuleName, false)?, rest)),
+        Terminal::Ident(x) if c.names.is_type(x) => named_by(c, inside, x, p, rest),
+        _ => Err(Halt::Unexpected(place_of(ts))),
+    }
+}
+
+// A number's type, which is read.
+pub fn number_type(alloc: Global, place: Place, kind: Kind, ts: &[Seen]) -> Read<'_, TypeRead>
+    ensures { Gives (λ x. (x.0, x.1.now)) result (pure (e.number_type place kind) ts.now) }
+{
+    Ok((word_type(alloc, place, TyNode::Number(kind), false)?, ts))
+}
+
+pub fn constant_type(place: Place, of: TypeRead) -> TypeRead
+    ensures { result ≡ e.constant_type place of }
+{
+    TypeRead {
+        place,
+        ty: constant_of(place, of.ty),
+        sort: Sort::Constant,
+        both: of.both,
+    }
+}
+
+pub fn is_constant(sort: Sort) -> bool
+    ensures { result ≡ e.is_constant sort }
+{
+    matches!(sort, Sort::Constant)
+}
+
+pub fn is_named(sort: Sort) -> bool
+    ensures { result ≡ e.is_named sort }
+{
+    matches!(sort, Sort::Named)
+}
+
+/// A type; `inside` says whether it stands in a list between angle brackets.
+#[tactic(auto, unfolding(scc_syntax::specs::ParseExpressions::type_at))]
+#[cycle(expression)]
+pub fn type_at<'a>(c: Reader, inside: bool, ts: &'a [Seen]) -> Read<'a, TypeRead>
+    ensures { Gives (λ x. (x.0, x.1.now)) result (e.type_at c.entry.names.now (inner c.entry.names.now c.entry.levels) inside ts.now) }
+{
+    if begins_constant(ts) {
+        let (p, rest) = constant(ts)?;
+        let (of, rest) = base_at(c, inside, rest)?;
+        return Ok((constant_type(p, of), rest));
+    }
+    base_at(c, inside, ts)
+}
+
+#[tactic(auto, unfolding(scc_syntax::specs::ParseExpressions::after_arg_type))]
+#[cycle(expression)]
+pub fn after_arg_type<'a>(c: Reader, of: TypeRead, ts: &'a [Seen]) -> Read<'a, (TyArg, bool)>
+    ensures { Gives (λ x. (x.0, x.1.now)) result (e.after_arg_type c.entry.names.now (inner c.entry.names.now c.entry.levels) of ts.now) }
+{
+    if of.both || is_constant(of.sort) {
+        let both = of.both;
+        return Ok(((TyArg::Named(of.ty), both), ts));
+    }
+    if goes_on(ts) {
+        let p = of.place;
+        let (first, rest) = postfix_of(c, of, ts)?;
+        let (of, rest) = chain_after(c, 2, p, first, rest)?;
+        return Ok(((TyArg::Value(of), false), rest));
+    }
+    Ok(((TyArg::Named(of.ty), false), ts))
+}
+
+#[tactic(auto, unfolding(scc_syntax::specs::ParseExpressions::ty_arg))]
+#[cycle(expression)]
+pub fn ty_arg<'a>(c: Reader, ts: &'a [Seen]) -> Read<'a, (TyArg, bool)>
+    ensures { Gives (λ x. (x.0, x.1.now)) result (e.ty_arg c.entry.names.now (inner c.entry.names.now c.entry.levels) ts.now) }
+{
+    if begins_type(c.names, ts) {
+        let (of, rest) = type_at(c, true, ts)?;
+        return after_arg_type(c, of, rest);
+    }
+    let (of, rest) = additive(c, ts)?;
+    Ok(((TyArg::Value(of), false), rest))
+}

@@ -1,0 +1,2 @@
+//! Whatever is of the grammar is read, and has one tree. Lemmas alone, which other crates cite.
+#![tactic(auto)]

@@ -1,0 +1,10 @@
+pub mod SoundMarks
+pub mod SoundRules
+pub mod SoundTypes
+pub mod SoundExpressions
+pub mod SoundStatements
+pub mod SoundLeaves
+pub mod SoundLevels
+pub mod SoundItems
+pub mod SoundFile
+pub mod Loops

@@ -1,0 +1,181 @@
+//! Declared names and local variables.
+ghost use Rattle.std.specs.Prelude.{◌≡◌, IfOk, false, true};
+ghost use Rattle.scc_terminals.specs.Answer.{Gives, onto};
+ghost use Rattle.scc_terminals.specs.Marks as m;
+ghost use Rattle.scc_terminals.specs.Names as names;
+ghost use Rattle.scc_syntax.specs.ParseStatements as s;
+ghost use Rattle.scc_syntax.specs.ParseStatements.{inner};
+ghost use Rattle.scc_terminals.specs.StatementNodes as nodes;
+ghost use Rattle.scc_syntax.specs.Statements as statements;
+ghost use Rattle.scc_terminals.specs.Text.{next_is, next_says, pick};
+ghost use Rattle.scc_reading.specs.Reading.{is_next, token};
+ghost use Rattle.scc_tree.specs.Node.{stmt_of};
+
+use scc_base::{List, Name, NoMemory, Place};
+use scc_bits::Op;
+use scc_expressiongrammar::chain::{additive, argument, expr, unary};
+use scc_expressiongrammar::first::*;
+use scc_expressiongrammar::opening::{open_bracketed, open_expr, open_unary};
+use scc_expressiongrammar::postfix::{after_brackets, parts};
+use scc_expressiongrammar::primary::{after_base, plain};
+use scc_expressiongrammar::types::{base_at, is_constant, type_at};
+use scc_terminals::halt::{Halt, place_of};
+use scc_terminals::marks::*;
+use scc_terminals::next::*;
+use scc_terminals::nodes::{one, parts_of};
+use scc_terminals::part::{Bracketed, Line, TypeRead};
+use scc_terminals::reader::{Read, Reader};
+use scc_terminals::table::Table;
+use scc_terminals::terminal::{Seen, Terminal};
+use scc_terminals::words::*;
+use scc_tree::{
+    Decl, Expr, ExprNode, ForFirst, Hold, LocalDecl, LocalTree, SimpleNode, SimpleTree, Stmt,
+    StmtNode, SwitchItem, SwitchNode, Ty,
+};
+use std::alloc::Global;
+
+/// What may stand before a declared name.
+#[tactic(auto, unfolding(scc_syntax::specs::ParseStatements::hold_at))]
+pub fn hold_at(ts: &[Seen]) -> Read<'_, Hold>
+    ensures { Gives (λ x. (x.0, x.1.now)) result (s.hold_at ts.now) }
+{
+    if begins_star_mark(ts) {
+        let (_, rest) = star_mark(ts)?;
+        return Ok((Hold::Pointer, rest));
+    }
+    if begins_and_mark(ts) {
+        let (_, rest) = and_mark(ts)?;
+        return Ok((Hold::Reference, rest));
+    }
+    Ok((Hold::Direct, ts))
+}
+
+pub fn begins_hold(ts: &[Seen]) -> bool
+    ensures { result ≡ is_next (next_is s.begins_hold) ts.now }
+{
+    begins_star_mark(ts) || begins_and_mark(ts)
+}
+
+pub fn decl_of(hold: Hold, x: (Name, Place), sizes: List<Expr>) -> Decl
+    ensures { result ≡ nodes.decl_of hold x sizes }
+{
+    let (name, place) = x;
+    Decl {
+        place,
+        name,
+        hold,
+        sizes,
+    }
+}
+
+pub fn one_size<'a>(c: Reader, ts: &'a [Seen]) -> Read<'a, Expr>
+    ensures { Gives (λ x. (x.0, x.1.now)) result (s.one_size c.entry.names.now (inner c.entry.names.now c.entry.levels) ts.now) }
+{
+    let (_, rest) = bracket_open(ts)?;
+    let (of, rest) = open_expr(c, rest)?;
+    let (_, rest) = bracket_close(rest)?;
+    Ok((of, rest))
+}
+
+/// The sizes of an array behind its name.
+pub fn sizes<'a>(c: Reader, ts: &'a [Seen]) -> Read<'a, List<Expr>>
+    ensures { Gives (λ x. (x.0, x.1.now)) result (s.sizes c.entry.names.now (inner c.entry.names.now c.entry.levels) ts.now) }
+{
+    let mut found = List::new(c.alloc);
+    let mut rest = ts;
+    while begins_bracket_open(rest) {
+        let (next, after) = one_size(c, rest)?;
+        found.push(next)?;
+        rest = after;
+    }
+    Ok((found, rest))
+}
+
+#[tactic(auto, unfolding(scc_syntax::specs::ParseStatements::decl_after))]
+pub fn decl_after<'a>(c: Reader, hold: Hold, ts: &'a [Seen]) -> Read<'a, Decl>
+    ensures { Gives (λ x. (x.0, x.1.now)) result (s.decl_after c.entry.names.now (inner c.entry.names.now c.entry.levels) hold ts.now) }
+{
+    let (x, rest) = name_at(ts)?;
+    let (found, rest) = sizes(c, rest)?;
+    Ok((decl_of(hold, x, found), rest))
+}
+
+/// A declared name with the sizes of its arrays.
+#[tactic(auto, unfolding(scc_syntax::specs::ParseStatements::decl))]
+pub fn decl<'a>(c: Reader, ts: &'a [Seen]) -> Read<'a, Decl>
+    ensures { Gives (λ x. (x.0, x.1.now)) result (s.decl c.entry.names.now (inner c.entry.names.now c.entry.levels) ts.now) }
+{
+    let (hold, rest) = hold_at(ts)?;
+    decl_after(c, hold, rest)
+}
+
+/// An expression in brackets.
+#[tactic(auto, unfolding(scc_syntax::specs::ParseStatements::condition))]
+pub fn condition<'a>(c: Reader, ts: &'a [Seen]) -> Read<'a, Expr>
+    ensures { Gives (λ x. (x.0, x.1.now)) result (s.condition c.entry.names.now (inner c.entry.names.now c.entry.levels) ts.now) }
+{
+    let (_, rest) = paren_open(ts)?;
+    let (of, rest) = open_expr(c, rest)?;
+    let (_, rest) = paren_close(rest)?;
+    Ok((of, rest))
+}
+
+#[tactic(auto, unfolding(scc_syntax::specs::ParseStatements::value))]
+pub fn value<'a>(c: Reader, ts: &'a [Seen]) -> Read<'a, Option<Expr>>
+    ensures { Gives (λ x. (x.0, x.1.now)) result (s.value c.entry.names.now (inner c.entry.names.now c.entry.levels) ts.now) }
+{
+    if begins_assign(ts) {
+        let (_, rest) = assign(ts)?;
+        let (of, rest) = expr(c, rest)?;
+        return Ok((Some(of), rest));
+    }
+    if begins_paren_open(ts) {
+        let (of, rest) = condition(c, ts)?;
+        return Ok((Some(of), rest));
+    }
+    Ok((None, ts))
+}
+
+#[tactic(auto, unfolding(scc_syntax::specs::ParseStatements::local_decl))]
+pub fn local_decl<'a>(c: Reader, ts: &'a [Seen]) -> Read<'a, LocalDecl>
+    ensures { Gives (λ x. (x.0, x.1.now)) result (s.local_decl c.entry.names.now (inner c.entry.names.now c.entry.levels) ts.now) }
+{
+    let (decl, rest) = decl(c, ts)?;
+    let (value, rest) = value(c, rest)?;
+    Ok((LocalDecl { decl, value }, rest))
+}
+
+pub fn one_local<'a>(c: Reader, ts: &'a [Seen]) -> Read<'a, LocalDecl>
+    ensures { Gives (λ x. (x.0, x.1.now)) result (s.one_local c.entry.names.now (inner c.entry.names.now c.entry.levels) ts.now) }
+{
+    let (_, rest) = comma(ts)?;
+    local_decl(c, rest)
+}
+
+pub fn more_locals<'a>(
+    c: Reader,
+    found: List<LocalDecl>,
+    ts: &'a [Seen],
+) -> Read<'a, List<LocalDecl>>
+    ensures { Gives (λ x. (x.0, x.1.now)) result (onto found (s.more_locals c.entry.names.now (inner c.entry.names.now c.entry.levels)) ts.now) }
+{
+    let mut found = found;
+    let mut rest = ts;
+    while begins_comma(rest) {
+        let (next, after) = one_local(c, rest)?;
+        found.push(next)?;
+        rest = after;
+    }
+    Ok((found, rest))
+}
+
+/// Local variables behind their type.
+#[tactic(auto, unfolding(scc_syntax::specs::ParseStatements::local_after))]
+pub fn local_after<'a>(c: Reader, ty: Ty, ts: &'a [Seen]) -> Read<'a, LocalTree>
+    ensures { Gives (λ x. (x.0, x.1.now)) result (s.local_after c.entry.names.now (inner c.entry.names.now c.entry.levels) ty ts.now) }
+{
+    let (first, rest) = local_decl(c, ts)?;
+    let names = one(c.alloc, first)?;
+    let (names, rest) = more_locals(c, names, rest)?;
+    Ok((LocalTree { ty, names }, rest))
+}

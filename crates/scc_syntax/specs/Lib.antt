@@ -1,0 +1,14 @@
+pub mod Expressions
+pub mod LevelsOfExpressions
+pub mod ParseExpressions
+pub mod Statements
+pub mod LevelsOfStatements
+pub mod ParseStatements
+pub mod Bodies
+pub mod Items
+pub mod LevelsOfItems
+pub mod ParseItems
+pub mod ParseFile
+pub mod Fields
+pub mod Laws
+pub mod Claim

@@ -1,0 +1,10 @@
+pub mod Names
+pub mod Text
+pub mod Marks
+pub mod Nodes
+pub mod Operators
+pub mod Answer
+pub mod First
+pub mod Inner
+pub mod StatementNodes
+pub mod View
