@@ -2,6 +2,7 @@
 """Runs the examples of docs/errors, and says where a refusal isn't the one that stands there.
 
     tools/error_examples.py [PAGE ..] [--scc CMD] [--write] [--data]
+    tools/error_examples.py --table | --check
 
 A page has, below the heading of a code, blocks of files and blocks of commands:
 
@@ -17,6 +18,9 @@ A page has, below the heading of a code, blocks of files and blocks of commands:
 In a file `{{N*text}}` stands for the text N times, in which `{#}` is the number of the time, from 0. --write puts in the
 place of each refusal what the program says; --data prints all examples as JSON, one a line: its code, words, files and
 refusal.
+
+--table writes the examples as tables of the crate scc_error_tests, whose tests the gate runs, and --check says where the
+tables aren't what the pages say: neither needs a built program.
 """
 import argparse
 import json
@@ -32,6 +36,10 @@ PAGES = sorted((REPOSITORY / "docs" / "errors").glob("[0-9]-*.md"))
 FENCE = re.compile(r"^```(\S+)(?: (\S+))?\n(.*?)^```$", re.M | re.S)
 HEADING = re.compile(r"^## E(\d+) (.*)$", re.M)
 REPEAT = re.compile(r"\{\{(\d+)\*(.*?)\}\}", re.S)
+TABLES = REPOSITORY / "crates" / "scc_error_tests" / "src"
+
+# options that stand in a page before the program has them: their examples aren't in the tables yet
+LATER = {"--clocks", "--hier"}
 
 
 def expanded(text):
@@ -91,13 +99,98 @@ def wrong(example, scc):
     return None
 
 
+def pieces(text):
+    """The parts of a file, each with how many times it stands."""
+    place = 0
+    for match in REPEAT.finditer(text):
+        if place < match.start():
+            yield 1, text[place:match.start()]
+        yield int(match.group(1)), match.group(2)
+        place = match.end()
+    if place < len(text):
+        yield 1, text[place:]
+
+
+def quoted(text):
+    return '"' + text.replace("\\", "\\\\").replace('"', '\\"') + '"'
+
+
+def listed(field, kind, items):
+    """The lines of a field that is a list of structs, each given by its lines."""
+    if not items:
+        yield f"{field}: &[],"
+        return
+    one = len(items) == 1
+    yield f"{field}: &[" + (f"{kind} {{" if one else "")
+    for item in items:
+        if one:
+            yield from ("    " + line for line in item)
+            continue
+        yield f"    {kind} {{"
+        yield from ("        " + line for line in item)
+        yield "    },"
+    yield ("}" if one else "") + "],"
+
+
+def texts_of(part, columns):
+    """The lines of a part's texts, where so many columns are left."""
+    items = [quoted(text) for text in part.split("{#}")]
+    line = f"texts: &[{', '.join(items)}],"
+    if len(line) <= columns and "\n" not in line:
+        return [line]
+    return ["texts: &[", *(f"    {item}," for item in items), "],"]
+
+
+def rows(example):
+    """An example as an expression, laid out as `rt fmt` does it."""
+    files = []
+    for name, text in example.files.items():
+        found = list(pieces(text))
+        columns = 84 - 4 * (len(example.files) > 1) - 4 * (len(found) > 1)
+        parts = [[f"times: {times},", *texts_of(part, columns)] for times, part in found]
+        files.append([f"name: {quoted(name)},", *listed("parts", "Part", parts)])
+    words = ", ".join(map(quoted, example.words))
+    lines = [f"words: &[{words}],", *listed("files", "File", files), f"refusal: {quoted(example.refusal)},"]
+    return ["    Example {", *("        " + line for line in lines), "    },"]
+
+
+def table(page):
+    """The file of the examples of a page: its path and its text."""
+    name = "examples_" + page.stem.partition("-")[2].replace("-", "_")
+    lines = [
+        f"//! The examples of docs/errors/{page.name}, as tools/error_examples.py --table writes them.",
+        "use crate::example::{Example, File, Part};",
+        "",
+        "pub const EXAMPLES: &[Example] = &[",
+    ]
+    for example in examples_of(page):
+        if not LATER.intersection(example.words):
+            lines.extend(rows(example))
+    return TABLES / f"{name}.rt", "\n".join([*lines, "];", ""])
+
+
+def settled(path, text, write):
+    """Whether a table isn't what its page says; said, and written if asked."""
+    if path.exists() and path.read_text() == text:
+        return False
+    if write:
+        path.write_text(text)
+        return False
+    print(f"{path.relative_to(REPOSITORY)} isn't what the page says: tools/error_examples.py --table writes it")
+    return True
+
+
 def main():
     parser = argparse.ArgumentParser(description=__doc__, formatter_class=argparse.RawDescriptionHelpFormatter)
     parser.add_argument("pages", metavar="PAGE", nargs="*", type=Path)
     parser.add_argument("--scc", default=str(REPOSITORY / "scc"))
     parser.add_argument("--write", action="store_true")
     parser.add_argument("--data", action="store_true")
+    parser.add_argument("--table", action="store_true")
+    parser.add_argument("--check", action="store_true")
     a = parser.parse_args()
+    if a.table or a.check:
+        sys.exit(any([settled(*table(page), a.table) for page in PAGES]))
     scc = [str(Path(w).resolve()) if Path(w).exists() else w for w in shlex.split(a.scc)]
     passed = failed = 0
     for page in a.pages or PAGES:
