@@ -3,5 +3,5 @@
 # ratios. Tools that aren't installed are left out. Fails where `scc` is slower on one of the two larger designs.
 set -euo pipefail
 cd "$(dirname "$0")/.."
-./scc compile And examples/and.cpp >/dev/null
+[[ -n ${SCC:-} ]] || ./scc compile And examples/and.cpp >/dev/null
 exec python3 bench/run.py "${SCC:-crates/scc/out/scc}"

@@ -10,7 +10,10 @@ mod module;
 mod operator;
 mod stmt;
 
-pub use module::read_raw;
+pub use block::block;
+pub use bytes::{is_next, text, word_bytes};
+pub use lexical::name;
+pub use module::{declaration, ports, read_raw};
 pub use scc_svgrammar::{
     Halt, RawArm, RawBlock, RawExpr, RawItem, RawLeft, RawLiteral, RawLoad, RawModule, RawReset,
     RawSelect, RawSet, RawStmt, RawVar, a_text_is_one_module,
