@@ -1,9 +1,11 @@
 #!/bin/sh
-# Takes what `scc compile` makes of the examples through the linters that are installed: Verilator with all warnings,
-# Icarus Verilog and Yosys. An error, a latch, or a warning that isn't expected ends with status 1. The warnings that are
+# Takes what `scc compile` makes of a design through the linters that are installed: Verilator with all warnings, Icarus
+# Verilog and Yosys. An error, a latch, or a warning that isn't expected ends with status 1. The warnings that are
 # expected, and why they stay, are in docs/TOOLS.md.
 #
-#   tools/lint.sh                  SCC names another program: SCC=/usr/local/bin/scc tools/lint.sh
+#   tools/lint.sh                  all examples
+#   tools/lint.sh TOP FILE ..      a design of your own
+#   SCC names another program: SCC=/usr/local/bin/scc tools/lint.sh
 set -u
 top=$(cd "$(dirname "$0")/.." && pwd)
 scc=${SCC:-$top/scc}
@@ -52,15 +54,29 @@ lint_yosys() {
   fi
 }
 
-{ echo And and.cpp; make -s -C "$top/examples" list; } >"$folder/list"
-while read -r module source; do
+# module, files
+lint() {
+  module=$1
+  shift
   echo "$module"
-  if ! "$scc" compile "$module" "$top/examples/$source" >"$folder/$module.sv" 2>"$folder/said"; then
+  if ! "$scc" compile "$module" "$@" >"$folder/$module.sv" 2>"$folder/said"; then
     fail "scc: refused"
-    continue
+    return
   fi
   if has verilator; then lint_verilator "$folder/$module.sv"; else echo "  verilator  not installed"; fi
   if has iverilog; then lint_icarus "$folder/$module.sv"; else echo "  icarus     not installed"; fi
   if has yosys; then lint_yosys "$folder/$module.sv"; else echo "  yosys      not installed"; fi
-done <"$folder/list"
+}
+
+case $# in
+0)
+  { echo And and.cpp; make -s -C "$top/examples" list; } >"$folder/list"
+  while read -r top_module source; do lint "$top_module" "$top/examples/$source"; done <"$folder/list"
+  ;;
+1)
+  echo "usage: $0 [TOP FILE ..]" >&2
+  exit 2
+  ;;
+*) lint "$@" ;;
+esac
 exit $failed

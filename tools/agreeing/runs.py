@@ -7,14 +7,15 @@ from agreeing import systemc, verilog
 
 
 class Failed(Exception):
-    """A tool ended with a fault; the text is the first line that it said."""
+    """A tool ended with a fault; the text is the first line that speaks of an error, or the first that it said."""
 
 
 def call(words, folder, text=None):
     done = subprocess.run([str(w) for w in words], cwd=folder, capture_output=True, text=True, timeout=900)
     if done.returncode:
         said = (done.stderr + done.stdout).strip().splitlines() or ["no output"]
-        raise Failed(f"{Path(str(words[0])).name} ended with {done.returncode}: {said[0]}")
+        fault = next((line for line in said if "error" in line.lower()), said[0])
+        raise Failed(f"{Path(str(words[0])).name} ended with {done.returncode}: {fault}")
     return done.stdout
 
 
@@ -55,7 +56,8 @@ def yosys(job):
 def systemc_library(job):
     bench = job.folder / "testbench.cpp"
     bench.write_text(systemc.testbench(job.module, job.stimulus, job.sources))
-    call(["g++", "-std=c++17", "-w", "-O0", "-o", "systemc", bench, "-lsystemc"], job.folder)
+    # as scc reads it, so that a testbench of the source's own stays out
+    call(["g++", "-std=c++17", "-w", "-O0", "-DSCC_SYNTHESIS", "-o", "systemc", bench, "-lsystemc"], job.folder)
     return trace_of(call([job.folder / "systemc"], job.folder))
 
 
