@@ -3,6 +3,7 @@
 
 mod cycles;
 mod feeds;
+pub mod graph;
 mod groups;
 mod ranks;
 mod reached;
@@ -11,6 +12,4 @@ mod scheduling;
 mod var_lists;
 
 pub use cycles::{first_cycle, first_of};
-pub use groups::group_blocks;
-pub use rows::Rows;
 pub use scheduling::schedule;

@@ -1,0 +1,3 @@
+//! Graphs of numbered nodes, and their groups.
+pub use crate::groups::group_blocks;
+pub use crate::rows::Rows;
