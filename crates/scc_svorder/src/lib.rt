@@ -3,7 +3,6 @@
 
 mod cycles;
 mod feeds;
-pub mod graph;
 mod groups;
 mod ranks;
 mod reached;
@@ -12,4 +11,6 @@ mod scheduling;
 mod var_lists;
 
 pub use cycles::{first_cycle, first_of};
+pub use groups::group_blocks;
+pub use rows::Rows;
 pub use scheduling::schedule;
