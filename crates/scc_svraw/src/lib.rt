@@ -8,12 +8,10 @@ mod held;
 mod lexical;
 mod module;
 mod operator;
+pub mod parts;
 mod stmt;
 
-pub use block::block;
-pub use bytes::{is_next, text, word_bytes};
-pub use lexical::name;
-pub use module::{declaration, ports, read_raw};
+pub use module::read_raw;
 pub use scc_svgrammar::{
     Halt, RawArm, RawBlock, RawExpr, RawItem, RawLeft, RawLiteral, RawLoad, RawModule, RawReset,
     RawSelect, RawSet, RawStmt, RawVar, a_text_is_one_module,

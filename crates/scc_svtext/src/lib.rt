@@ -10,15 +10,12 @@ mod keyword;
 mod laws;
 mod module;
 mod part;
+pub mod pieces;
 mod spelling;
 mod split;
 mod stmt;
 mod task;
 
-pub use block::blocks;
-pub use fixed::Fixed;
-pub use header::{decls, ports};
 pub use keyword::{begins_reserved_word, is_reserved_word};
 pub use laws::a_module_has_one_text;
 pub use module::print;
-pub use spelling::{spell, spellings};
