@@ -9,6 +9,7 @@ use Rattle.scc_thin.specs.declared.design.Design.{Design}
 use Rattle.scc_thin.specs.Thin.{thin_of}
 use Rattle.scc_thinmodule.specs.Emitted.{module_of}
 use Rattle.scc_thinmodule.specs.Identifiers.{AreIdentifiers}
+use Rattle.scc_thinmodule.proofs.Matching.{matches}
 use Rattle.scc_thinmodule.proofs.Shown.{thin_shown, thin_faultless}
 use Rattle.scc_drive.specs.declared.joining.Read.{Read}
 use Rattle.scc_drive.specs.declared.stopped.Stopped.{Stopped}
@@ -33,7 +34,7 @@ module _ (top : List ℕ) (read : Read) (file : IsReadFile read.joined read.tree
     record {
       emitted = module_of d;
       reads = record { sound = thin_faultless read.names top read.joined.tokens d h e; text = p };
-      matches = record { name = refl; ports = refl };
+      matches = matches d;
       shows = thin_shown read.names top read.joined.tokens d e;
     },
   )

@@ -12,8 +12,14 @@ use Rattle.scc_drive.specs.Answer.{Answers, AnswersBy, ComesFor, Tells, IsDone, 
 use Rattle.scc_drive.specs.Comes.{Comes}
 use Rattle.scc_drive.specs.Outcome.{Outcome, bad, refusal, absent, compiles, runs, writes, generated, wider, Task, compiling, listing, simulating, flagged, Kind, kind_of, EndsAs, WritesBy, RefusesBy, MissesBy}
 use Rattle.scc_drive.specs.Said.{Said, SaysFaults, SaysPart}
-use Rattle.scc_drive.specs.Words.{are_words, word_at}
-use Rattle.scc_drive.proofs.OneKind.{of_bad, one_kind, asks_alike}
+use Rattle.scc_drive.specs.Words.{are_words, command_by, word_at}
+use Rattle.scc_thin.specs.declared.design.Design.{Design}
+use Rattle.scc_thinmodule.specs.Source.{source_of, text_of}
+use Rattle.scc_words.specs.declared.command.Command.{Command}
+use Rattle.scc_words.specs.declared.command.Command.TheVariants as command
+use Rattle.scc_drive.specs.Laws.{AreOne}
+use Rattle.scc_drive.specs.MainTheorem.{MainTheorem, IsCompiled}
+use Rattle.scc_drive.proofs.OneKind.{of_bad, one_kind, one_outcome, asks_alike}
 
 -- a status that is not 4 or 5 is the one whose text was said
 said_at : (status n : ℕ) (text : List ℕ) (old new : Option (List ℕ)) (f f' result : ℕ) → Said status text old new f f' result → result ≡ n → n ≢ 4 → n ≢ 5
@@ -175,12 +181,29 @@ module _ (words : List (String Global)) (held : Option Shelf) (m m' f f' : ℕ) 
     output_ends text a zero shelf h o c =
         let q = (answer_of (Ok text) a).1 shelf h in ends_as shelf q.0 o q.1 c (ends_written (kind_of q.0) f f' result zero (may_write (word_at words 1) q.0 text q.2))
 
-  pub is_done : (text : List ℕ) (old new : Option (List ℕ)) → Answers words held m m' f f' (Ok text) → Appends old new text → IsDone words held old new
-  is_done text old new a w = let q = answer_of (Ok text) a in record { text = text; may = q.0; output = q.1; written = w }
+  pub is_done : (text bytes : List ℕ) (old new : Option (List ℕ)) → Answers words held m m' f f' (Ok text) → bytes ≡ text → Appends old new bytes → IsDone words held old new
+  is_done text bytes old new a same w = let q = answer_of (Ok text) a in record { text = text; may = q.0; output = q.1; written = subst (Appends old new) same w }
 
-  pub cut_written : (text : List ℕ) (out out' err err' : Option (List ℕ)) → Answers words held m m' f f' (Ok text) → AppendsPart out out' text → SaysFaults err err'
+  -- the one outcome is the design
+  the_design : (d : Design) (c : Option Command) (o : Outcome) → AreOne c o (compiles d) → o ≡ compiles d
+  the_design d None o e = e
+  the_design d (Some (command.Compile count f)) o e = e
+  the_design d (Some (command.Sim count stim way)) o e = e
+  the_design d (Some (command.Svsim stim f)) o (inl e) = e
+  the_design d (Some (command.Svsim stim f)) o (inr e) = absurd (let q : false ≡ true = e.1 in cc)
+  the_design d (Some (command.List count)) o e = e
+  the_design d (Some (command.Gen stages source)) o e = e
+
+  pub is_theorem : (text bytes : List ℕ) (old new : Option (List ℕ)) → Answers words held m m' f f' (Ok text) → bytes ≡ text → Appends old new bytes → (shelf : Shelf) → held ≡ Some shelf
+      → MainTheorem shelf words old new
+  is_theorem text bytes old new a same w shelf h d c =
+      let q = (answer_of (Ok text) a).1 shelf h in
+      let p = subst (λ o. WritesBy (word_at words 1) o text) (the_design d (command_by words) q.0 (one_outcome shelf words q.0 (compiles d) q.1 c)) q.2 in
+      record { text = text; written = subst (Appends old new) same w; emitted = p.emitted; reads = p.reads; matches = p.matches.whole; shows = p.shows }
+
+  pub cut_written : (text bytes : List ℕ) (out out' err err' : Option (List ℕ)) → Answers words held m m' f f' (Ok text) → bytes ≡ text → AppendsPart out out' bytes → SaysFaults err err'
       → IsCutShort words held m m' f f' out out' err err'
-  cut_written text out out' err err' a p q = record { answer = Ok text; answers = a; parts = (p, q) }
+  cut_written text bytes out out' err err' a same p q = record { answer = Ok text; answers = a; parts = (subst (AppendsPart out out') same p, q) }
 
   pub cut_said : (s : Stopped) (out out' err err' : Option (List ℕ)) → Answers words held m m' f f' (Err s) → out' ≡ out → SaysPart (stopped_text s) err err'
       → IsCutShort words held m m' f f' out out' err err'

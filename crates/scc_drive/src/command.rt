@@ -2,6 +2,7 @@ ghost use Rattle.std.specs.Prelude.{◌≡◌, ◌≤◌, ◌⊎◌, false, Resu
 ghost use Rattle.std.specs.Io.KnownBytes.{Appends, Keeps};
 ghost use Rattle.scc_base.specs.Outside.{Rose, Told};
 ghost use Rattle.scc_drive.specs.Answer.{Ends, IsDone, IsRefused, IsMissing, HasFailed, IsCutShort};
+ghost use Rattle.scc_drive.specs.MainTheorem.{MainTheorem};
 ghost use Rattle.scc_drive.specs.Texts.{words_text};
 ghost use Rattle.scc_drive.specs.Words.{are_words};
 
@@ -30,6 +31,8 @@ pub fn run<F: Files, O: Sink, E: Sink>(
     err: &mut E,
 ) -> Status
     ensures six { result ≤ 5 }
+    // 0: the main theorem, where it is told what the files hold and that comes to a design
+    ensures theorem { result ≡ 0 → Told (F.held files.old) (λ shelf. MainTheorem shelf words.now (O.taken out.old) (O.taken out.new)) }
     // 0: the text was written that what the files hold comes to, or that some files bring where it isn't told; and nothing was said
     ensures done { result ≡ 0 → IsDone words.now (F.held files.old) (O.taken out.old) (O.taken out.new) }
     ensures silent { result ≡ 0 → Keeps (E.taken err.old) (E.taken err.new) }

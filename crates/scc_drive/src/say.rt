@@ -1,5 +1,5 @@
 //! Says on the second output why the program does not end with status 0.
-ghost use Rattle.std.specs.Prelude.{◌≡◌, ◌≤◌, ◌⊎◌, IfOk, OnErr};
+ghost use Rattle.std.specs.Prelude.{◌≡◌, ◌≤◌, ◌⊎◌, ℕ, List, IfOk, OnErr};
 ghost use Rattle.scc_base.specs.Outside.{AppendsPart, Rose};
 ghost use Rattle.scc_drive.specs.Said.{Said, SaysFaults, SaysPart};
 ghost use Rattle.scc_drive.specs.Answer.{Tells, stopped_text};
@@ -55,8 +55,7 @@ fn say_made<E: Sink>(err: &mut E, text: Result<Text, NoMemory>, status: u8) -> S
     requires { status ≤ 5 }
     ensures said { IfOk text (λ t. Said status t (E.taken err.old) (E.taken err.new) (E.faults err.old) (E.faults err.new) result) }
     ensures memory { OnErr text ((result ≡ 4) ⊎ ((result ≡ 5) × Rose (E.faults err.old) (E.faults err.new))) }
-    ensures parts { IfOk text (λ t. SaysPart t (E.taken err.old) (E.taken err.new)) }
-    ensures faults { OnErr text (SaysFaults (E.taken err.old) (E.taken err.new)) }
+    ensures parts { (said : List ℕ) → IfOk text (λ t. t ≡ said) → SaysPart said (E.taken err.old) (E.taken err.new) }
     ensures no_fewer_faults { E.faults err.old ≤ E.faults err.new }
 {
     match text {
