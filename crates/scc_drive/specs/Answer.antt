@@ -29,8 +29,8 @@ Misses C name shelf = (outcome : Outcome) × C shelf outcome × MissesBy outcome
 abbrev pub without : List ℕ → Shelf → Shelf
 without name shelf n = if bytes_eq n name then None else shelf n
 
--- The file of this name is asked for, with no refusal and no missing file before it: for want of it the command stops where this one isn't held, or where
--- these are, if the stimulus of `sim` may be one of the joined files.
+-- The file of this name is asked for, with no refusal and no missing file before it: were it not held, the command would stop for want of it. Or it does so where
+-- these are held, as for the stimulus of `sim`, which may be one of the joined files.
 abbrev pub Asks : (Shelf → Outcome → Type 0) → List ℕ → Shelf → Type 0
 Asks C name shelf = Misses C name (without name shelf) ⊎ Misses C name shelf
 
