@@ -16,10 +16,10 @@ pub returns-clause-part : goal.returns-clause-part
 returns-clause-part g c = λ _. cut_said c.args.words.now _ _ _ _ _ c.in-Err.stopped _ _ _ _ c.in-Err.ensures.answers refl c.tell.ensures.parts
 
 pub returns-in-Ok-put_all-clause-theorem : goal.returns-in-Ok-put_all-clause-theorem
-returns-in-Ok-put_all-clause-theorem g c = λ _. is_theorem c.args.words.now _ _ _ _ _ c.in-Ok.text _ _ _ c.in-Ok.ensures.answers c.bytes.ensures.bytes c.in-Ok-put_all.ensures.whole
+returns-in-Ok-put_all-clause-theorem g c = λ _. is_theorem c.args.words.now (g.F.Files.held c.args.files.now) (g.F.Files.misses c.args.files.now) (g.F.Files.misses c.answer.new.files) (g.F.Files.faults c.args.files.now) (g.F.Files.faults c.answer.new.files) c.in-Ok.text _ _ _ c.in-Ok.ensures.answers c.bytes.ensures.bytes c.in-Ok-put_all.ensures.whole
 
 pub returns-in-Ok-put_all-clause-done : goal.returns-in-Ok-put_all-clause-done
-returns-in-Ok-put_all-clause-done g c = λ _. is_done c.args.words.now _ _ _ _ _ c.in-Ok.text _ _ _ c.in-Ok.ensures.answers c.bytes.ensures.bytes c.in-Ok-put_all.ensures.whole
+returns-in-Ok-put_all-clause-done g c = λ _. is_done c.args.words.now (g.F.Files.held c.args.files.now) (g.F.Files.misses c.args.files.now) (g.F.Files.misses c.answer.new.files) (g.F.Files.faults c.args.files.now) (g.F.Files.faults c.answer.new.files) c.in-Ok.text _ _ _ c.in-Ok.ensures.answers c.bytes.ensures.bytes c.in-Ok-put_all.ensures.whole
 
 pub returns-in-Ok-put_all-clause-ends : goal.returns-in-Ok-put_all-clause-ends
 returns-in-Ok-put_all-clause-ends g c = λ shelf h. output_ends c.args.words.now _ (g.F.Files.misses c.args.files.now) (g.F.Files.misses c.answer.new.files) (g.F.Files.faults c.args.files.now) (g.F.Files.faults c.answer.new.files)
@@ -29,6 +29,6 @@ pub returns-in-Err-Failed-clause-part : goal.returns-in-Err-Failed-clause-part
 returns-in-Err-Failed-clause-part g c =
     λ _. cut_written c.args.words.now _ _ _ _ _ c.in-Ok.text _ _ _ _ _ c.in-Ok.ensures.answers c.bytes.ensures.bytes c.in-Err-Failed.ensures.part (output_alone _ _ c.output_failed.ensures.parts)
 
-pub returns-in-Err-NoMemory-clause-part : goal.returns-in-Err-NoMemory-clause-part
-returns-in-Err-NoMemory-clause-part g c =
+pub returns-in-Ok-clause-part : goal.returns-in-Ok-clause-part
+returns-in-Ok-clause-part g c =
     λ _. cut_written c.args.words.now _ _ _ _ _ c.in-Ok.text _ _ _ _ _ c.in-Ok.ensures.answers c.bytes.ensures.bytes c.in-Err-NoMemory.ensures.part c.no_memory.ensures.parts
