@@ -1,14 +1,12 @@
 #!/usr/bin/env bash
-# Prints how long `scc compile` takes on sources of 131,072 and 262,144 tokens that are files of the grammar and no thin texts, so that it
-# reads, joins and parses them and does nothing else: statements, long chains of operators, members, calls and arguments, and declarations.
+# Prints how long `scc compile` takes on sources of 131,072 and 262,144 tokens that are files of the grammar and have no module of the name
+# that is asked for, so that it reads, joins and parses them and does little else: statements, long chains of operators, members, calls and
+# arguments, and declarations.
 # Fails where one is not read, where twice the tokens take more than 2.5 times as long (a longer tree no longer fits the caches), or where there
 # are fewer than a million tokens a second.
 set -euo pipefail
 cd "$(dirname "$0")/.."
-./scc compile And examples/and.cpp >/dev/null
-program=crates/scc/out/scc
-work=$(mktemp -d)
-trap 'rm -rf "$work"' EXIT
+source bench/timed.sh
 
 # a source of at most so many tokens: what stands before, what is repeated, how many tokens that has, what stands behind, and how many
 # tokens stand before and behind
@@ -19,18 +17,6 @@ text() {
   printf '%s' "$behind"
 }
 
-# microseconds of the fastest of 40 runs, which other work on the machine disturbs least
-timed() {
-  local best=100000000 start took
-  for _ in {1..40}; do
-    start=${EPOCHREALTIME/[.,]/}
-    "$program" compile Top "$1" >/dev/null 2>&1 || true
-    took=$((${EPOCHREALTIME/[.,]/} - start))
-    ((took < best)) && best=$took
-  done
-  printf '%d' "$best"
-}
-
 failed=0
 while IFS='@' read -r name before piece each behind rest; do
   half=0
@@ -38,8 +24,8 @@ while IFS='@' read -r name before piece each behind rest; do
     file=$work/source.cpp
     text "$tokens" "$before" "$piece" "$each" "$behind" "$rest" >"$file"
     said=$("$program" compile Top "$file" 2>&1 >/dev/null) || true
-    [ "$said" = "$file:1:1: E901 not yet" ] || { echo "$name: $said"; failed=1; }
-    took=$(timed "$file")
+    [[ $said =~ :\ E3[0-9][0-9]\  ]] || { echo "$name: $said"; failed=1; }
+    took=$(timed 40 Top "$file")
     printf '%-24s %7d tokens %8d us %6d tokens a millisecond\n' "$name" "$tokens" "$took" $((tokens * 1000 / took))
     ((tokens == 131072 || took * 10 <= half * 25)) || { echo "$name: not linear"; failed=1; }
     ((took <= tokens)) || { echo "$name: fewer than a million tokens a second"; failed=1; }

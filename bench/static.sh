@@ -5,10 +5,7 @@
 # where one is not refused so, or where twice the source takes more than 2.5 times as long.
 set -euo pipefail
 cd "$(dirname "$0")/.."
-./scc compile And examples/and.cpp >/dev/null
-program=crates/scc/out/scc
-work=$(mktemp -d)
-trap 'rm -rf "$work"' EXIT
+source bench/timed.sh
 
 # what stands before, a piece for each number (# is the number, ~ the one before), what stands between, the same for a second piece, and
 # what stands behind
@@ -22,18 +19,6 @@ text() {
     }'
 }
 
-# microseconds of the fastest of 5 runs, which other work on the machine disturbs least
-timed() {
-  local best=1000000000 start took
-  for _ in {1..5}; do
-    start=${EPOCHREALTIME/[.,]/}
-    "$program" compile T "$1" >/dev/null 2>&1 || true
-    took=$((${EPOCHREALTIME/[.,]/} - start))
-    ((took < best)) && best=$took
-  done
-  printf '%d' "$best"
-}
-
 failed=0
 while IFS='@' read -r name most before first between second behind; do
   half=0
@@ -42,7 +27,7 @@ while IFS='@' read -r name most before first between second behind; do
     text "$n" "$before" "$first" "$between" "$second" "$behind" >"$file"
     said=$("$program" compile T "$file" 2>&1 >/dev/null) || true
     [[ $said == *": E404 "* ]] || { echo "$name: $said"; failed=1; }
-    took=$(timed "$file")
+    took=$(timed 5 T "$file")
     printf '%-24s %7d %8d us\n' "$name" "$n" "$took"
     ((half == 0 || took * 10 <= half * 25)) || { echo "$name: not linear"; failed=1; }
     half=$took

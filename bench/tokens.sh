@@ -4,10 +4,7 @@
 # the longest is read at less than 20 MB a second.
 set -euo pipefail
 cd "$(dirname "$0")/.."
-./scc compile And examples/and.cpp >/dev/null
-program=crates/scc/out/scc
-work=$(mktemp -d)
-trap 'rm -rf "$work"' EXIT
+source bench/timed.sh
 
 # a module with comments and a macro, of which there are fewer than 262,144 tokens in the longest file
 lines='SC_MODULE(Counter) { // counts the edges of its clock
@@ -38,18 +35,6 @@ text() {
   printf '%*s' "$bytes" ''
 }
 
-# microseconds of the fastest of 50 runs, which other work on the machine disturbs least
-timed() {
-  local best=100000000 start took
-  for _ in {1..50}; do
-    start=${EPOCHREALTIME/[.,]/}
-    "$program" compile Counter "$1" >/dev/null 2>&1 || true
-    took=$((${EPOCHREALTIME/[.,]/} - start))
-    ((took < best)) && best=$took
-  done
-  printf '%d' "$best"
-}
-
 failed=0
 before=0
 for bytes in 262144 524288 1048576; do
@@ -62,7 +47,7 @@ for bytes in 262144 524288 1048576; do
     echo "bench: expected a refusal at the first token, not status $status: $said" >&2
     exit 1
   fi
-  took=$(timed "$file")
+  took=$(timed 50 Counter "$file")
   printf '%8d bytes %8d us %6d KB/s\n' "$bytes" "$took" $((bytes * 1000 / took))
   if ((before > 0 && took * 10 > before * 22)); then
     echo "bench: more than 2.2 times the time for twice the bytes" >&2

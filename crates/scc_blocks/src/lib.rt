@@ -11,4 +11,4 @@ mod thread;
 mod views;
 mod written;
 
-pub use module::blocks;
+pub use module::{ELSEWHERE, blocks};

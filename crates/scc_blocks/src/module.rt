@@ -19,6 +19,9 @@ use scc_svtree::{
 };
 use std::alloc::Global;
 
+/// The number of the process of a local that belongs to no process of the core.
+pub const ELSEWHERE: u32 = u32::MAX;
+
 /// How deep expressions nest beside their first operands.
 const LEVELS: u32 = 8_192;
 
@@ -203,6 +206,7 @@ fn locals_of(alloc: Global, c: &Core) -> Result<Vec<Vec<u32>>, NoMemory> {
         if let CellSort::Local(process) = cell.sort {
             match found.get_mut(process as usize) {
                 Some(list) => push(list, at)?,
+                None if process == ELSEWHERE => {}
                 None => return Err(lost()),
             }
         }

@@ -12,6 +12,8 @@ use scc_lexer::{Token, TokenKind};
 use std::alloc::Global;
 
 /// Joins an active token: a macro is expanded, and another token stands for itself.
+///
+/// Errors: E103 and E104 by the token (`refusal_of`), E110 where there are too many tokens or macro uses.
 pub fn take_token(alloc: Global, macros: &Macros, out: &mut Out, t: Token) -> Result<(), Halt>
     ensures { Does out.new result (token_taken macros.now t out.old) }
 {

@@ -41,6 +41,8 @@ fn adjoins(name: Token, body: &[Token]) -> bool
 }
 
 /// `#define`: a name, and the tokens that stand for it from here on.
+///
+/// Errors: E105 for a line of another form and for a macro with arguments, E103 and E104 for a token of the line.
 pub fn define(alloc: Global, macros: &mut Macros, hash: Token, rest: &[Token]) -> Result<(), Halt>
     ensures { Does macros.new result (defined hash rest.now macros.old) }
 {
@@ -62,6 +64,8 @@ pub fn define(alloc: Global, macros: &mut Macros, hash: Token, rest: &[Token]) -
 }
 
 /// `#undef`: a name that stands for nothing from here on.
+///
+/// Errors: E105 for a line of another form, E104 for a word that the subset leaves out.
 pub fn undefine(macros: &mut Macros, hash: Token, rest: &[Token]) -> Result<(), Halt>
     ensures { Does macros.new result (undefined hash rest.now macros.old) }
 {
@@ -80,7 +84,7 @@ pub fn undefine(macros: &mut Macros, hash: Token, rest: &[Token]) -> Result<(), 
     Ok(())
 }
 
-/// `#pragma once`: the file is not included again.
+/// `#pragma once`: the file is not included again. E105 for a line of another form.
 pub fn include_once(
     words: &Words,
     once: &mut List<u32>,

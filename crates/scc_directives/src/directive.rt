@@ -63,6 +63,7 @@ fn name(names: &mut Names, text: &str) -> Result<Name, NoMemory>
 }
 
 impl Words {
+    /// Gives the words their names, which `names` gains.
     pub fn new(names: &mut Names) -> Result<Words, NoMemory>
         requires { length names.old + 12 < 2 ^ 32 }
         ensures words { IfOk result (IsWords names.new) }

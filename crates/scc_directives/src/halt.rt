@@ -7,8 +7,11 @@ use scc_base::{Code, NoMemory, Place, Text};
 /// Why joining stops.
 #[derive(Debug, Drop)]
 pub enum Halt {
+    /// One of E101 to E110.
     Refused { code: Code, place: Place },
+    /// No file has the name.
     Missing(Text),
+    /// The file of the name was not read.
     Failed(Text),
     NoMemory,
 }

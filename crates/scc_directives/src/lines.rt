@@ -38,6 +38,9 @@ fn is_at(place: Option<u32>, at: u32) -> bool
 }
 
 /// `#ifdef` and `#ifndef` in active text. `unclosed` is where the file's first conditional that is not closed begins.
+///
+/// Errors: E105 for a line of another form, E107 where it is the conditional at `unclosed`, E104 for a word that the subset
+/// leaves out.
 pub fn open_side(
     macros: &Macros,
     sides: &mut Sides,
@@ -70,7 +73,7 @@ pub fn open_side(
     Ok(())
 }
 
-/// `#else`; what stands behind it counts in active text alone.
+/// `#else`; what stands behind it counts in active text alone. E105 where something does, and where no first side is open.
 pub fn turn_side(sides: &mut Sides, hash: Token, rest: &[Token]) -> Result<(), Halt>
     ensures { Does sides.new result (side_turned hash rest.now sides.old) }
 {
@@ -83,7 +86,7 @@ pub fn turn_side(sides: &mut Sides, hash: Token, rest: &[Token]) -> Result<(), H
     Ok(())
 }
 
-/// `#endif`; what stands behind it counts in active text alone.
+/// `#endif`; what stands behind it counts in active text alone. E105 where something does, and where no conditional is open.
 pub fn close_side(sides: &mut Sides, hash: Token, rest: &[Token]) -> Result<(), Halt>
     ensures { Does sides.new result (side_closed hash rest.now sides.old) }
 {

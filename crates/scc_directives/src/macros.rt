@@ -26,6 +26,7 @@ impl Model for Macros {
 }
 
 impl Macros {
+    /// No macros.
     pub fn new(alloc: Global) -> Macros
         ensures { result ≡ [] }
     {

@@ -37,6 +37,7 @@ fn is_scope_mark(t: Token) -> bool
 }
 
 impl Out {
+    /// No tokens.
     pub fn new(alloc: Global) -> Out
         ensures tokens { result.tokens ≡ [] }
         ensures scope { result.scope ≡ None }
@@ -64,7 +65,7 @@ impl Out {
         Ok(())
     }
 
-    /// Appends the word that waits for a `::`, which does not come.
+    /// Appends the word that waits for a `::`, which does not come. E110 where there is no room for it.
     pub fn flush(&mut self) -> Result<(), Halt>
         ensures value { Does self.new result (flushed self.old) }
         ensures uses { self.new.uses ≡ self.old.uses }
@@ -78,7 +79,7 @@ impl Out {
         }
     }
 
-    /// Takes a joined token: `sc_core ::` and `sc_dt ::` are dropped.
+    /// Takes a joined token: `sc_core ::` and `sc_dt ::` are dropped. E110 where there is no room.
     pub fn put(&mut self, t: Token) -> Result<(), Halt>
         ensures value { Does self.new result (put_token self.old t) }
         ensures uses { self.new.uses ≡ self.old.uses }
@@ -95,7 +96,7 @@ impl Out {
         self.push(t)
     }
 
-    /// Counts a macro use that is expanded.
+    /// Counts a macro use that is expanded. E110 from the 262,145th on.
     pub fn count_use(&mut self, place: Place) -> Result<(), Halt>
         ensures value { Does self.new result (counted self.old place) }
         ensures more { OnOk result (self.new.uses ≡ self.old.uses + 1) }

@@ -33,6 +33,7 @@ impl Model for Sides {
 }
 
 impl Sides {
+    /// No side is open.
     pub fn new(alloc: Global) -> Sides
         ensures { result ≡ [] }
     {

@@ -11,4 +11,6 @@ mod scheduling;
 mod var_lists;
 
 pub use cycles::{first_cycle, first_of};
+pub use groups::group_blocks;
+pub use rows::Rows;
 pub use scheduling::schedule;

@@ -8,6 +8,7 @@ mod held;
 mod lexical;
 mod module;
 mod operator;
+pub mod parts;
 mod stmt;
 
 pub use module::read_raw;

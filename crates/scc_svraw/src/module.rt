@@ -94,8 +94,9 @@ fn ports_after(alloc: Global, first: RawVar, ts: &[u8]) -> Result<(List<RawVar>,
     Ok((all, rest))
 }
 
+/// The ports of a module, each on a line of its own; none where no blank comes next.
 #[tactic(auto, unfolding(scc_svgrammar::specs::Reader::ports))]
-fn ports(alloc: Global, ts: &[u8]) -> Result<(List<RawVar>, &[u8]), Halt>
+pub fn ports(alloc: Global, ts: &[u8]) -> Result<(List<RawVar>, &[u8]), Halt>
     ensures { Gives (λ x. (x.0, x.1.now)) result (reader.ports ts.now) }
 {
     if !bytes::is_next(32, ts) {
@@ -105,8 +106,9 @@ fn ports(alloc: Global, ts: &[u8]) -> Result<(List<RawVar>, &[u8]), Halt>
     ports_after(alloc, first, rest)
 }
 
+/// A declaration from behind its blanks; no block has begun behind it.
 #[tactic(auto, unfolding(scc_svgrammar::specs::Reader::declaration))]
-fn declaration(alloc: Global, ts: &[u8]) -> Result<((RawItem, bool), &[u8]), Halt>
+pub fn declaration(alloc: Global, ts: &[u8]) -> Result<((RawItem, bool), &[u8]), Halt>
     ensures { Gives (λ x. (x.0, x.1.now)) result (reader.declaration ts.now) }
 {
     let (_, rest) = text(b"logic ", ts)?;

@@ -12,7 +12,8 @@ use scc_base::{NoMemory, Text};
 use scc_svtree::{SvBlock, SvLoad, SvReset, SvSet, SvVar, VarId};
 use std::alloc::Global;
 
-fn edge(rising: bool) -> Fixed
+/// The word for an edge.
+pub fn edge(rising: bool) -> Fixed
     ensures { fixed_text result ≡ edge_text rising }
 {
     if rising {
@@ -94,8 +95,8 @@ fn level(out: &mut Text, names: &[Text], rising: bool, signal: VarId) -> Result<
     }
 }
 
-// Appends an asynchronous reset to the list of edges.
-fn signal(out: &mut Text, names: &[Text], r: &SvReset) -> Result<(), NoMemory>
+/// Appends an asynchronous reset to the list of edges.
+pub fn signal(out: &mut Text, names: &[Text], r: &SvReset) -> Result<(), NoMemory>
     ensures { OnOk result (out.new ≡ out.old ++ signal_text names.now r.now) }
 {
     fixed(out, Fixed::Or)?;
@@ -104,8 +105,8 @@ fn signal(out: &mut Text, names: &[Text], r: &SvReset) -> Result<(), NoMemory>
     fixed(out, Fixed::Then)
 }
 
-// Appends the branch of an asynchronous reset, up to the other one.
-fn branch(out: &mut Text, vars: &[SvVar], names: &[Text], r: &SvReset) -> Result<(), NoMemory>
+/// Appends the branch of an asynchronous reset, up to the other one.
+pub fn branch(out: &mut Text, vars: &[SvVar], names: &[Text], r: &SvReset) -> Result<(), NoMemory>
     ensures { OnOk result (out.new ≡ out.old ++ branch_text vars.now names.now r.now) }
 {
     fixed(out, Fixed::ResetIf)?;

@@ -45,7 +45,8 @@ pub fn left(out: &mut Text, names: &[Text], l: SvLeft) -> Result<(), NoMemory>
     }
 }
 
-fn unary(op: SvUnary) -> &'static [u8]
+/// The operator's letters.
+pub fn unary(op: SvUnary) -> &'static [u8]
     ensures { result.now ≡ unary_text op }
 {
     match op {
@@ -85,7 +86,8 @@ pub fn binary(op: SvBinary) -> &'static [u8]
     }
 }
 
-fn sign(signed: bool) -> Fixed
+/// The word for a sign.
+pub fn sign(signed: bool) -> Fixed
     ensures { fixed_text result ≡ sign_text signed }
 {
     if signed {

@@ -40,8 +40,8 @@ fn var(out: &mut Text, v: &SvVar) -> Result<(), NoMemory>
     spell(out, &v.name)
 }
 
-// Appends the line of an inner variable, and nothing for a port.
-fn decl(out: &mut Text, v: &SvVar) -> Result<(), NoMemory>
+/// Appends the line of an inner variable, and nothing for a port.
+pub fn decl(out: &mut Text, v: &SvVar) -> Result<(), NoMemory>
     ensures { OnOk result (out.new ≡ out.old ++ decl_text v.now) }
 {
     match v.dir {

@@ -10,6 +10,7 @@ mod keyword;
 mod laws;
 mod module;
 mod part;
+pub mod pieces;
 mod spelling;
 mod split;
 mod stmt;

@@ -20,9 +20,10 @@ pub enum SvLeft {
     Range { var: VarId, h: u32, l: u32 },
 }
 
-/// An expression (IEEE 1800-2017, section 11).
+/// An expression (IEEE 1800-2017, section 11). A chain of operators is as deep as it is long, so it is let go by a loop along its
+/// first operands.
 #[cycle(expr)]
-#[derive(Debug, Drop)]
+#[derive(Debug)]
 pub struct SvExpr {
     pub node: Boxed<SvExprNode>,
 }
@@ -92,4 +93,40 @@ pub enum SvBinary {
     Ge,
     LogAnd,
     LogOr,
+}
+
+impl Drop for SvExpr {
+    #[cycle(gone)]
+    fn drop(mut self) {
+        loop {
+            let SvExpr { node } = self;
+            match Boxed::into_inner(node) {
+                SvExprNode::Literal(_literal) => return,
+                SvExprNode::Left(_left) => return,
+                SvExprNode::Unary { op: _op, of } => self = of,
+                SvExprNode::Binary {
+                    op: _op,
+                    left,
+                    right,
+                } => {
+                    drop(right);
+                    self = left;
+                }
+                SvExprNode::Cond { test, yes, no } => {
+                    drop(yes);
+                    drop(no);
+                    self = test;
+                }
+                SvExprNode::Concat(list) => {
+                    drop(list);
+                    return;
+                }
+                SvExprNode::Cast { width: _width, of } => self = of,
+                SvExprNode::Sign {
+                    signed: _signed,
+                    of,
+                } => self = of,
+            }
+        }
+    }
 }
