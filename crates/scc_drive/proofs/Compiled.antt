@@ -1,5 +1,5 @@
 -- What compiling joined files answers, by what they come to.
-use Rattle.std.proofs.Common.{◌≡◌, ℕ, List, Option, Some, None, Result, Ok, Err, ap, refl, sym, subst}
+use Rattle.std.proofs.Common.{◌≡◌, ℕ, List, Option, Some, None, Result, Ok, Err, ap, sym, subst}
 use Rattle.std.specs.Prelude.{IfErr, IfOk, false}
 use Rattle.scc_base.specs.declared.code.Code.TheVariants.{NotYet}
 use Rattle.scc_svtext.specs.ModuleText.{module_text}
@@ -9,6 +9,7 @@ use Rattle.scc_thin.specs.declared.design.Design.{Design}
 use Rattle.scc_thin.specs.Thin.{thin_of}
 use Rattle.scc_thinmodule.specs.Emitted.{module_of}
 use Rattle.scc_thinmodule.specs.Identifiers.{AreIdentifiers}
+use Rattle.scc_thinmodule.proofs.Matching.{matches}
 use Rattle.scc_thinmodule.proofs.Shown.{thin_shown, thin_faultless}
 use Rattle.scc_drive.specs.declared.joining.Read.{Read}
 use Rattle.scc_drive.specs.declared.stopped.Stopped.{Stopped}
@@ -33,7 +34,7 @@ module _ (top : List ℕ) (read : Read) (file : IsReadFile read.joined read.tree
     record {
       emitted = module_of d;
       reads = record { sound = thin_faultless read.names top read.joined.tokens d h e; text = p };
-      matches = record { name = refl; ports = refl };
+      matches = matches d;
       shows = thin_shown read.names top read.joined.tokens d e;
     },
   )

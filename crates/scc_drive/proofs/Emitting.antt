@@ -20,13 +20,14 @@ use Rattle.scc_trace.specs.Stimulus.{stim_of}
 use Rattle.scc_drive.specs.declared.spots.Spot.{Spot}
 use Rattle.scc_drive.specs.declared.stopped.Stopped.{Stopped}
 use Rattle.scc_drive.specs.declared.stopped.Stopped.TheVariants as stopped
-use Rattle.scc_drive.specs.Answer.{AnswersBy}
+use Rattle.scc_drive.specs.Answer.{AnswersBy, without}
 use Rattle.scc_drive.specs.Comes.{TextComes, unread, misnamed, meets, outcome_on, outcome_of_stimulus, outcome_of_steps, LongTextComes, TextFileComes, TextsCome}
 use Rattle.scc_drive.specs.Outcome.{Outcome, refusal, absent, runs, RefusesBy, WritesBy, MissesBy}
 use Rattle.scc_drive.specs.Spots.{spot_in, first_spot}
 use Rattle.scc_drive.specs.Stages.{Gives, Asked, IsHeld, IsNoModule}
 use Rattle.scc_drive.specs.Stops.{StopsAt, StoppedIn}
 use Rattle.scc_drive.proofs.Wider.{answers_since}
+use Rattle.scc_drive.proofs.Without.{without_none, still_held}
 
 -- ---- the file of the text
 
@@ -62,6 +63,9 @@ is_long n e = subst (λ n. nat_lt 1048576 n ≡ true) (sym e) refl
 is_short : (n : ℕ) → n ≤ 1048576 → nat_lt 1048576 n ≡ false
 is_short n h = le-ltb 1048576 n h
 
+none_without : (n name : List ℕ) (shelf : Shelf) → n ≡ name → first_part (without n shelf) name ≡ None
+none_without n name shelf e = ap (λ x. first_part (without x shelf) name) e ∙ none_held (without name shelf) name (without_none name shelf)
+
 module _ (plain : Bool) (top name stim : List ℕ) (held : Option Shelf) where
   no_text : (shelf : Shelf) → first_part shelf name ≡ None → TextsCome plain top name stim shelf (absent name)
   no_text shelf e = subst (λ t. TextFileComes plain top name stim t (first_part shelf stim) (absent name)) (sym e) refl
@@ -85,7 +89,11 @@ module _ (plain : Bool) (top name stim : List ℕ) (held : Option Shelf) where
     λ shelf e. (absent name, no_text shelf (none_held shelf name (q.2 shelf e)), q.0),
     subst (λ x. Told held (λ shelf. shelf x ≡ None)) (sym q.0) q.2,
   )
-  text_unasked m m' f f' (stopped.Failed n) q = (q.1, ((λ x. None), (absent name, no_text (λ x. None) refl, q.0)))
+  text_unasked m m' f f' (stopped.Failed n) q = (
+    q.1,
+    ((λ x. None), (absent name, no_text (λ x. None) refl, q.0)),
+    λ shelf e. inl (absent name, no_text (without n shelf) (none_without n name shelf q.0), q.0),
+  )
   text_unasked m m' f f' stopped.NoMemory q = tt
   text_unasked m m' f f' stopped.BadWords q = absurd q
 
@@ -169,8 +177,15 @@ module _ (top name bytes stim : List ℕ) (short : length bytes ≤ 1048576) (he
       λ shelf e. (absent stim, come shelf None (absent stim) (told shelf e) (none_held shelf stim (q.2 shelf e)) (met None (absent stim) refl), q.0),
       subst (λ x. Told held (λ shelf. shelf x ≡ None)) (sym q.0) q.2,
     )
-    stimulus_unasked m m' f f' (stopped.Failed n) q never =
-        (q.1, (two None, (absent stim, come_two None (absent stim) (refl, λ e. absurd (not_memory _ refl (never (sym e)))) (met None (absent stim) refl), q.0)))
+    stimulus_unasked m m' f f' (stopped.Failed n) q never = (
+      q.1,
+      (two None, (absent stim, come_two None (absent stim) (refl, λ e. absurd (not_memory _ refl (never (sym e)))) (met None (absent stim) refl), q.0)),
+      λ shelf e. inl (
+        absent stim,
+        come (without n shelf) None (absent stim) (still_held n shelf name bytes (λ d. absurd (not_memory _ refl (never (sym (d ∙ q.0))))) (told shelf e)) (none_without n stim shelf q.0) (met None (absent stim) refl),
+        q.0,
+      ),
+    )
     stimulus_unasked m m' f f' stopped.NoMemory q never = tt
     stimulus_unasked m m' f f' stopped.BadWords q never = absurd q
 
@@ -180,8 +195,10 @@ module _ (top name bytes stim : List ℕ) (short : length bytes ≤ 1048576) (he
     -- the answers for a stimulus
     pub stimulus_given : (m m' f f' : ℕ) (b : List ℕ) (r : Result (List ℕ) Stopped) → length b ≤ 1048576 → IsHeld held stim b → (stim ≡ name → b ≡ bytes)
         → Gives (λ o. o ≡ outcome_of_stimulus top_module (record { name = stim; bytes = b }) false) top r → AnswersBy (TextsCome true top name stim) top held m m' f f' r
-    stimulus_given m m' f f' b (Ok trace) l given again g =
-        λ shelf e. (g.0, come shelf (Some b) g.0 (told shelf e) (given shelf e) (met (Some b) g.0 (short_given b l ∙ sym g.1)), g.2)
+    stimulus_given m m' f f' b (Ok trace) l given again g = (
+      (two (Some b), (g.0, come_two (Some b) g.0 (whole_part b (omega (arith, l)), λ e. ap Some (again (sym e))) (met (Some b) g.0 (short_given b l ∙ sym g.1)), g.2)),
+      λ shelf e. (g.0, come shelf (Some b) g.0 (told shelf e) (given shelf e) (met (Some b) g.0 (short_given b l ∙ sym g.1)), g.2),
+    )
     stimulus_given m m' f f' b (Err (stopped.Refused code spot other)) l given again g = (
       (two (Some b), (g.0, come_two (Some b) g.0 (whole_part b (omega (arith, l)), λ e. ap Some (again (sym e))) (met (Some b) g.0 (short_given b l ∙ sym g.1)), g.2)),
       λ shelf e. (g.0, come shelf (Some b) g.0 (told shelf e) (given shelf e) (met (Some b) g.0 (short_given b l ∙ sym g.1)), g.2),

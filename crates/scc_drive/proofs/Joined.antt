@@ -1,5 +1,5 @@
 -- What a command comes to, by what joining gives.
-use Rattle.std.proofs.Common.{◌≡◌, ℕ, List, drop, take, map, Option, Some, None, Result, Ok, Err, ap, refl, sym, ◌∙◌, subst, String}
+use Rattle.std.proofs.Common.{◌≡◌, ℕ, List, drop, take, map, Option, Some, None, Result, Ok, Err, ap, refl, sym, ◌∙◌, subst, inl, inr, String}
 use Rattle.std.specs.Prelude.{string_bytes, option_map, IfOk, IfErr}
 use Rattle.std.specs.declared.alloc.Global.{Global}
 use Rattle.scc_base.specs.Names.{fixed_names}
@@ -22,13 +22,14 @@ use Rattle.scc_drive.specs.declared.joining.Read.{Read}
 use Rattle.scc_drive.specs.declared.spots.Spot.{Spot}
 use Rattle.scc_drive.specs.declared.stopped.Stopped.{Stopped}
 use Rattle.scc_drive.specs.declared.stopped.Stopped.TheVariants as stopped
-use Rattle.scc_drive.specs.Answer.{AnswersBy}
+use Rattle.scc_drive.specs.Answer.{AnswersBy, without}
 use Rattle.scc_drive.specs.Comes.{faulty, FoundComes, FilesCome, RootsCome}
 use Rattle.scc_drive.specs.Outcome.{Task, Outcome, refusal, absent}
 use Rattle.scc_drive.specs.Spots.{spot_of}
 use Rattle.scc_drive.specs.Stages.{Gives, Asking, IsJoined, IsUnjoined, ReadComes}
 use Rattle.scc_drive.specs.Stops.{Stops, StoppedBy, IsFaulty}
 use Rattle.scc_drive.specs.Words.{roots_of}
+use Rattle.scc_drive.proofs.Without.{without_none, all_still}
 
 module _ (roots : List (List ℕ)) (held : Option Shelf) (read : Read) (j : IsJoined roots held read) (task : Task) (top : List ℕ) where
   come : (shelf : Shelf) (o : Outcome) → HoldsAll (first_part shelf) read.sources → ReadComes task top read o → RootsCome task top roots shelf o
@@ -36,7 +37,8 @@ module _ (roots : List (List ℕ)) (held : Option Shelf) (read : Read) (j : IsJo
 
   -- the answers of a command, by those for the files that it joined
   pub joined_gives : (m m' f f' : ℕ) (r : Result (List ℕ) Stopped) → Gives (ReadComes task top read) top r → AnswersBy (RootsCome task top roots) top held m m' f f' r
-  joined_gives m m' f f' (Ok text) g = λ shelf e. (g.0, come shelf g.0 (j.told shelf e) g.1, g.2)
+  joined_gives m m' f f' (Ok text) g =
+      ((j.somewhere.0, (g.0, come j.somewhere.0 g.0 j.somewhere.1 g.1, g.2)), λ shelf e. (g.0, come shelf g.0 (j.told shelf e) g.1, g.2))
   joined_gives m m' f f' (Err (stopped.Refused code spot other)) g =
       ((j.somewhere.0, (g.0, come j.somewhere.0 g.0 j.somewhere.1 g.1, g.2)), λ shelf e. (g.0, come shelf g.0 (j.told shelf e) g.1, g.2))
   joined_gives m m' f f' (Err stopped.NoMemory) g = tt
@@ -51,7 +53,8 @@ module _ (roots : List (List ℕ)) (held : Option Shelf) (read : Read) (j : IsJo
   joined_asking m m' f f' (Err stopped.BadWords) g = absurd g
   joined_asking m m' f f' (Err (stopped.Missing n)) g =
       (g.0, (j.somewhere.0, (g.1.0, come j.somewhere.0 g.1.0 j.somewhere.1 g.1.1, g.1.2)), λ shelf e. (g.1.0, come shelf g.1.0 (j.told shelf e) g.1.1, g.1.2), g.2)
-  joined_asking m m' f f' (Err (stopped.Failed n)) g = (g.0, (j.somewhere.0, (g.1.0, come j.somewhere.0 g.1.0 j.somewhere.1 g.1.1, g.1.2)))
+  joined_asking m m' f f' (Err (stopped.Failed n)) g =
+      (g.0, (j.somewhere.0, (g.1.0, come j.somewhere.0 g.1.0 j.somewhere.1 g.1.1, g.1.2)), λ shelf e. inr (g.1.0, come shelf g.1.0 (j.told shelf e) g.1.1, g.1.2))
 
 abbrev is_err : JoinFault → JoinFault → Type 0
 is_err x y = let a : Result Joined JoinFault = Err x in let b : Result Joined JoinFault = Err y in a ≡ b
@@ -137,10 +140,15 @@ module _ (roots : List (List ℕ)) (names : List (List ℕ)) (sources : List Sou
       λ shelf holds e. lacking task top shelf n (says (first_part shelf) holds) e in
       (rose, (some.0, (absent n, at some.0 some.1 some.2, refl)), λ shelf e. (absent n, at shelf (told shelf e) (lacks shelf e), refl), lacks)
 
-  pub unjoined_failed : (held : Option Shelf) (m m' f f' : ℕ) (n : List ℕ) → Said roots names sources (Err (fault.Failed n))
+  pub unjoined_failed : (held : Option Shelf) (m m' f f' : ℕ) (n : List ℕ) → Said roots names sources (Err (fault.Failed n)) → ToldAll held sources
       → Somewhere sources (Err (fault.Failed n)) → Rose f f' → IsUnjoined roots held m m' f f' (stopped.Failed n)
-  unjoined_failed held m m' f f' n says some rose = λ task top.
-      (rose, (some.0, (absent n, lacking task top some.0 n (says (first_part some.0) some.1) some.2, refl)))
+  unjoined_failed held m m' f f' n says told some rose = λ task top.
+      let at : (shelf : Shelf) → HoldsAll (first_part shelf) sources → shelf n ≡ None → RootsCome task top roots shelf (absent n) =
+      λ shelf holds e. lacking task top shelf n (says (first_part shelf) holds) e in (
+        rose,
+        (some.0, (absent n, at some.0 some.1 some.2, refl)),
+        λ shelf e. inl (absent n, at (without n shelf) (all_still n some.0 shelf sources some.2 some.1 (told shelf e)) (without_none n shelf), refl),
+      )
 
   pub unjoined_by : (held : Option Shelf) (m m' f f' : ℕ) (x : JoinFault) (s : Stopped) → Said roots names sources (Err x) → ToldAll held sources → Somewhere sources (Err x)
       → ((n : List ℕ) → is_err x (fault.Missing n) → Rose m m') → ((n : List ℕ) → is_err x (fault.Missing n) → Told held (λ shelf. shelf n ≡ None))
@@ -150,4 +158,4 @@ module _ (roots : List (List ℕ)) (names : List (List ℕ)) (sources : List Sou
   unjoined_by held m m' f f' (fault.Missing n) s says told some missing lacks failed h =
       subst (IsUnjoined roots held m m' f f') (sym h) (unjoined_missing held m m' f f' n says told some (missing n refl) (lacks n refl))
   unjoined_by held m m' f f' (fault.Failed n) s says told some missing lacks failed h =
-      subst (IsUnjoined roots held m m' f f') (sym h) (unjoined_failed held m m' f f' n says some (failed n refl))
+      subst (IsUnjoined roots held m m' f f') (sym h) (unjoined_failed held m m' f f' n says told some (failed n refl))

@@ -2,6 +2,7 @@ pub mod Moving
 pub mod Saying
 pub mod OneVerdict
 pub mod Asking
+pub mod Without
 pub mod Joined
 pub mod Wider
 pub mod Compiled

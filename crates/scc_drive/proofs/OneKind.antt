@@ -1,5 +1,5 @@
--- What a command comes to is of one kind.
-use Rattle.std.proofs.Common.{◌≡◌, ◌≢◌, ◌⊎◌, ℕ, Bool, true, false, List, String, Option, Some, None, Result, Ok, Err, ap, refl, sym, ◌∙◌, subst, nat_lt, length}
+-- What a command comes to is one.
+use Rattle.std.proofs.Common.{◌≡◌, ◌≢◌, ◌⊎◌, ℕ, Bool, true, false, List, String, Option, Some, None, Result, Ok, Err, ap, refl, sym, ◌∙◌, subst, inl, inr, nat_lt, length, true≢false}
 use Rattle.std.specs.Prelude.{is_some}
 use Rattle.std.specs.declared.alloc.Global.{Global}
 use Rattle.scc_base.specs.Names.{fixed_names}
@@ -28,6 +28,7 @@ use Rattle.scc_words.specs.declared.command.Command.TheVariants as command
 use Rattle.scc_drive.specs.Comes.{Comes, ComesBy, CommandComes, GeneratedComes, RootsCome, FoundComes, JoinedComes, reads, faulty, outcome_of_file, outcome_of_design, task_of, has_clocks, is_plain, TextComes, unread, misnamed, meets, TextComesBy, LongTextComes, TextFileComes, TextsCome, outcome_on, outcome_of_stimulus, outcome_of_steps}
 use Rattle.scc_drive.specs.Outcome.{Task, compiling, listing, simulating, flagged, Outcome, bad, refusal, absent, compiles, runs, writes, generated, wider, Kind, kind_of, kind_of_task}
 use Rattle.scc_drive.specs.Spots.{spot_of}
+use Rattle.scc_drive.specs.Laws.{AreAlike, AreOne, is_refusal}
 use Rattle.scc_drive.specs.Words.{command_by, are_words, word_at, roots_of}
 use Rattle.scc_drive.proofs.OneVerdict.{not_both, one_fault}
 
@@ -59,28 +60,28 @@ not_read bytes r m back read =
     subst (λ at. Answered at bytes m (Err (stop.Refused r))) (read.within d) (back m read.text d)
 
 module _ (top : List ℕ) (text : Source) (stim : List ℕ) (held : Option (List ℕ)) where
-  text_one : (o o' : Outcome) → TextComes top text stim held o → TextComes top text stim held o' → kind_of o ≡ kind_of o'
-  text_one _ _ (unread r a b) (unread r' a' b') = refl
-  text_one _ _ (unread r a b) (misnamed m read other) = refl
+  text_one : (o o' : Outcome) → TextComes top text stim held o → TextComes top text stim held o' → AreAlike o o'
+  text_one _ _ (unread r a b) (unread r' a' b') = inr (refl, refl)
+  text_one _ _ (unread r a b) (misnamed m read other) = inr (refl, refl)
   text_one _ _ (unread r a b) (meets m read named) = absurd (not_read text.bytes r m b read)
-  text_one _ _ (misnamed m read other) (unread r a b) = refl
-  text_one _ _ (misnamed m read other) (misnamed m' read' other') = refl
+  text_one _ _ (misnamed m read other) (unread r a b) = inr (refl, refl)
+  text_one _ _ (misnamed m read other) (misnamed m' read' other') = inr (refl, refl)
   text_one _ _ (misnamed m read other) (meets m' read' named) = absurd (other (ap (λ (x : SvModule). x.name) (one_module false text.bytes m m' read.text read'.text) ∙ named))
   text_one _ _ (meets m read named) (unread r a b) = absurd (not_read text.bytes r m b read)
   text_one _ _ (meets m read named) (misnamed m' read' other) = absurd (other (ap (λ (x : SvModule). x.name) (one_module false text.bytes m' m read'.text read.text) ∙ named))
-  text_one _ _ (meets m read named) (meets m' read' named') = ap (λ (x : SvModule). kind_of (outcome_on x stim held)) (one_module false text.bytes m m' read.text read'.text)
+  text_one _ _ (meets m read named) (meets m' read' named') = inl (ap (λ (x : SvModule). outcome_on x stim held) (one_module false text.bytes m m' read.text read'.text))
 
-  by_form : (plain : Bool) (o o' : Outcome) → TextComesBy plain top text stim held o → TextComesBy plain top text stim held o' → kind_of o ≡ kind_of o'
+  by_form : (plain : Bool) (o o' : Outcome) → TextComesBy plain top text stim held o → TextComesBy plain top text stim held o' → AreAlike o o'
   by_form true o o' c c' = text_one o o' c c'
-  by_form false o o' c c' = ap kind_of (c ∙ sym c')
+  by_form false o o' c c' = inl (c ∙ sym c')
 
-  by_length : (long plain : Bool) (o o' : Outcome) → LongTextComes long plain top text stim held o → LongTextComes long plain top text stim held o' → kind_of o ≡ kind_of o'
-  by_length true plain o o' c c' = ap kind_of (c ∙ sym c')
+  by_length : (long plain : Bool) (o o' : Outcome) → LongTextComes long plain top text stim held o → LongTextComes long plain top text stim held o' → AreAlike o o'
+  by_length true plain o o' c c' = inl (c ∙ sym c')
   by_length false plain o o' c c' = by_form plain o o' c c'
 
 file_one : (plain : Bool) (top name stim : List ℕ) (text held : Option (List ℕ)) (o o' : Outcome) → TextFileComes plain top name stim text held o → TextFileComes plain top name stim text held o'
-    → kind_of o ≡ kind_of o'
-file_one plain top name stim None held o o' c c' = ap kind_of (c ∙ sym c')
+    → AreAlike o o'
+file_one plain top name stim None held o o' c c' = inl (c ∙ sym c')
 file_one plain top name stim (Some bytes) held o o' c c' = by_length top (record { name = name; bytes = bytes }) stim held (nat_lt 1048576 (length bytes)) plain o o' c c'
 
 -- ---- commands
@@ -90,20 +91,46 @@ generated_one stages true o o' c c' = c ∙ sym c'
 generated_one stages false o o' c c' = c ∙ sym c'
 
 module _ (words : List (String Global)) (shelf : Shelf) (o o' : Outcome) where
-  command_one : (c : Command) → CommandComes c words shelf o → CommandComes c words shelf o' → kind_of o ≡ kind_of o'
-  command_one (command.Compile count f) p q = ap kind_of (roots_one (task_of f) (word_at words 1) (roots_of words count) shelf o o' p q)
-  command_one (command.Sim count stim way) p q = ap kind_of (roots_one (simulating (has_clocks way) (word_at words stim)) (word_at words 1) (roots_of words count) shelf o o' p q)
+  command_one : (c : Command) → CommandComes c words shelf o → CommandComes c words shelf o' → AreOne (Some c) o o'
+  command_one (command.Compile count f) p q = roots_one (task_of f) (word_at words 1) (roots_of words count) shelf o o' p q
+  command_one (command.Sim count stim way) p q = roots_one (simulating (has_clocks way) (word_at words stim)) (word_at words 1) (roots_of words count) shelf o o' p q
   command_one (command.Svsim stim f) p q = file_one (is_plain f) (word_at words 1) (word_at words 2) (word_at words stim) (first_part shelf (word_at words 2)) (first_part shelf (word_at words stim)) o o' p q
-  command_one (command.List count) p q = ap kind_of (roots_one listing (word_at words 1) (roots_of words count) shelf o o' p q)
-  command_one (command.Gen stages source) p q = ap kind_of (generated_one stages source o o' p q)
+  command_one (command.List count) p q = roots_one listing (word_at words 1) (roots_of words count) shelf o o' p q
+  command_one (command.Gen stages source) p q = generated_one stages source o o' p q
 
-  by_command : (c : Option Command) → ComesBy c words shelf o → ComesBy c words shelf o' → kind_of o ≡ kind_of o'
-  by_command None p q = ap kind_of (p ∙ sym q)
+  by_command : (c : Option Command) → ComesBy c words shelf o → ComesBy c words shelf o' → AreOne c o o'
+  by_command None p q = p ∙ sym q
   by_command (Some c) p q = command_one c p q
 
-pub one_kind : (shelf : Shelf) (words : List (String Global)) (o o' : Outcome) → Comes shelf words o → Comes shelf words o' → kind_of o ≡ kind_of o'
+pub one_outcome : (shelf : Shelf) (words : List (String Global)) (o o' : Outcome) → Comes shelf words o → Comes shelf words o' → AreOne (command_by words) o o'
 unfolding Comes
-one_kind shelf words o o' c c' = by_command words shelf o o' (command_by words) c c'
+one_outcome shelf words o o' c c' = by_command words shelf o o' (command_by words) c c'
+
+-- and so its kind is
+kind_refusal : (o : Outcome) → is_refusal o ≡ true → kind_of o ≡ record { is_bad = false; may_write = false; may_refuse = true; may_miss = false; asks = true }
+kind_refusal bad e = absurd (true≢false (sym e))
+kind_refusal (refusal code spot) e = refl
+kind_refusal (absent name) e = absurd (true≢false (sym e))
+kind_refusal (compiles design) e = absurd (true≢false (sym e))
+kind_refusal (runs m stimulus) e = absurd (true≢false (sym e))
+kind_refusal (writes t) e = absurd (true≢false (sym e))
+kind_refusal generated e = absurd (true≢false (sym e))
+kind_refusal (wider task sources) e = absurd (true≢false (sym e))
+
+kind_alike : (o o' : Outcome) → AreAlike o o' → kind_of o ≡ kind_of o'
+kind_alike o o' (inl e) = ap kind_of e
+kind_alike o o' (inr e) = kind_refusal o e.0 ∙ sym (kind_refusal o' e.1)
+
+kind_one : (c : Option Command) (o o' : Outcome) → AreOne c o o' → kind_of o ≡ kind_of o'
+kind_one None o o' e = ap kind_of e
+kind_one (Some (command.Compile count f)) o o' e = ap kind_of e
+kind_one (Some (command.Sim count stim way)) o o' e = ap kind_of e
+kind_one (Some (command.Svsim stim f)) o o' e = kind_alike o o' e
+kind_one (Some (command.List count)) o o' e = ap kind_of e
+kind_one (Some (command.Gen stages source)) o o' e = ap kind_of e
+
+pub one_kind : (shelf : Shelf) (words : List (String Global)) (o o' : Outcome) → Comes shelf words o → Comes shelf words o' → kind_of o ≡ kind_of o'
+one_kind shelf words o o' c c' = kind_one (command_by words) o o' (one_outcome shelf words o o' c c')
 
 pub of_bad : (shelf : Shelf) (words : List (String Global)) → are_words words ≡ false → Comes shelf words bad
 unfolding Comes are_words

@@ -1,42 +1,46 @@
--- First parts of sayings, one after another.
-use Rattle.std.proofs.Common.{◌≡◌, ℕ, suc, List, length, Option, sym, subst}
+-- First parts of what is said, one after another.
+use Rattle.std.proofs.Common.{◌≡◌, ℕ, List, [], ◌∷◌, length, Option, refl, sym, subst}
 use Rattle.std.proofs.Math.Seq.{take-length}
-use Rattle.std.proofs.KnownBytes.{Appends-nil, Keeps-refl}
+use Rattle.std.proofs.KnownBytes.{Appends-nil}
+use Rattle.std.specs.Prelude.{take}
 use Rattle.std.specs.Io.KnownBytes.{Appends}
 use Rattle.scc_base.specs.Outside.{AppendsPart}
-use Rattle.scc_drive.specs.Said.{Saying, no_memory, output_failed, text_of, SaysParts}
+use Rattle.scc_drive.specs.Said.{SaysFaults, SaysPart}
 use Rattle.scc_drive.specs.Texts.{memory_text, output_text}
 
-whole : (old new : Option (List ℕ)) (text : List ℕ) → Appends old new text → AppendsPart old new text
+pub whole : (old new : Option (List ℕ)) (text : List ℕ) → Appends old new text → AppendsPart old new text
 whole old new text p = (length text, subst (Appends old new) (sym (take-length text)) p)
 
-more : (n : ℕ) (s : Saying) (old middle new : Option (List ℕ)) → AppendsPart old middle (text_of s) → SaysParts n middle new → SaysParts (suc n) old new
-more n s old middle new p q = (middle, s, p, q)
+no_bytes : (text : List ℕ) → take 0 text ≡ []
+no_bytes [] = refl
+no_bytes (b ∷ bs) = refl
 
-once : (s : Saying) (old new : Option (List ℕ)) → AppendsPart old new (text_of s) → SaysParts 1 old new
-once s old new p = (new, s, p, Keeps-refl new)
+nothing : (old : Option (List ℕ)) (text : List ℕ) → AppendsPart old old text
+nothing old text = (0, subst (Appends old old) (sym (no_bytes text)) (Appends-nil old))
 
--- an empty part stands before others
-pub saying_fewer : (n : ℕ) (old new : Option (List ℕ)) → SaysParts n old new → SaysParts (suc n) old new
-saying_fewer n old new p = (old, no_memory, (0, Appends-nil old), p)
+pub no_faults : (old : Option (List ℕ)) → SaysFaults old old
+no_faults old = (old, nothing old memory_text, nothing old output_text)
 
-pub output_whole : (old new : Option (List ℕ)) → Appends old new output_text → SaysParts 1 old new
-output_whole old new p = once output_failed old new (whole old new output_text p)
+pub output_alone : (old new : Option (List ℕ)) → AppendsPart old new output_text → SaysFaults old new
+output_alone old new p = (old, nothing old memory_text, p)
 
-pub output_part : (old new : Option (List ℕ)) → AppendsPart old new output_text → SaysParts 1 old new
-output_part old new p = once output_failed old new p
+pub memory_whole : (old new : Option (List ℕ)) → Appends old new memory_text → SaysFaults old new
+memory_whole old new p = (new, whole old new memory_text p, nothing new output_text)
 
-pub memory_whole : (old new : Option (List ℕ)) → Appends old new memory_text → SaysParts 2 old new
-memory_whole old new p = saying_fewer 1 old new (once no_memory old new (whole old new memory_text p))
+pub memory_part : (old new : Option (List ℕ)) → AppendsPart old new memory_text → SaysFaults old new
+memory_part old new p = (new, p, nothing new output_text)
 
-pub memory_part : (old new : Option (List ℕ)) → AppendsPart old new memory_text → SaysParts 2 old new
-memory_part old new p = saying_fewer 1 old new (once no_memory old new p)
+pub memory_more : (text : List ℕ) (old middle new : Option (List ℕ)) → text ≡ memory_text → AppendsPart old middle text → AppendsPart middle new output_text → SaysFaults old new
+memory_more text old middle new e p q = (middle, subst (AppendsPart old middle) e p, q)
 
-pub memory_more : (old middle new : Option (List ℕ)) → AppendsPart old middle memory_text → SaysParts 1 middle new → SaysParts 2 old new
-memory_more old middle new p q = more 1 no_memory old middle new p q
+pub part_whole : (text : List ℕ) (old new : Option (List ℕ)) → Appends old new text → SaysPart text old new
+part_whole text old new p = (new, whole old new text p, no_faults new)
 
-pub saying_whole : (s : Saying) (text : List ℕ) (old new : Option (List ℕ)) → text ≡ text_of s → Appends old new text → SaysParts 3 old new
-saying_whole s text old new e p = saying_fewer 2 old new (saying_fewer 1 old new (once s old new (whole old new (text_of s) (subst (Appends old new) e p))))
+pub part_faults : (text : List ℕ) (old middle new : Option (List ℕ)) → AppendsPart old middle text → SaysFaults middle new → SaysPart text old new
+part_faults text old middle new p q = (middle, p, q)
 
-pub saying_more : (n : ℕ) (s : Saying) (text : List ℕ) (old middle new : Option (List ℕ)) → text ≡ text_of s → AppendsPart old middle text → SaysParts n middle new → SaysParts (suc n) old new
-saying_more n s text old middle new e p q = more n s old middle new (subst (AppendsPart old middle) e p) q
+pub part_output : (text : List ℕ) (old middle new : Option (List ℕ)) → AppendsPart old middle text → AppendsPart middle new output_text → SaysPart text old new
+part_output text old middle new p q = (middle, p, output_alone middle new q)
+
+pub faults_alone : (text : List ℕ) (old new : Option (List ℕ)) → SaysFaults old new → SaysPart text old new
+faults_alone text old new p = (old, nothing old text, p)

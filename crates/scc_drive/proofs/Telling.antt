@@ -1,19 +1,24 @@
 -- How the program ends.
-use Rattle.std.proofs.Common.{◌≡◌, ◌≢◌, ◌⊎◌, inl, inr, ℕ, Bool, true, false, List, String, Option, Some, Result, Ok, Err, sym, subst, ap, refl, ◌∙◌}
+use Rattle.std.proofs.Common.{◌≡◌, ◌≢◌, ◌⊎◌, inl, inr, ℕ, Bool, true, false, List, String, Option, Some, None, Result, Ok, Err, sym, subst, ap, refl, ◌∙◌}
 use Rattle.std.specs.declared.alloc.Global.{Global}
 use Rattle.std.specs.Io.KnownBytes.{Appends}
-use Rattle.scc_base.specs.Outside.{Shelf, Rose}
+use Rattle.scc_base.specs.Outside.{AppendsPart, Shelf, Rose}
 use Rattle.scc_base.specs.declared.code.Code.{Code}
 use Rattle.scc_directives.specs.declared.file.Source.{Source}
 use Rattle.scc_drive.specs.declared.spots.Spot.{Spot}
 use Rattle.scc_drive.specs.declared.stopped.Stopped.{Stopped}
 use Rattle.scc_drive.specs.declared.stopped.Stopped.TheVariants.{BadWords, Refused, Missing, Failed, NoMemory}
-use Rattle.scc_drive.specs.Answer.{Answers, AnswersBy, ComesFor, Tells, IsRefused, IsMissing, HasFailed, Ends, IsOutput}
+use Rattle.scc_drive.specs.Answer.{Answers, AnswersBy, ComesFor, Tells, IsDone, IsRefused, IsMissing, HasFailed, IsCutShort, Ends, stopped_text}
 use Rattle.scc_drive.specs.Comes.{Comes}
 use Rattle.scc_drive.specs.Outcome.{Outcome, bad, refusal, absent, compiles, runs, writes, generated, wider, Task, compiling, listing, simulating, flagged, Kind, kind_of, EndsAs, WritesBy, RefusesBy, MissesBy}
-use Rattle.scc_drive.specs.Said.{Said}
-use Rattle.scc_drive.specs.Words.{are_words, word_at}
-use Rattle.scc_drive.proofs.OneKind.{of_bad, one_kind, asks_alike}
+use Rattle.scc_drive.specs.Said.{Said, SaysFaults, SaysPart}
+use Rattle.scc_drive.specs.Words.{are_words, command_by, word_at}
+use Rattle.scc_thin.specs.declared.design.Design.{Design}
+use Rattle.scc_words.specs.declared.command.Command.{Command}
+use Rattle.scc_words.specs.declared.command.Command.TheVariants as command
+use Rattle.scc_drive.specs.Laws.{AreOne}
+use Rattle.scc_drive.specs.MainTheorem.{MainTheorem}
+use Rattle.scc_drive.proofs.OneKind.{of_bad, one_kind, one_outcome, asks_alike}
 
 -- a status that is not 4 or 5 is the one whose text was said
 said_at : (status n : ℕ) (text : List ℕ) (old new : Option (List ℕ)) (f f' result : ℕ) → Said status text old new f f' result → result ≡ n → n ≢ 4 → n ≢ 5
@@ -137,11 +142,11 @@ module _ (words : List (String Global)) (held : Option Shelf) (m m' f f' : ℕ) 
     refused_of NoMemory a (inl p) one = absurd (let q : 4 ≡ 1 = sym p ∙ one in cc)
     refused_of NoMemory a (inr p) one = absurd (let q : 5 ≡ 1 = sym p.0 ∙ one in cc)
 
-    absent_of : (s : Stopped) → AnswerOf (Err s) → Tells s old new e e' result → result ≡ 3 → IsMissing words held m m' old new ⊎ HasFailed words f f' old new
+    absent_of : (s : Stopped) → AnswerOf (Err s) → Tells s old new e e' result → result ≡ 3 → IsMissing words held m m' old new ⊎ HasFailed words held f f' old new
     absent_of BadWords a t three = absurd (let p = said_at 2 3 _ old new e e' result t three (λ q. cc) (λ q. cc) in let q : 2 ≡ 3 = p.0 in cc)
     absent_of (Refused code spot other) a t three = absurd (let p = said_at 1 3 _ old new e e' result t three (λ q. cc) (λ q. cc) in let q : 1 ≡ 3 = p.0 in cc)
     absent_of (Missing n) a t three = inl (record { name = n; rose = a.0; may = a.1; absent = a.2; lacks = a.3; told = (said_at 3 3 _ old new e e' result t three (λ q. cc) (λ q. cc)).1 })
-    absent_of (Failed n) a t three = inr (record { name = n; rose = a.0; may = a.1; told = (said_at 3 3 _ old new e e' result t three (λ q. cc) (λ q. cc)).1 })
+    absent_of (Failed n) a t three = inr (record { name = n; rose = a.0; may = a.1; asked = a.2; told = (said_at 3 3 _ old new e e' result t three (λ q. cc) (λ q. cc)).1 })
     absent_of NoMemory a (inl p) three = absurd (let q : 4 ≡ 3 = sym p ∙ three in cc)
     absent_of NoMemory a (inr p) three = absurd (let q : 5 ≡ 3 = sym p.0 ∙ three in cc)
 
@@ -165,7 +170,7 @@ module _ (words : List (String Global)) (held : Option Shelf) (m m' f f' : ℕ) 
     pub told_refused : (s : Stopped) → Answers words held m m' f f' (Err s) → Tells s old new e e' result → result ≡ 1 → IsRefused words held old new
     told_refused s a t one = refused_of s (answer_of (Err s) a) t one
 
-    pub told_absent : (s : Stopped) → Answers words held m m' f f' (Err s) → Tells s old new e e' result → result ≡ 3 → IsMissing words held m m' old new ⊎ HasFailed words f f' old new
+    pub told_absent : (s : Stopped) → Answers words held m m' f f' (Err s) → Tells s old new e e' result → result ≡ 3 → IsMissing words held m m' old new ⊎ HasFailed words held f f' old new
     told_absent s a t three = absent_of s (answer_of (Err s) a) t three
 
     pub told_ends : (s : Stopped) → Answers words held m m' f f' (Err s) → Tells s old new e e' result → (shelf : Shelf) → held ≡ Some shelf → Ends shelf words f f' result
@@ -173,7 +178,32 @@ module _ (words : List (String Global)) (held : Option Shelf) (m m' f f' : ℕ) 
 
     pub output_ends : (text : List ℕ) → Answers words held m m' f f' (Ok text) → result ≡ 0 → (shelf : Shelf) → held ≡ Some shelf → Ends shelf words f f' result
     output_ends text a zero shelf h o c =
-        let q = answer_of (Ok text) a shelf h in ends_as shelf q.0 o q.1 c (ends_written (kind_of q.0) f f' result zero (may_write (word_at words 1) q.0 text q.2))
+        let q = (answer_of (Ok text) a).1 shelf h in ends_as shelf q.0 o q.1 c (ends_written (kind_of q.0) f f' result zero (may_write (word_at words 1) q.0 text q.2))
 
-  pub is_output : (text : List ℕ) → Answers words held m m' f f' (Ok text) → (shelf : Shelf) → held ≡ Some shelf → IsOutput shelf words text
-  is_output text a shelf h = answer_of (Ok text) a shelf h
+  pub is_done : (text bytes : List ℕ) (old new : Option (List ℕ)) → Answers words held m m' f f' (Ok text) → bytes ≡ text → Appends old new bytes → IsDone words held old new
+  is_done text bytes old new a same w = let q = answer_of (Ok text) a in record { text = text; may = q.0; output = q.1; written = subst (Appends old new) same w }
+
+  -- the one outcome is the design
+  the_design : (d : Design) (c : Option Command) (o : Outcome) → AreOne c o (compiles d) → o ≡ compiles d
+  the_design d None o e = e
+  the_design d (Some (command.Compile count f)) o e = e
+  the_design d (Some (command.Sim count stim way)) o e = e
+  the_design d (Some (command.Svsim stim f)) o (inl e) = e
+  the_design d (Some (command.Svsim stim f)) o (inr e) = absurd (let q : false ≡ true = e.1 in cc)
+  the_design d (Some (command.List count)) o e = e
+  the_design d (Some (command.Gen stages source)) o e = e
+
+  pub is_theorem : (text bytes : List ℕ) (old new : Option (List ℕ)) → Answers words held m m' f f' (Ok text) → bytes ≡ text → Appends old new bytes → (shelf : Shelf) → held ≡ Some shelf
+      → MainTheorem shelf words old new
+  is_theorem text bytes old new a same w shelf h d c =
+      let q = (answer_of (Ok text) a).1 shelf h in
+      let p = subst (λ o. WritesBy (word_at words 1) o text) (the_design d (command_by words) q.0 (one_outcome shelf words q.0 (compiles d) q.1 c)) q.2 in
+      record { text = text; written = subst (Appends old new) same w; emitted = p.emitted; reads = p.reads; matches = p.matches.whole; shows = p.shows }
+
+  pub cut_written : (text bytes : List ℕ) (out out' err err' : Option (List ℕ)) → Answers words held m m' f f' (Ok text) → bytes ≡ text → AppendsPart out out' bytes → SaysFaults err err'
+      → IsCutShort words held m m' f f' out out' err err'
+  cut_written text bytes out out' err err' a same p q = record { answer = Ok text; answers = a; parts = (subst (AppendsPart out out') same p, q) }
+
+  pub cut_said : (s : Stopped) (out out' err err' : Option (List ℕ)) → Answers words held m m' f f' (Err s) → out' ≡ out → SaysPart (stopped_text s) err err'
+      → IsCutShort words held m m' f f' out out' err err'
+  cut_said s out out' err err' a p q = record { answer = Err s; answers = a; parts = (p, q) }

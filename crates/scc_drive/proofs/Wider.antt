@@ -12,7 +12,7 @@ use Rattle.scc_drive.specs.declared.stopped.Stopped.TheVariants as stopped
 use Rattle.scc_drive.specs.Outcome.{Task, simulating, Outcome, wider, WritesBy, WritesOf, RefusesOf}
 use Rattle.scc_drive.specs.Spots.{spot_in, first_spot, moved, IsSpotOf}
 use Rattle.scc_drive.specs.declared.joining.Read.{Read}
-use Rattle.scc_drive.specs.Answer.{AnswersBy, Writes, Refuses, Misses}
+use Rattle.scc_drive.specs.Answer.{AnswersBy, Asks, Writes, Refuses, Misses}
 use Rattle.scc_drive.specs.Comes.{RootsCome}
 use Rattle.scc_drive.specs.Stages.{Gives, Asking, Asked, IsJoined, IsOfStimulus, ReadComes}
 use Rattle.scc_drive.specs.Stops.{RefusesLater, IsLater, is_of_stimulus}
@@ -102,13 +102,13 @@ asking_since C top held held' m0 m m' f0 f f' (Err (stopped.Failed n)) same p q 
 
 pub answers_since : (C : Shelf → Outcome → Type 0) (top : List ℕ) (held held' : Option Shelf) (m0 m m' f0 f f' : ℕ) (r : Result (List ℕ) Stopped) → held' ≡ held → m0 ≤ m → f0 ≤ f
     → AnswersBy C top held' m m' f f' r → AnswersBy C top held m0 m' f0 f' r
-answers_since C top held held' m0 m m' f0 f f' (Ok text) same p q a = subst (λ h. Told h (Writes C top text)) same a
+answers_since C top held held' m0 m m' f0 f f' (Ok text) same p q a = (a.0, subst (λ h. Told h (Writes C top text)) same a.1)
 answers_since C top held held' m0 m m' f0 f f' (Err (stopped.Refused code spot other)) same p q a = (a.0, subst (λ h. Told h (Refuses C code spot other)) same a.1)
 answers_since C top held held' m0 m m' f0 f f' (Err stopped.NoMemory) same p q a = tt
 answers_since C top held held' m0 m m' f0 f f' (Err stopped.BadWords) same p q a = absurd a
 answers_since C top held held' m0 m m' f0 f f' (Err (stopped.Missing n)) same p q a =
     (rose_later m0 m m' p a.0, a.1, subst (λ h. Told h (Misses C n)) same a.2, subst (λ h. Told h (λ shelf. shelf n ≡ None)) same a.3)
-answers_since C top held held' m0 m m' f0 f f' (Err (stopped.Failed n)) same p q a = (rose_later f0 f f' q a.0, a.1)
+answers_since C top held held' m0 m m' f0 f f' (Err (stopped.Failed n)) same p q a = (rose_later f0 f f' q a.0, a.1, subst (λ h. Told h (Asks C n)) same a.2)
 
 pub simulated_by : (roots : List (List ℕ)) (held held' : Option Shelf) (read : Read) (many : Bool) (stim stim' top top' : List ℕ) (m0 m m' f0 f f' : ℕ) (r : Result (List ℕ) Stopped)
     → IsJoined roots held read → held' ≡ held → m0 ≤ m → f0 ≤ f → stim' ≡ stim → top' ≡ top → Asking (ReadComes (simulating many stim') top' read) top' held' m m' f f' r

@@ -1,5 +1,5 @@
 -- What a command answers, and how the program ends.
-use Rattle.std.specs.Prelude.{◌≡◌, ◌⊎◌, ℕ, List, true, false, String, Option, Some, None, Result, Ok, Err}
+use Rattle.std.specs.Prelude.{◌≡◌, ◌⊎◌, ℕ, List, [], true, false, String, Option, None, Result, Ok, Err, if◌then◌else◌, bytes_eq}
 use Rattle.std.specs.Io.KnownBytes.{Appends}
 use Rattle.std.specs.declared.alloc.Global.{Global}
 use Rattle.scc_base.specs.Outside.{Rose, Shelf, Told, AppendsPart}
@@ -9,7 +9,7 @@ use Rattle.scc_drive.specs.declared.stopped.Stopped.{Stopped}
 use Rattle.scc_drive.specs.declared.stopped.Stopped.TheVariants as stopped
 use Rattle.scc_drive.specs.Comes.{Comes}
 use Rattle.scc_drive.specs.Outcome.{Outcome, WritesBy, RefusesBy, MissesBy, EndsBy}
-use Rattle.scc_drive.specs.Said.{Said}
+use Rattle.scc_drive.specs.Said.{Said, SaysPart, SaysFaults}
 use Rattle.scc_drive.specs.Texts.{refusal_text, words_text, missing_text, failed_text}
 use Rattle.scc_drive.specs.Words.{word_at, are_words}
 
@@ -25,17 +25,26 @@ Refuses C code spot other shelf = (outcome : Outcome) × C shelf outcome × Refu
 abbrev pub Misses : (Shelf → Outcome → Type 0) → List ℕ → Shelf → Type 0
 Misses C name shelf = (outcome : Outcome) × C shelf outcome × MissesBy outcome name
 
+-- what these names hold, but nothing at this one
+abbrev pub without : List ℕ → Shelf → Shelf
+without name shelf n = if bytes_eq n name then None else shelf n
+
+-- The file of this name is asked for, with no refusal and no missing file before it: were it not held, the command would stop for want of it. Or it does so where
+-- these are held, as for the stimulus of `sim`, which may be one of the joined files.
+abbrev pub Asks : (Shelf → Outcome → Type 0) → List ℕ → Shelf → Type 0
+Asks C name shelf = Misses C name (without name shelf) ⊎ Misses C name shelf
+
 -- some names hold what P says
 abbrev pub Anywhere : (Shelf → Type 0) → Type 0
 Anywhere P = (shelf : Shelf) × P shelf
 
 -- what is answered over files where what they hold comes to what C says
 abbrev pub AnswersBy : (Shelf → Outcome → Type 0) → List ℕ → Option Shelf → (misses misses' faults faults' : ℕ) → Result (List ℕ) Stopped → Type 0
-AnswersBy C top held m m' f f' (Ok text) = Told held (Writes C top text)
+AnswersBy C top held m m' f f' (Ok text) = Anywhere (Writes C top text) × Told held (Writes C top text)
 AnswersBy C top held m m' f f' (Err stopped.BadWords) = ⊥
 AnswersBy C top held m m' f f' (Err (stopped.Refused code spot other)) = Anywhere (Refuses C code spot other) × Told held (Refuses C code spot other)
 AnswersBy C top held m m' f f' (Err (stopped.Missing name)) = Rose m m' × Anywhere (Misses C name) × Told held (Misses C name) × Told held (λ shelf. shelf name ≡ None)
-AnswersBy C top held m m' f f' (Err (stopped.Failed name)) = Rose f f' × Anywhere (Misses C name)
+AnswersBy C top held m m' f f' (Err (stopped.Failed name)) = Rose f f' × Anywhere (Misses C name) × Told held (Asks C name)
 AnswersBy C top held m m' f f' (Err stopped.NoMemory) = Unit {0}
 
 -- what a command comes to
@@ -60,13 +69,12 @@ Tells stopped.NoMemory = λ old new f f' result. (result ≡ 4) ⊎ ((result ≡
 abbrev pub IsOutput : Shelf → List (String Global) → List ℕ → Type 0
 IsOutput shelf words text = Writes (ComesFor words) (word_at words 1) text shelf
 
--- 0: the output was appended
-abbrev pub IsDone : Shelf → List (String Global) → Option (List ℕ) → Option (List ℕ) → Type 0
-IsDone shelf words old new = (text : List ℕ) × IsOutput shelf words text × Appends old new text
-
--- 4 and 5: a first part of the output was appended, or nothing
-abbrev pub IsPartOfOutput : Shelf → List (String Global) → Option (List ℕ) → Option (List ℕ) → Type 0
-IsPartOfOutput shelf words old new = (new ≡ old) ⊎ ((text : List ℕ) × IsOutput shelf words text × AppendsPart old new text)
+-- 0: a text was appended, for which some files make the command come to an output
+pub record IsDone (words : List (String Global)) (held : Option Shelf) (old new : Option (List ℕ)) : Type 0 where
+  pub text : List ℕ
+  pub may : Anywhere (λ shelf. IsOutput shelf words text)
+  pub output : Told held (λ shelf. IsOutput shelf words text)
+  pub written : Appends old new text
 
 -- 1: the text of a refusal was appended, which some files bring
 pub record IsRefused (words : List (String Global)) (held : Option Shelf) (old new : Option (List ℕ)) : Type 0 where
@@ -86,11 +94,31 @@ pub record IsMissing (words : List (String Global)) (held : Option Shelf) (m m' 
   pub lacks : Told held (λ shelf. shelf name ≡ None)
   pub told : Appends old new (missing_text name)
 
-pub record HasFailed (words : List (String Global)) (f f' : ℕ) (old new : Option (List ℕ)) : Type 0 where
+pub record HasFailed (words : List (String Global)) (held : Option Shelf) (f f' : ℕ) (old new : Option (List ℕ)) : Type 0 where
   pub name : List ℕ
   pub rose : Rose f f'
   pub may : Anywhere (Misses (ComesFor words) name)
+  pub asked : Told held (Asks (ComesFor words) name)
   pub told : Appends old new (failed_text name)
+
+-- the text that says why there is no output; want of memory is said as a fault
+abbrev pub stopped_text : Stopped → List ℕ
+stopped_text stopped.BadWords = words_text
+stopped_text (stopped.Refused code spot other) = refusal_text code spot other
+stopped_text (stopped.Missing name) = missing_text name
+stopped_text (stopped.Failed name) = failed_text name
+stopped_text stopped.NoMemory = []
+
+-- a first part of what is answered, on the first output, or on the second, and nothing on the first; then parts of what is said of faults
+abbrev pub Parts : Result (List ℕ) Stopped → (out out' err err' : Option (List ℕ)) → Type 0
+Parts (Ok text) out out' err err' = AppendsPart out out' text × SaysFaults err err'
+Parts (Err s) out out' err err' = (out' ≡ out) × SaysPart (stopped_text s) err err'
+
+-- 4 and 5: the command has this answer, of which a first part was written or said, which may be empty
+pub record IsCutShort (words : List (String Global)) (held : Option Shelf) (m m' f f' : ℕ) (out out' err err' : Option (List ℕ)) : Type 0 where
+  pub answer : Result (List ℕ) Stopped
+  pub answers : Answers words held m m' f f' answer
+  pub parts : Parts answer out out' err err'
 
 -- the status, by whatever the command comes to
 abbrev pub Ends : Shelf → List (String Global) → (faults faults' status : ℕ) → Type 0

@@ -6,4 +6,6 @@ pub mod Stops
 pub mod Outcome
 pub mod Comes
 pub mod Answer
+pub mod MainTheorem
 pub mod Stages
+pub mod Laws

@@ -8,6 +8,7 @@ mod files;
 mod generated;
 mod joining;
 mod later;
+mod laws;
 mod say;
 mod source;
 mod spots;
@@ -18,3 +19,4 @@ mod thin;
 mod words;
 
 pub use command::run;
+pub use laws::what_a_command_comes_to_is_one;

@@ -1,8 +1,9 @@
 //! Says on the second output why the program does not end with status 0.
-ghost use Rattle.std.specs.Prelude.{◌≡◌, ◌≤◌, ◌⊎◌, IfOk, OnErr};
-ghost use Rattle.scc_base.specs.Outside.{Rose};
-ghost use Rattle.scc_drive.specs.Said.{Said, Saying, SaysParts, text_of};
-ghost use Rattle.scc_drive.specs.Answer.{Tells};
+ghost use Rattle.std.specs.Prelude.{◌≡◌, ◌≤◌, ◌⊎◌, ℕ, List, IfOk, OnErr};
+ghost use Rattle.scc_base.specs.Outside.{AppendsPart, Rose};
+ghost use Rattle.scc_drive.specs.Said.{Said, SaysFaults, SaysPart};
+ghost use Rattle.scc_drive.specs.Answer.{Tells, stopped_text};
+ghost use Rattle.scc_drive.specs.Texts.{output_text};
 
 use crate::stopped::Stopped;
 use crate::texts;
@@ -10,10 +11,10 @@ use scc_base::{NoMemory, Sink, SinkFault, Status, Text, put_all};
 use std::alloc::Global;
 
 /// Ends with status 5, whether or not the text could be written.
-#[tactic(auto, using(crate::proofs::Saying::output_whole, crate::proofs::Saying::output_part))]
+#[tactic(auto, using(crate::proofs::Saying::whole))]
 pub fn output_failed<E: Sink>(err: &mut E) -> Status
     ensures status { result ≡ 5 }
-    ensures parts { SaysParts 1 (E.taken err.old) (E.taken err.new) }
+    ensures parts { AppendsPart (E.taken err.old) (E.taken err.new) output_text }
     ensures no_fewer_faults { E.faults err.old ≤ E.faults err.new }
 {
     match put_all(err, texts::output_failed()) {
@@ -26,7 +27,7 @@ pub fn output_failed<E: Sink>(err: &mut E) -> Status
 #[tactic(auto, using(crate::proofs::Saying::memory_whole, crate::proofs::Saying::memory_part, crate::proofs::Saying::memory_more))]
 pub fn no_memory<E: Sink>(err: &mut E) -> Status
     ensures status { (result ≡ 4) ⊎ ((result ≡ 5) × Rose (E.faults err.old) (E.faults err.new)) }
-    ensures parts { SaysParts 2 (E.taken err.old) (E.taken err.new) }
+    ensures parts { SaysFaults (E.taken err.old) (E.taken err.new) }
     ensures no_fewer_faults { E.faults err.old ≤ E.faults err.new }
 {
     match put_all(err, texts::no_memory()) {
@@ -36,11 +37,11 @@ pub fn no_memory<E: Sink>(err: &mut E) -> Status
     }
 }
 
-#[tactic(auto, using(crate::proofs::Saying::saying_whole, crate::proofs::Saying::saying_more, crate::proofs::Saying::saying_fewer))]
+#[tactic(auto, using(crate::proofs::Saying::part_whole, crate::proofs::Saying::part_faults, crate::proofs::Saying::part_output))]
 fn say<E: Sink>(err: &mut E, text: &[u8], status: u8) -> Status
     requires { status ≤ 5 }
     ensures said { Said status text.now (E.taken err.old) (E.taken err.new) (E.faults err.old) (E.faults err.new) result }
-    ensures parts { (s : Saying) → text.now ≡ text_of s → SaysParts 3 (E.taken err.old) (E.taken err.new) }
+    ensures parts { SaysPart text.now (E.taken err.old) (E.taken err.new) }
     ensures no_fewer_faults { E.faults err.old ≤ E.faults err.new }
 {
     match put_all(err, text) {
@@ -54,7 +55,7 @@ fn say_made<E: Sink>(err: &mut E, text: Result<Text, NoMemory>, status: u8) -> S
     requires { status ≤ 5 }
     ensures said { IfOk text (λ t. Said status t (E.taken err.old) (E.taken err.new) (E.faults err.old) (E.faults err.new) result) }
     ensures memory { OnErr text ((result ≡ 4) ⊎ ((result ≡ 5) × Rose (E.faults err.old) (E.faults err.new))) }
-    ensures parts { (s : Saying) → IfOk text (λ t. t ≡ text_of s) → SaysParts 3 (E.taken err.old) (E.taken err.new) }
+    ensures parts { (said : List ℕ) → IfOk text (λ t. t ≡ said) → SaysPart said (E.taken err.old) (E.taken err.new) }
     ensures no_fewer_faults { E.faults err.old ≤ E.faults err.new }
 {
     match text {
@@ -66,7 +67,7 @@ fn say_made<E: Sink>(err: &mut E, text: Result<Text, NoMemory>, status: u8) -> S
 /// Says why a command has no output.
 pub fn tell<E: Sink>(alloc: Global, err: &mut E, stopped: Stopped) -> Status
     ensures told { Tells stopped (E.taken err.old) (E.taken err.new) (E.faults err.old) (E.faults err.new) result }
-    ensures parts { SaysParts 3 (E.taken err.old) (E.taken err.new) }
+    ensures parts { SaysPart (stopped_text stopped) (E.taken err.old) (E.taken err.new) }
     ensures no_fewer_faults { E.faults err.old ≤ E.faults err.new }
 {
     match stopped {

@@ -1,7 +1,6 @@
--- The statements of a process as a tree in which each statement holds what follows it. The same tree serves a program with calls
--- and pointers and one whose calls are copied and pointers resolved. Each value that is assigned, written, passed or returned has
--- the kind of its target: conversions are written out.
-use Rattle.std.specs.Prelude.{ℕ, Option}
+-- The expressions and left sides of statements, which are in scc_running (IEEE 1666-2011, 7.2; ISO C++ [expr]). The same serve a program with calls and pointers
+-- and one whose calls are copied and pointers resolved. Each value that is assigned, passed or returned has the kind of its target: conversions are written out.
+use Rattle.std.specs.Prelude.{ℕ}
 use Rattle.scc_kinds.specs.declared.kind.Kind.{Kind}
 use Rattle.scc_kinds.specs.declared.op.Op.{Op}
 use Rattle.scc_meaning.specs.Location.{Location}
@@ -48,28 +47,3 @@ pub data Target : Type 0 where
 pub data Argument : Type 0 where
   Value : (value : Expr) → Argument
   Place : (target : Target) → Argument
-
-pub data Body : Type 0 where
-  End : Body
-  -- a variable takes a value of its kind at once
-  Assign : (left : Left) (pick : Pick) (value : Expr) (rest : Body) → Body
-  -- a pointer or reference takes a location
-  Point : (left : Left) (target : Target) (rest : Body) → Body
-  -- a declared number or pointer, one element of it at a time, begins as 0 or null
-  Clear : (left : Left) (rest : Body) → Body
-  -- a request to a signal or output, which takes effect later
-  Write : (to : Left) (value : Expr) (rest : Body) → Body
-  If : (test : Expr) (yes no rest : Body) → Body
-  Block : (body rest : Body) → Body
-  Loop : (body rest : Body) → Body
-  -- leaves the n-th enclosing block of this function, counted outward from 0
-  Exit : (depth : ℕ) (rest : Body) → Body
-  -- a call by its number in the calling function, on an object, or on the caller's own: first its result, where it has one, and its
-  -- parameters, and then the function of that number
-  Call : (number : ℕ) (object : Option Left) (enter : Body) (function : ℕ) (rest : Body) → Body
-  -- entering a function: its result begins as 0; a parameter, by its declaration, takes an argument, which the caller evaluates
-  Begin : (rest : Body) → Body
-  Pass : (declaration : ℕ) (argument : Argument) (rest : Body) → Body
-  Return : (value : Option Expr) (rest : Body) → Body
-  -- waits for so many edges, under its number in text order
-  Wait : (number count : ℕ) (rest : Body) → Body

@@ -4,16 +4,63 @@ use Rattle.std.proofs.lemmas.Bool.{ne_eqb}
 use Rattle.std.proofs.lemmas.Bool.Decides.{eqb_tells}
 use Rattle.scc_meaning.specs.Location.{Location}
 use Rattle.scc_meaning.specs.Store.{changed}
-use Rattle.scc_meaning.specs.Run.{set_inputs, AllFit, FitsThing, word_at}
+use Rattle.std.specs.Prelude.{filter, not}
+use Rattle.scc_running.specs.Design.{inputs, outputs, is_input, locations}
+use Rattle.scc_running.specs.Design as direction
+use Rattle.scc_running.specs.Run.{set_inputs, AllFit, FitsThing, word_at}
+use Rattle.scc_meaning_text.specs.Emitted.{given_from, outputs_from}
+use Rattle.scc_svtree.specs.declared.stmt.SvStmt.{SvStmt}
+use Rattle.scc_svtree.specs.declared.module.SvBlock.TheVariants.{Comb}
+use Rattle.scc_svtree.specs.declared.module.SvVar.{SvVar}
 use Rattle.scc_svtree.specs.declared.module.Dir.TheVariants.{Input, Output}
 use Rattle.scc_thin.specs.declared.design.Design as thin
 use Rattle.scc_thin.specs.declared.design.Port.{Port}
 use Rattle.scc_thinmodule.specs.Emitted.{var_of, width_of}
 use Rattle.scc_thin.specs.Resolved.{is_output_at}
-use Rattle.scc_thinmodule.specs.Same.{given_from, outputs_from}
-use Rattle.scc_thinmodule.specs.Source.{member, members_from, thing_at, source_of}
+use Rattle.scc_thinmodule.specs.Source.{member, ports_from, thing_at, source_of}
 use Rattle.scc_thinmodule.proofs.Putting.{thing_is}
 use Rattle.scc_thinmodule.proofs.Lasting.{and_true}
+
+abbrev same_bool : Bool → Bool → Bool
+same_bool true b = b
+same_bool false true = false
+same_bool false false = true
+
+-- the inputs, or the outputs, among ports that are numbered from i on
+abbrev pub members_from : Bool → ℕ → List Port → List Location
+members_from output i [] = []
+members_from output i (p ∷ ps) = cond (same_bool p.output output) (member i ∷ members_from output (i + 1) ps) (members_from output (i + 1) ps)
+
+all_stay : (xs : List Location) → filter (λ l. true) xs ≡ xs
+all_stay [] = refl
+all_stay (x ∷ xs) = ap (λ l. x ∷ l) (all_stay xs)
+
+the_inputs : (i : ℕ) (ps : List Port) → locations (filter (λ p. is_input p.direction) (ports_from i ps)) ≡ members_from false i ps
+the_inputs i [] = refl
+the_inputs i (p ∷ ps) = by_output p.output (the_inputs (i + 1) ps)
+  where
+    by_output : (b : Bool) → locations (filter (λ p. is_input p.direction) (ports_from (i + 1) ps)) ≡ members_from false (i + 1) ps
+        → locations (filter (λ p. is_input p.direction) (record { location = member i; direction = cond b direction.Output direction.Input } ∷ ports_from (i + 1) ps))
+        ≡ cond (same_bool b false) (member i ∷ members_from false (i + 1) ps) (members_from false (i + 1) ps)
+    by_output true e = e
+    by_output false e = ap (λ l. member i ∷ l) e
+
+the_outputs : (i : ℕ) (ps : List Port) → locations (filter (λ p. not (is_input p.direction)) (ports_from i ps)) ≡ members_from true i ps
+the_outputs i [] = refl
+the_outputs i (p ∷ ps) = by_output p.output (the_outputs (i + 1) ps)
+  where
+    by_output : (b : Bool) → locations (filter (λ p. not (is_input p.direction)) (ports_from (i + 1) ps)) ≡ members_from true (i + 1) ps
+        → locations (filter (λ p. not (is_input p.direction)) (record { location = member i; direction = cond b direction.Output direction.Input } ∷ ports_from (i + 1) ps))
+        ≡ cond (same_bool b true) (member i ∷ members_from true (i + 1) ps) (members_from true (i + 1) ps)
+    by_output true e = ap (λ l. member i ∷ l) e
+    by_output false e = e
+
+-- no port is a clock
+pub inputs_are : (d : thin.Design) → inputs (source_of d) ≡ members_from false 0 d.ports
+inputs_are d = all_stay (locations (filter (λ p. is_input p.direction) (ports_from 0 d.ports))) ∙ the_inputs 0 d.ports
+
+pub outputs_are : (d : thin.Design) → outputs (source_of d) ≡ members_from true 0 d.ports
+outputs_are d = the_outputs 0 d.ports
 
 -- the words of the outputs among the ports, numbered from i on
 abbrev outs : ℕ → List Port → (ℕ → ℕ) → List ℕ
@@ -76,11 +123,14 @@ module _ (ports : List Port) where
       by_output false (x ∷ xs) more =
           more xs (changed (member i) x words) ∙ ap (λ b. cond b x (words (member v))) (and_true (nat_eq i v) ∙ ne_eqb i v (λ e. omega (arith, e, h)))
 
--- the words that the inputs are set to are those that the module is given, and they fit
-module _ (d : thin.Design) where
+-- The words that the inputs are set to are those that the module is given, and they fit. Its one block has no clock.
+module _ (d : thin.Design) (ss : List SvStmt) where
+  abbrev handed : ℕ → List SvVar → List ℕ → ℕ → ℕ
+  handed = given_from (Comb ss ∷ [])
+
   abbrev SetRight : ℕ → List Port → List ℕ → (Location → ℕ) → ℕ → Type 0
   SetRight i qs xs words v =
-      (set_inputs (members_from false i qs) xs words (member v) ≡ given_from i (map var_of qs) xs v) × (given_from i (map var_of qs) xs v < 2 ^ width_of d.ports v)
+      (set_inputs (members_from false i qs) xs words (member v) ≡ handed i (map var_of qs) xs v) × (handed i (map var_of qs) xs v < 2 ^ width_of d.ports v)
 
   abbrev port_with : Port → Bool → Port
   port_with q b = record { name = q.name; output = b; width = q.width }
@@ -106,13 +156,13 @@ module _ (d : thin.Design) where
       at_input x xs one rest more = elim (eqb_tells i v) [
         | inl p ↦ (
           set_before d.ports (i + 1) qs xs (changed (member i) x words) v (omega (arith, p.1)) ∙ ap (λ b. cond (b && true) x (words (member v))) p.0
-              ∙ sym (ap (λ b. cond b x (given_from (i + 1) (map var_of qs) xs v)) p.0),
-          subst (λ n. n < 2 ^ width_of d.ports v) (sym (ap (λ b. cond b x (given_from (i + 1) (map var_of qs) xs v)) p.0))
+              ∙ sym (ap (λ b. cond b x (handed (i + 1) (map var_of qs) xs v)) p.0),
+          subst (λ n. n < 2 ^ width_of d.ports v) (sym (ap (λ b. cond b x (handed (i + 1) (map var_of qs) xs v)) p.0))
               (subst (λ j. x < 2 ^ width_of d.ports j) p.1 (subst (λ t. FitsThing t x) (thing_is d.ports i (omega arith)) one)),
         )
         | inr p ↦ (let m = more xs (changed (member i) x words) (let n : i ≢ v = p.1 in omega (arith, n, low)) rest in (
-          m.0 ∙ sym (ap (λ b. cond b x (given_from (i + 1) (map var_of qs) xs v)) p.0),
-          subst (λ n. n < 2 ^ width_of d.ports v) (sym (ap (λ b. cond b x (given_from (i + 1) (map var_of qs) xs v)) p.0)) m.1,
+          m.0 ∙ sym (ap (λ b. cond b x (handed (i + 1) (map var_of qs) xs v)) p.0),
+          subst (λ n. n < 2 ^ width_of d.ports v) (sym (ap (λ b. cond b x (handed (i + 1) (map var_of qs) xs v)) p.0)) m.1,
         ))
       ]
 
@@ -121,5 +171,5 @@ module _ (d : thin.Design) where
       by_output false p [] fit more = absurd fit
       by_output false p (x ∷ xs) fit more = at_input x xs fit.0 fit.1 more
 
-  pub words_of_outputs : (words : Location → ℕ) (v : ℕ) → v < length d.ports → word_at (thing_at d.ports (member v)) words (member v) ≡ words (member v)
-  words_of_outputs words v h = ap (λ t. word_at t words (member v)) (thing_is d.ports v h)
+pub words_of_outputs : (d : thin.Design) (words : Location → ℕ) (v : ℕ) → v < length d.ports → word_at (thing_at d.ports (member v)) words (member v) ≡ words (member v)
+words_of_outputs d words v h = ap (λ t. word_at t words (member v)) (thing_is d.ports v h)

@@ -5,7 +5,9 @@ pub mod Terms
 pub mod Emitting
 pub mod Statements
 pub mod Inputs
+pub mod Starts
 pub mod Theorem
+pub mod Matching
 pub mod Sound
 pub mod Shown
 pub mod Chains

@@ -7,10 +7,12 @@ use Rattle.scc_kinds.specs.Kinds.{stored, number_of}
 use Rattle.scc_bits.specs.Values.{applied, kind_of}
 use Rattle.scc_meaning.specs.Location.{Location}
 use Rattle.scc_meaning.specs.Design.{Signal, Places}
-use Rattle.scc_meaning.specs.Body.{Body, Convert}
+use Rattle.scc_meaning.specs.Body.{Convert, Whole}
 use Rattle.scc_meaning.specs.Store.{Request}
-use Rattle.scc_meaning.specs.Value.{Names, Scene, value, sensed, kind_or}
-use Rattle.scc_meaning.specs.Machine.{Inner, Stop, Go, Held, Outcome, Ended, Unfinished, run, unless_stuck, requested}
+use Rattle.scc_meaning.specs.Value.{Names, Scene, sensed, kind_or}
+use Rattle.scc_running.specs.Body.{Body}
+use Rattle.scc_running.specs.Value.{Held, value, put_at}
+use Rattle.scc_running.specs.Machine.{Inner, Stop, Go, Outcome, Ended, Unfinished, run, unless_stuck}
 use Rattle.scc_thin.specs.declared.design.Port.{Port}
 use Rattle.scc_thin.specs.declared.design.Put.{Put}
 use Rattle.scc_thin.specs.declared.design.Second.{Second}
@@ -96,8 +98,9 @@ module _ (ports : List Port) (functions : ℕ → Body) (signals : Location → 
   -- a write takes one step
   one_write : (n : ℕ) (p : Put) (puts : List Put) (h : Held) → Within (length ports) p → runs (suc n) (p ∷ puts) h ≡ runs n puts (asked h p)
   one_write n p puts h w =
-      ap (λ v. unless_stuck h v (λ x. runs n puts (requested (thing_at ports (member p.target)) h (member p.target) x))) (value_written h (width_of ports p.target) p.first p.second w.1 w.2)
-      ∙ ap (λ t. runs n puts (requested t h (member p.target) (put_word ports words p))) (thing_is ports p.target w.0)
+      ap (λ v. unless_stuck h v (λ x. unless_stuck h (put_at (thing_at ports (member p.target)) (the_scene h) h (member p.target) Whole x) (runs n puts)))
+      (value_written h (width_of ports p.target) p.first p.second w.1 w.2)
+      ∙ ap (λ t. unless_stuck h (put_at t (the_scene h) h (member p.target) Whole (put_word ports words p)) (runs n puts)) (thing_is ports p.target w.0)
 
   -- the method asks for its writes, in order
   pub method_runs : (n : ℕ) (puts : List Put) (h : Held) → AllWithin (length ports) puts → length puts ≤ n

@@ -5,10 +5,10 @@ use Rattle.std.proofs.lemmas.Bool.{cases_lt}
 use Rattle.std.specs.List.{list_any}
 use Rattle.scc_meaning.specs.Location.{Location, same}
 use Rattle.scc_meaning.specs.Store.{updated}
-use Rattle.scc_meaning.specs.Machine.{Stop}
-use Rattle.scc_meaning.specs.Body.{End}
-use Rattle.scc_meaning.specs.Process.{State, Well, Failed, and_then, framed, left_by, phase, update, settle, is_combinational}
-use Rattle.scc_meaning.specs.Run.{Step, Observation, Shown, observed, with_inputs, step, finished, shown}
+use Rattle.scc_running.specs.Machine.{Stop}
+use Rattle.scc_running.specs.Body.{End}
+use Rattle.scc_running.specs.Process.{State, Well, Failed, and_then, framed, left_by, phase, update, settle, is_combinational}
+use Rattle.scc_running.specs.Run.{Step, Observation, Shown, observed, with_inputs, step, finished, shown}
 use Rattle.scc_thin.specs.declared.design.Design.{Design}
 use Rattle.scc_thin.specs.declared.design.Port.{Port}
 use Rattle.scc_thin.specs.Resolved.{is_output_at, targets_of}

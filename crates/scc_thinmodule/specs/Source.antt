@@ -1,13 +1,16 @@
 -- The design that a thin text denotes: its ports, and one combinational method that runs its writes.
-use Rattle.std.specs.Prelude.{ℕ, ◌+◌, List, [], ◌∷◌, map, Bool, false, true, Option, Some, None, if◌then◌else◌, slice_get, option_map}
+use Rattle.std.specs.Prelude.{ℕ, ◌+◌, List, [], ◌∷◌, map, false, Option, Some, None, if◌then◌else◌, slice_get, option_map, unwrap_or}
 use Rattle.scc_kinds.specs.declared.kind.Kind.TheVariants as kind
 use Rattle.scc_kinds.specs.declared.op.Op.{Op}
 use Rattle.scc_kinds.specs.declared.op.Op.TheVariants as op
 use Rattle.scc_meaning.specs.Location.{Location, Root, Top, Part, Member}
 use Rattle.scc_meaning.specs.Body as body
-use Rattle.scc_meaning.specs.Body.{Expr, Body}
-use Rattle.scc_meaning.specs.Design as meaning
-use Rattle.scc_meaning.specs.Design.{Thing, Signal, Combinational, Process}
+use Rattle.scc_meaning.specs.Body.{Expr}
+use Rattle.scc_meaning.specs.Design.{Thing, Signal, Combinational}
+use Rattle.scc_running.specs.Body as statement
+use Rattle.scc_running.specs.Body.{Body}
+use Rattle.scc_running.specs.Design as running
+use Rattle.scc_running.specs.Design.{Process, TopPort, Direction, Input, Output}
 use Rattle.scc_thin.specs.declared.design.Design.{Design}
 use Rattle.scc_thin.specs.declared.design.Port.{Port}
 use Rattle.scc_thin.specs.declared.design.Put.{Put}
@@ -19,11 +22,6 @@ use Rattle.scc_thinmodule.specs.Emitted.{width_of}
 -- a member of the top, by its number: the names of the ports are numbered as they are declared
 abbrev pub member : ℕ → Location
 member i = record { root = Top; path = Member i ∷ [] }
-
-abbrev pub same_bool : Bool → Bool → Bool
-same_bool true b = b
-same_bool false true = false
-same_bool false false = true
 
 abbrev pub top : Location
 top = record { root = Top; path = [] }
@@ -54,26 +52,36 @@ written_of ports first (Some s) = body.Binary (op_of s.op) (read_of ports first)
 
 -- y.write(..), converted to the kind of y, and what follows
 abbrev pub body_of : List Port → List Put → Body
-body_of ports [] = body.End
+body_of ports [] = statement.End
 body_of ports (p ∷ ps) =
-    body.Write (body.Field body.This p.target) (body.Convert (kind.Uint (width_of ports p.target)) (written_of ports p.first p.second)) (body_of ports ps)
+    statement.Assign (body.Field body.This p.target) body.Whole (body.Convert (kind.Uint (width_of ports p.target)) (written_of ports p.first p.second)) (body_of ports ps)
 
--- the inputs, or the outputs, among ports that are numbered from i on
-abbrev pub members_from : Bool → ℕ → List Port → List Location
-members_from output i [] = []
-members_from output i (p ∷ ps) = if same_bool p.output output then member i ∷ members_from output (i + 1) ps else members_from output (i + 1) ps
+abbrev pub direction_of : Port → Direction
+direction_of p = if p.output then Output else Input
+
+-- ports that are numbered from i on
+abbrev pub ports_from : ℕ → List Port → List TopPort
+ports_from i [] = []
+ports_from i (p ∷ ps) = record { location = member i; direction = direction_of p } ∷ ports_from (i + 1) ps
 
 abbrev pub method_of : Design → List ℕ → Process
 method_of d senses = record { object = top; sort = Combinational (map member senses); body = body_of d.ports d.puts }
 
-abbrev pub source_of : Design → meaning.Design
+abbrev pub source_of : Design → running.Design
 source_of d = record {
   places = record { things = thing_at d.ports; pointers = λ l. false };
-  functions = λ n. body.End;
-  clocks = [];
-  inputs = members_from false 0 d.ports;
-  outputs = members_from true 0 d.ports;
+  functions = λ n. statement.End;
+  ports = ports_from 0 d.ports;
+  fixed = λ l. None;
   constant = λ l. None;
   targets = λ l. None;
   processes = method_of d d.senses ∷ [];
 }
+
+-- the name of a port at its member; nothing else has a name
+abbrev pub text_in : List Port → Root → List Part → List ℕ
+text_in ports Top (Member i ∷ []) = unwrap_or (option_map (λ p. p.name) (slice_get ports i)) []
+text_in ports _ _ = []
+
+abbrev pub text_of : Design → Location → List ℕ
+text_of d l = text_in d.ports l.root l.path

@@ -1,9 +1,7 @@
-use Rattle.scc_drive.proofs.Saying.{saying_fewer}
-use Rattle.scc_drive.proofs.Telling.{told_refused, told_absent, told_ends, output_ends}
+use Rattle.std.proofs.Common.{refl}
+use Rattle.scc_drive.proofs.Saying.{output_alone}
+use Rattle.scc_drive.proofs.Telling.{told_refused, told_absent, told_ends, output_ends, is_done, is_theorem, cut_written, cut_said}
 use Rattle.scc_drive.proofs.command.run.Goals as goal
-
-pub returns-in-Err-Failed-clause-said : goal.returns-in-Err-Failed-clause-said
-returns-in-Err-Failed-clause-said g c = λ _. saying_fewer 2 _ _ (saying_fewer 1 _ _ c.output_failed.ensures.parts)
 
 pub returns-clause-refused : goal.returns-clause-refused
 returns-clause-refused g c = λ one. told_refused c.args.words.now _ _ _ _ _ _ _ _ _ _ c.in-Err.stopped c.in-Err.ensures.answers c.tell.ensures.told one
@@ -14,6 +12,23 @@ returns-clause-absent g c = λ three. told_absent c.args.words.now _ _ _ _ _ _ _
 pub returns-clause-ends : goal.returns-clause-ends
 returns-clause-ends g c = λ shelf h. told_ends c.args.words.now _ _ _ _ _ _ _ _ _ _ c.in-Err.stopped c.in-Err.ensures.answers c.tell.ensures.told shelf h
 
+pub returns-clause-part : goal.returns-clause-part
+returns-clause-part g c = λ _. cut_said c.args.words.now _ _ _ _ _ c.in-Err.stopped _ _ _ _ c.in-Err.ensures.answers refl c.tell.ensures.parts
+
+pub returns-in-Ok-put_all-clause-theorem : goal.returns-in-Ok-put_all-clause-theorem
+returns-in-Ok-put_all-clause-theorem g c = λ _. is_theorem c.args.words.now (g.F.Files.held c.args.files.now) (g.F.Files.misses c.args.files.now) (g.F.Files.misses c.answer.new.files) (g.F.Files.faults c.args.files.now) (g.F.Files.faults c.answer.new.files) c.in-Ok.text _ _ _ c.in-Ok.ensures.answers c.bytes.ensures.bytes c.in-Ok-put_all.ensures.whole
+
+pub returns-in-Ok-put_all-clause-done : goal.returns-in-Ok-put_all-clause-done
+returns-in-Ok-put_all-clause-done g c = λ _. is_done c.args.words.now (g.F.Files.held c.args.files.now) (g.F.Files.misses c.args.files.now) (g.F.Files.misses c.answer.new.files) (g.F.Files.faults c.args.files.now) (g.F.Files.faults c.answer.new.files) c.in-Ok.text _ _ _ c.in-Ok.ensures.answers c.bytes.ensures.bytes c.in-Ok-put_all.ensures.whole
+
 pub returns-in-Ok-put_all-clause-ends : goal.returns-in-Ok-put_all-clause-ends
 returns-in-Ok-put_all-clause-ends g c = λ shelf h. output_ends c.args.words.now _ (g.F.Files.misses c.args.files.now) (g.F.Files.misses c.answer.new.files) (g.F.Files.faults c.args.files.now) (g.F.Files.faults c.answer.new.files)
     (g.E.Sink.taken c.args.err.now) (g.E.Sink.taken c.args.err.now) 0 0 _ c.in-Ok.text c.in-Ok.ensures.answers c.new.ensures.number shelf h
+
+pub returns-in-Err-Failed-clause-part : goal.returns-in-Err-Failed-clause-part
+returns-in-Err-Failed-clause-part g c =
+    λ _. cut_written c.args.words.now _ _ _ _ _ c.in-Ok.text _ _ _ _ _ c.in-Ok.ensures.answers c.bytes.ensures.bytes c.in-Err-Failed.ensures.part (output_alone _ _ c.output_failed.ensures.parts)
+
+pub returns-in-Ok-clause-part : goal.returns-in-Ok-clause-part
+returns-in-Ok-clause-part g c =
+    λ _. cut_written c.args.words.now _ _ _ _ _ c.in-Ok.text _ _ _ _ _ c.in-Ok.ensures.answers c.bytes.ensures.bytes c.in-Err-NoMemory.ensures.part c.no_memory.ensures.parts
