@@ -1,7 +1,7 @@
 use Rattle.std.proofs.Common.{◌≡◌, length}
-use Rattle.scc_grammar.specs.Answer.{onto}
-use Rattle.scc_grammar.specs.ParseItems as p
-use Rattle.scc_grammar.specs.Text.{next_says}
+use Rattle.scc_terminals.specs.Answer.{onto}
+use Rattle.scc_syntax.specs.ParseItems as p
+use Rattle.scc_terminals.specs.Text.{next_says}
 use Rattle.scc_reading.specs.Reading.{repeat}
 use Rattle.scc_grammar.proofs.outside.more_fronts.Given as goal
 
