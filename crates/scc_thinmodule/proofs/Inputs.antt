@@ -5,7 +5,7 @@ use Rattle.std.proofs.lemmas.Bool.Decides.{eqb_tells}
 use Rattle.scc_meaning.specs.Location.{Location}
 use Rattle.scc_meaning.specs.Store.{changed}
 use Rattle.std.specs.Prelude.{filter, not}
-use Rattle.scc_running.specs.Design.{TopPort, Direction, inputs, outputs, is_input, locations}
+use Rattle.scc_running.specs.Design.{inputs, outputs, is_input, locations}
 use Rattle.scc_running.specs.Design as direction
 use Rattle.scc_running.specs.Run.{set_inputs, AllFit, FitsThing, word_at}
 use Rattle.scc_meaning_text.specs.Emitted.{given_from, outputs_from}
@@ -17,7 +17,7 @@ use Rattle.scc_thin.specs.declared.design.Design as thin
 use Rattle.scc_thin.specs.declared.design.Port.{Port}
 use Rattle.scc_thinmodule.specs.Emitted.{var_of, width_of}
 use Rattle.scc_thin.specs.Resolved.{is_output_at}
-use Rattle.scc_thinmodule.specs.Source.{member, direction_of, ports_from, thing_at, source_of}
+use Rattle.scc_thinmodule.specs.Source.{member, ports_from, thing_at, source_of}
 use Rattle.scc_thinmodule.proofs.Putting.{thing_is}
 use Rattle.scc_thinmodule.proofs.Lasting.{and_true}
 

@@ -1,9 +1,8 @@
 -- The module of a design matches it, in the words of the whole language.
-use Rattle.std.proofs.Common.{◌≡◌, ℕ, zero, suc, ◌+◌, List, [], ◌∷◌, map, length, Bool, true, false, cond, nat_eq, Option, Some, None, ap, refl, sym, ◌∙◌, subst, arith}
+use Rattle.std.proofs.Common.{◌≡◌, ℕ, suc, ◌+◌, List, [], ◌∷◌, map, length, Bool, true, false, cond, Option, Some, ap, refl, sym, ◌∙◌, arith}
 use Rattle.std.specs.Prelude.{take, slice_get, option_map, unwrap_or}
 use Rattle.scc_running.specs.Design as running
 use Rattle.scc_running.specs.Design.{is_input}
-use Rattle.scc_meaning_text.specs.Matches as text
 use Rattle.scc_meaning_text.specs.Matches.{PortView, is_in, port_view, thing_width, var_view}
 use Rattle.scc_svtree.specs.declared.module.Dir.TheVariants.{Input, Output}
 use Rattle.scc_thin.specs.declared.design.Design.{Design}

@@ -1,5 +1,5 @@
 -- Designs of thin texts have a start, and need no reset.
-use Rattle.std.proofs.Common.{◌≡◌, ℕ, List, [], ◌∷◌, ◌++◌, Option, Some, None, refl}
+use Rattle.std.proofs.Common.{List, [], ◌∷◌, ◌++◌, Option, Some, None, refl}
 use Rattle.std.proofs.lemmas.Nat.{pow_pos}
 use Rattle.std.specs.Prelude.{unwrap_or}
 use Rattle.scc_kinds.specs.Kinds.{width_of}

@@ -4,8 +4,8 @@ use Rattle.std.specs.Prelude.{unwrap_or}
 use Rattle.scc_meaning.specs.Location.{Location}
 use Rattle.scc_running.specs.Process.{State}
 use Rattle.scc_running.specs.Run as run
-use Rattle.scc_running.specs.Run.{Observation, Shown, AllFit, FitSteps, FitsStep, set_inputs, observed, word_at}
-use Rattle.scc_running.specs.Statement.{Shot, Seen, SameShot, SameAfter, AllSame}
+use Rattle.scc_running.specs.Run.{Shown, AllFit, FitSteps, FitsStep, set_inputs, observed, word_at}
+use Rattle.scc_running.specs.Statement.{Seen, SameShot, SameAfter, AllSame}
 use Rattle.scc_meaning_text.specs.Emitted.{given, step_of, has_edge, edge_at, outputs_from, register, shot, seen_of, AreSeen, Runs}
 use Rattle.scc_svtree.specs.declared.stmt.SvStmt.{SvStmt}
 use Rattle.scc_svtree.specs.declared.module.SvModule.{SvModule}

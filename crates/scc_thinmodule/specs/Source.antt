@@ -1,5 +1,5 @@
 -- The design that a thin text denotes: its ports, and one combinational method that runs its writes.
-use Rattle.std.specs.Prelude.{ℕ, ◌+◌, List, [], ◌∷◌, map, Bool, false, Option, Some, None, if◌then◌else◌, slice_get, option_map, unwrap_or}
+use Rattle.std.specs.Prelude.{ℕ, ◌+◌, List, [], ◌∷◌, map, false, Option, Some, None, if◌then◌else◌, slice_get, option_map, unwrap_or}
 use Rattle.scc_kinds.specs.declared.kind.Kind.TheVariants as kind
 use Rattle.scc_kinds.specs.declared.op.Op.{Op}
 use Rattle.scc_kinds.specs.declared.op.Op.TheVariants as op
