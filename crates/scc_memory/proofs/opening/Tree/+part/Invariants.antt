@@ -1,0 +1,4 @@
+use Rattle.scc_memory.proofs.opening.Tree.+part.Given as goal
+
+abbrev pub decreases-part : goal.decreases-part
+decreases-part c = c.levels
