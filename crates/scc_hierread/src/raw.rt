@@ -1,5 +1,5 @@
 //! Modules with instances as they are written.
-use scc_base::{List, NoMemory, Text};
+use scc_base::{List, Text, lost};
 use scc_svgrammar::{Halt, RawItem, RawModule, RawVar};
 use scc_svraw::parts::{block, declaration, is_next, name, ports, text, word_bytes};
 use std::alloc::Global;
@@ -71,13 +71,16 @@ fn wires(alloc: Global, whole: usize, ts: &[u8]) -> Result<(List<RawWire>, &[u8]
     }
     let (first, mut rest) = wire(alloc, whole, ts)?;
     found.push(first)?;
-    while is_next(44, rest) {
+    for _ in 0..usize::MAX {
+        if !is_next(44, rest) {
+            return Ok((found, rest));
+        }
         let (_, behind) = text(b", ", rest)?;
         let (next, after) = wire(alloc, whole, behind)?;
         found.push(next)?;
         rest = after;
     }
-    Ok((found, rest))
+    Err(Halt::from(lost()))
 }
 
 // An instance from behind its blanks.
@@ -145,26 +148,32 @@ fn declarations<'a>(
     ts: &'a [u8],
 ) -> Result<((), &'a [u8]), Halt> {
     let mut rest = ts;
-    while goes_on_with_declaration(rest) {
+    for _ in 0..usize::MAX {
+        if !goes_on_with_declaration(rest) {
+            return Ok(((), rest));
+        }
         let (_, behind) = text(b"  ", rest)?;
         let ((item, _), after) = declaration(alloc, behind)?;
         items.push(item)?;
         rest = after;
     }
-    Ok(((), rest))
+    Err(Halt::from(lost()))
 }
 
 // Lines up to the first block, or to the last line, each of which is an instance.
 fn instances(alloc: Global, whole: usize, ts: &[u8]) -> Result<(List<RawInstance>, &[u8]), Halt> {
     let mut found = List::new(alloc);
     let mut rest = ts;
-    while is_next(32, rest) && !goes_on_with_block(rest) {
+    for _ in 0..usize::MAX {
+        if !is_next(32, rest) || goes_on_with_block(rest) {
+            return Ok((found, rest));
+        }
         let (_, behind) = text(b"  ", rest)?;
         let (next, after) = instance(alloc, whole, behind)?;
         found.push(next)?;
         rest = after;
     }
-    Ok((found, rest))
+    Err(Halt::from(lost()))
 }
 
 // Blocks go into the items.
@@ -174,13 +183,16 @@ fn blocks<'a>(
     ts: &'a [u8],
 ) -> Result<((), &'a [u8]), Halt> {
     let mut rest = ts;
-    while is_next(32, rest) {
+    for _ in 0..usize::MAX {
+        if !is_next(32, rest) {
+            return Ok(((), rest));
+        }
         let (_, behind) = text(b"  ", rest)?;
         let (b, after) = block(alloc, LEVELS, behind)?;
         items.push(RawItem::Block(b))?;
         rest = after;
     }
-    Ok(((), rest))
+    Err(Halt::from(lost()))
 }
 
 // A module from behind its ports.
@@ -229,12 +241,15 @@ pub fn modules(alloc: Global, bytes: &[u8]) -> Result<List<RawHier>, Halt> {
     let (first, mut rest) = module(alloc, whole, bytes)?;
     let mut found = List::new(alloc);
     found.push(first)?;
-    while !rest.is_empty() {
+    for _ in 0..usize::MAX {
+        if rest.is_empty() {
+            return Ok(found);
+        }
         let (next, after) = module(alloc, whole, rest)?;
         found.push(next)?;
         rest = after;
     }
-    Ok(found)
+    Err(Halt::from(lost()))
 }
 
 /// How many bytes of the text stand before a module's name.
