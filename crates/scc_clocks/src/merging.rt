@@ -106,11 +106,16 @@ fn cursors_of(alloc: Global, joined: &Joined, parts: &[SvModule]) -> Result<Vec<
     let mut cursors = Vec::new(alloc);
     for m in parts {
         let mut cursor = 0;
-        for v in m.vars.as_slice() {
-            if joined.id(v.name.bytes()).is_none() {
-                break;
+        for at in 0..m.vars.len() {
+            match m.vars.get(at) {
+                Some(v) => {
+                    if joined.id(v.name.bytes()).is_none() {
+                        break;
+                    }
+                    cursor = at + 1;
+                }
+                None => break,
             }
-            cursor += 1;
         }
         push(&mut cursors, cursor)?;
     }
