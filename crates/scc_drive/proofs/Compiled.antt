@@ -1,5 +1,5 @@
 -- What compiling joined files answers, by what they come to.
-use Rattle.std.proofs.Common.{◌≡◌, ℕ, List, Option, Some, None, Result, Ok, Err, ap, refl, sym, subst}
+use Rattle.std.proofs.Common.{◌≡◌, ℕ, List, Option, Some, None, Result, Ok, Err, ap, sym, subst}
 use Rattle.std.specs.Prelude.{IfErr, IfOk, false}
 use Rattle.scc_base.specs.declared.code.Code.TheVariants.{NotYet}
 use Rattle.scc_svtext.specs.ModuleText.{module_text}

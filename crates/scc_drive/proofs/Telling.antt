@@ -14,11 +14,10 @@ use Rattle.scc_drive.specs.Outcome.{Outcome, bad, refusal, absent, compiles, run
 use Rattle.scc_drive.specs.Said.{Said, SaysFaults, SaysPart}
 use Rattle.scc_drive.specs.Words.{are_words, command_by, word_at}
 use Rattle.scc_thin.specs.declared.design.Design.{Design}
-use Rattle.scc_thinmodule.specs.Source.{source_of, text_of}
 use Rattle.scc_words.specs.declared.command.Command.{Command}
 use Rattle.scc_words.specs.declared.command.Command.TheVariants as command
 use Rattle.scc_drive.specs.Laws.{AreOne}
-use Rattle.scc_drive.specs.MainTheorem.{MainTheorem, IsCompiled}
+use Rattle.scc_drive.specs.MainTheorem.{MainTheorem}
 use Rattle.scc_drive.proofs.OneKind.{of_bad, one_kind, one_outcome, asks_alike}
 
 -- a status that is not 4 or 5 is the one whose text was said
