@@ -38,9 +38,6 @@ HEADING = re.compile(r"^## E(\d+) (.*)$", re.M)
 REPEAT = re.compile(r"\{\{(\d+)\*(.*?)\}\}", re.S)
 TABLES = REPOSITORY / "crates" / "scc_error_tests" / "src"
 
-# options that stand in a page before the program has them: their examples aren't in the tables yet
-LATER = {"--clocks", "--hier"}
-
 
 def expanded(text):
     def copies(match):
@@ -164,8 +161,7 @@ def table(page):
         "pub const EXAMPLES: &[Example] = &[",
     ]
     for example in examples_of(page):
-        if not LATER.intersection(example.words):
-            lines.extend(rows(example))
+        lines.extend(rows(example))
     return TABLES / f"{name}.rt", "\n".join([*lines, "];", ""])
 
 

@@ -1,9 +1,10 @@
 -- What compiling joined files answers, by what they come to.
 use Rattle.std.proofs.Common.{◌≡◌, ℕ, List, Option, Some, None, Result, Ok, Err, ap, sym, subst}
 use Rattle.std.specs.Prelude.{IfErr, IfOk, false}
-use Rattle.scc_base.specs.declared.code.Code.TheVariants.{NotYet}
 use Rattle.scc_svtext.specs.ModuleText.{module_text}
 use Rattle.scc_syntax.specs.Claim.{IsReadFile}
+use Rattle.scc_forms.specs.declared.form.TextForm.{TextForm}
+use Rattle.scc_forms.specs.Formed.{IsFormed, has_clocks}
 use Rattle.scc_stages.specs.Emitted.{IsEmitted}
 use Rattle.scc_thin.specs.declared.design.Design.{Design}
 use Rattle.scc_thin.specs.Thin.{thin_of}
@@ -14,11 +15,10 @@ use Rattle.scc_thinmodule.proofs.Shown.{thin_shown, thin_faultless}
 use Rattle.scc_drive.specs.declared.joining.Read.{Read}
 use Rattle.scc_drive.specs.declared.stopped.Stopped.{Stopped}
 use Rattle.scc_drive.specs.declared.stopped.Stopped.TheVariants as stopped
-use Rattle.scc_drive.specs.Comes.{reads, outcome_of_design, first_place}
-use Rattle.scc_drive.specs.Outcome.{compiling, listing, flagged, simulating, refusal, compiles, wider}
-use Rattle.scc_drive.specs.Spots.{spot_of}
+use Rattle.scc_drive.specs.Comes.{reads, outcome_of_design}
+use Rattle.scc_drive.specs.Outcome.{compiling, forming, listing, compiles}
 use Rattle.scc_drive.specs.Stages.{Gives, ReadComes}
-use Rattle.scc_drive.specs.Stops.{Stops, IsLater}
+use Rattle.scc_drive.specs.Stops.{IsLater}
 use Rattle.scc_drive.proofs.Wider.{wider_stops, wider_writes}
 
 module _ (top : List ℕ) (read : Read) (file : IsReadFile read.joined read.tree) where
@@ -41,17 +41,16 @@ module _ (top : List ℕ) (read : Read) (file : IsReadFile read.joined read.tree
   thin_gives d (Err s) h e p q = subst (λ s. Gives (ReadComes compiling top read) top (Err s)) (sym q) tt
 
   -- the answers of another
-  pub later_gives : (r : Result (List ℕ) Stopped) → thin_of read.names top read.joined.tokens ≡ None → IfOk r (λ text. IsEmitted top text) → IfErr r (IsLater false read.sources)
+  pub later_gives : (r : Result (List ℕ) Stopped) → thin_of read.names top read.joined.tokens ≡ None → IfOk r (λ text. IsEmitted false top text) → IfErr r (IsLater false read.sources)
       → Gives (ReadComes compiling top read) top r
   later_gives (Ok text) e p q = wider_writes (ReadComes compiling top read) top compiling read.sources (comes_by None e) text p
   later_gives (Err s) e p q = wider_stops (ReadComes compiling top read) top compiling read.sources (comes_by None e) false s (λ code spot other x. x) q
 
-  pub flagged_gives : (s : Stopped) → Stops read.sources (first_place read.joined.tokens read.joined.end) NotYet s → Gives (ReadComes flagged top read) top (Err s)
-  flagged_gives (stopped.Refused code spot other) h = (refusal NotYet (spot_of read.sources (first_place read.joined.tokens read.joined.end)), reads read.tree file, h)
-  flagged_gives stopped.NoMemory h = tt
-  flagged_gives stopped.BadWords h = absurd h
-  flagged_gives (stopped.Missing name) h = absurd h
-  flagged_gives (stopped.Failed name) h = absurd h
+  pub forming_stops : (form : TextForm) (s : Stopped) → IsLater (has_clocks form) read.sources s → Gives (ReadComes (forming form) top read) top (Err s)
+  forming_stops form s q = wider_stops (ReadComes (forming form) top read) top (forming form) read.sources (reads read.tree file) (has_clocks form) s (λ code spot other x. x) q
+
+  pub forming_writes : (form : TextForm) (text : List ℕ) → IsFormed form top text → Gives (ReadComes (forming form) top read) top (Ok text)
+  forming_writes form text w = wider_writes (ReadComes (forming form) top read) top (forming form) read.sources (reads read.tree file) text w
 
   pub listing_stops : (s : Stopped) → IsLater false read.sources s → Gives (ReadComes listing top read) top (Err s)
   listing_stops s q = wider_stops (ReadComes listing top read) top listing read.sources (reads read.tree file) false s (λ code spot other x. x) q

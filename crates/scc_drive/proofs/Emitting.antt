@@ -6,7 +6,7 @@ use Rattle.std.proofs.lemmas.Slice.Eq.{bytes_eq-Decides}
 use Rattle.std.specs.Prelude.{take, option_map, bytes_eq, nat_lt, IfOk, IfErr, if◌then◌else◌, unwrap_or, is_some}
 use Rattle.scc_base.specs.Outside.{Shelf, Told, Rose}
 use Rattle.scc_base.specs.declared.code.Code.{Code}
-use Rattle.scc_base.specs.declared.code.Code.TheVariants.{FileTooLong, NotYet, SvName}
+use Rattle.scc_base.specs.declared.code.Code.TheVariants.{FileTooLong, SvName}
 use Rattle.scc_base.specs.declared.refusal.Refusal.{Refusal}
 use Rattle.scc_base.specs.declared.refusal.Stop.{Stop}
 use Rattle.scc_base.specs.declared.refusal.Stop.TheVariants as stop
@@ -22,10 +22,10 @@ use Rattle.scc_drive.specs.declared.stopped.Stopped.{Stopped}
 use Rattle.scc_drive.specs.declared.stopped.Stopped.TheVariants as stopped
 use Rattle.scc_drive.specs.Answer.{AnswersBy, without}
 use Rattle.scc_drive.specs.Comes.{TextComes, unread, misnamed, meets, outcome_on, outcome_of_stimulus, outcome_of_steps, LongTextComes, TextFileComes, TextsCome}
-use Rattle.scc_drive.specs.Outcome.{Outcome, refusal, absent, runs, RefusesBy, WritesBy, MissesBy}
+use Rattle.scc_drive.specs.Outcome.{Outcome, refusal, absent, runs, wider, tracing, RefusesBy, WritesBy, MissesBy}
 use Rattle.scc_drive.specs.Spots.{spot_in, first_spot}
-use Rattle.scc_drive.specs.Stages.{Gives, Asked, IsHeld, IsNoModule}
-use Rattle.scc_drive.specs.Stops.{StopsAt, StoppedIn}
+use Rattle.scc_drive.specs.Stages.{Gives, Asking, Asked, IsHeld, IsNoModule}
+use Rattle.scc_drive.specs.Stops.{StopsAt, StoppedIn, IsOfText}
 use Rattle.scc_drive.proofs.Wider.{answers_since}
 use Rattle.scc_drive.proofs.Without.{without_none, still_held}
 
@@ -99,6 +99,17 @@ module _ (plain : Bool) (top name stim : List ℕ) (held : Option Shelf) where
 
 -- ---- the text
 
+-- what a text of another form than one module comes to
+abbrev pub FormComes : List ℕ → Source → Outcome → Type 0
+FormComes stim text o = o ≡ wider (tracing stim) (text ∷ [])
+
+pub form_stops : (stim top : List ℕ) (text : Source) (held : Option Shelf) (m m' f f' : ℕ) (s : Stopped) → IsOfText text s → Asking (FormComes stim text) top held m m' f f' (Err s)
+form_stops stim top text held m m' f f' (stopped.Refused code spot other) h = (wider (tracing stim) (text ∷ []), refl, inl h)
+form_stops stim top text held m m' f f' stopped.NoMemory h = tt
+form_stops stim top text held m m' f f' stopped.BadWords h = absurd h
+form_stops stim top text held m m' f f' (stopped.Missing n) h = absurd h
+form_stops stim top text held m m' f f' (stopped.Failed n) h = absurd h
+
 module _ (top name bytes stim : List ℕ) (short : length bytes ≤ 1048576) (held : Option Shelf) (told : IsHeld held name bytes) where
   abbrev text_file : Source
   text_file = record { name = name; bytes = bytes }
@@ -131,14 +142,21 @@ module _ (top name bytes stim : List ℕ) (short : length bytes ≤ 1048576) (he
   come_two : (given : Option (List ℕ)) (o : Outcome) → Fits given → TextComes top text_file stim given o → TextsCome true top name stim (two given) o
   come_two given o h c = come (two given) given o (two_name given h) (two_stim given h) c
 
-  pub text_flagged : (m m' f f' : ℕ) (s : Stopped) → StopsAt NotYet (spot_in (Some text_file) 0) s → AnswersBy (TextsCome false top name stim) top held m m' f f' (Err s)
-  text_flagged m m' f f' (stopped.Refused code spot other) h =
-      let o = refusal NotYet (spot_in (Some text_file) 0) in
-      ((all_of bytes, (o, come_by false (all_of bytes) o (whole_part bytes (omega (arith, short))) refl, h)), λ shelf e. (o, come_by false shelf o (told shelf e) refl, h))
-  text_flagged m m' f f' stopped.NoMemory h = tt
-  text_flagged m m' f f' stopped.BadWords h = absurd h
-  text_flagged m m' f f' (stopped.Missing n) h = absurd h
-  text_flagged m m' f f' (stopped.Failed n) h = absurd h
+  in_form : (shelf : Shelf) (o : Outcome) → first_part shelf name ≡ Some bytes → FormComes stim text_file o → TextsCome false top name stim shelf o
+  in_form shelf o e c = come_by false shelf o e c
+
+  somewhere : (o : Outcome) → FormComes stim text_file o → TextsCome false top name stim (all_of bytes) o
+  somewhere o c = in_form (all_of bytes) o (whole_part bytes (omega (arith, short))) c
+
+  pub form_answers : (m m' f f' : ℕ) (r : Result (List ℕ) Stopped) → Asking (FormComes stim text_file) top held m m' f f' r → AnswersBy (TextsCome false top name stim) top held m m' f f' r
+  form_answers m m' f f' (Ok trace) g = ((all_of bytes, (g.0, somewhere g.0 g.1, g.2)), λ shelf e. (g.0, in_form shelf g.0 (told shelf e) g.1, g.2))
+  form_answers m m' f f' (Err (stopped.Refused code spot other)) g = ((all_of bytes, (g.0, somewhere g.0 g.1, g.2)), λ shelf e. (g.0, in_form shelf g.0 (told shelf e) g.1, g.2))
+  form_answers m m' f f' (Err stopped.NoMemory) g = tt
+  form_answers m m' f f' (Err stopped.BadWords) g = absurd g
+  form_answers m m' f f' (Err (stopped.Missing n)) g =
+      (g.0, (all_of bytes, (g.1.0, somewhere g.1.0 g.1.1, g.1.2)), λ shelf e. (g.1.0, in_form shelf g.1.0 (told shelf e) g.1.1, g.1.2), g.2)
+  form_answers m m' f f' (Err (stopped.Failed n)) g =
+      (g.0, (all_of bytes, (g.1.0, somewhere g.1.0 g.1.1, g.1.2)), λ shelf e. inr (g.1.0, in_form shelf g.1.0 (told shelf e) g.1.1, g.1.2))
 
   -- the answers where the text_file is refused
   pub text_stops : (m m' f f' : ℕ) (s : Stopped) → IsNoModule top text_file s → AnswersBy (TextsCome true top name stim) top held m m' f f' (Err s)
@@ -257,21 +275,13 @@ module _ (m : SvModule) (s : Source) (top : List ℕ) where
 -- ---- the whole command
 
 -- the answers where the text was read
-pub text_answered : (plain : Bool) (top top' name name' stim stim' : List ℕ) (held held' : Option Shelf) (m0 m m' f0 f f' : ℕ) (r : Result (List ℕ) Stopped) → plain ≡ true → top' ≡ top → name' ≡ name
-    → stim' ≡ stim → held' ≡ held → m0 ≤ m → f0 ≤ f → AnswersBy (TextsCome true top' name' stim') top' held' m m' f f' r → AnswersBy (TextsCome plain top name stim) top held m0 m' f0 f' r
-text_answered plain top top' name name' stim stim' held held' m0 m m' f0 f f' r p a b c same q s x =
+pub text_answered : (plain plain' : Bool) (top top' name name' stim stim' : List ℕ) (held held' : Option Shelf) (m0 m m' f0 f f' : ℕ) (r : Result (List ℕ) Stopped) → plain ≡ plain' → top' ≡ top → name' ≡ name
+    → stim' ≡ stim → held' ≡ held → m0 ≤ m → f0 ≤ f → AnswersBy (TextsCome plain' top' name' stim') top' held' m m' f f' r → AnswersBy (TextsCome plain top name stim) top held m0 m' f0 f' r
+text_answered plain plain' top top' name name' stim stim' held held' m0 m m' f0 f f' r p a b c same q s x =
     answers_since (TextsCome plain top name stim) top held held' m0 m m' f0 f f' r same q s
     (subst (λ d. AnswersBy (TextsCome d top name stim) top held' m m' f f' r) (sym p)
-    (subst (λ d. AnswersBy (TextsCome true top name d) top held' m m' f f' r) c
-    (subst (λ d. AnswersBy (TextsCome true top d stim') top held' m m' f f' r) b (subst (λ d. AnswersBy (TextsCome true d name' stim') d held' m m' f f' r) a x))))
-
--- the answers where a flag stands of which the program has no meaning yet
-pub flagged_answered : (plain : Bool) (top name name' stim : List ℕ) (held : Option Shelf) (m m' f f' : ℕ) (s : Source) (x : Stopped) → plain ≡ false → name' ≡ name
-    → Asked name' held m m' f f' (Ok s) → StopsAt NotYet (spot_in (Some s) 0) x → AnswersBy (TextsCome plain top name stim) top held m m' f f' (Err x)
-flagged_answered plain top name name' stim held m m' f f' s x p b asked h =
-    subst (λ d. AnswersBy (TextsCome d top name stim) top held m m' f f' (Err x)) (sym p)
-    (subst (λ d. AnswersBy (TextsCome false top d stim) top held m m' f f' (Err x)) (asked.0 ∙ b)
-    (text_flagged top s.name s.bytes stim asked.1 held (subst (λ d. IsHeld held d s.bytes) (sym asked.0) asked.2) m m' f f' x h))
+    (subst (λ d. AnswersBy (TextsCome plain' top name d) top held' m m' f f' r) c
+    (subst (λ d. AnswersBy (TextsCome plain' top d stim') top held' m m' f f' r) b (subst (λ d. AnswersBy (TextsCome plain' d name' stim') d held' m m' f f' r) a x))))
 
 pub unasked_answered : (plain : Bool) (top name name' stim : List ℕ) (held : Option Shelf) (m m' f f' : ℕ) (x : Stopped) → name' ≡ name → Asked name' held m m' f f' (Err x)
     → AnswersBy (TextsCome plain top name stim) top held m m' f f' (Err x)

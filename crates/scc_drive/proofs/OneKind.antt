@@ -26,7 +26,7 @@ use Rattle.scc_trace.specs.declared.stim.StimStep.{StimStep}
 use Rattle.scc_words.specs.declared.command.Command.{Command}
 use Rattle.scc_words.specs.declared.command.Command.TheVariants as command
 use Rattle.scc_drive.specs.Comes.{Comes, ComesBy, CommandComes, GeneratedComes, RootsCome, FoundComes, JoinedComes, reads, faulty, outcome_of_file, outcome_of_design, task_of, has_clocks, is_plain, TextComes, unread, misnamed, meets, TextComesBy, LongTextComes, TextFileComes, TextsCome, outcome_on, outcome_of_stimulus, outcome_of_steps}
-use Rattle.scc_drive.specs.Outcome.{Task, compiling, listing, simulating, flagged, Outcome, bad, refusal, absent, compiles, runs, writes, generated, wider, Kind, kind_of, kind_of_task}
+use Rattle.scc_drive.specs.Outcome.{Task, compiling, forming, listing, simulating, tracing, Outcome, bad, refusal, absent, compiles, runs, writes, generated, wider, Kind, kind_of, kind_of_task}
 use Rattle.scc_drive.specs.Spots.{spot_of}
 use Rattle.scc_drive.specs.Laws.{AreAlike, AreOne, is_refusal}
 use Rattle.scc_drive.specs.Words.{command_by, are_words, word_at, roots_of}
@@ -151,9 +151,10 @@ asks_by (command.Gen stages source) = false
 
 task_asks : (task : Task) → (kind_of_task task).asks ≡ true
 task_asks compiling = refl
+task_asks (forming form) = refl
 task_asks listing = refl
 task_asks (simulating many stim) = refl
-task_asks flagged = refl
+task_asks (tracing stim) = refl
 
 design_asks : (sources : List Source) (d : Option Design) → (kind_of (outcome_of_design sources d)).asks ≡ true
 design_asks sources None = refl
@@ -162,9 +163,10 @@ design_asks sources (Some d) = refl
 module _ (top : List ℕ) (names : List (List ℕ)) (sources : List Source) where
   file_asks : (task : Task) (j : Joined) → (kind_of (outcome_of_file task top names sources j)).asks ≡ true
   file_asks compiling j = design_asks sources (thin_of names top j.tokens)
+  file_asks (forming form) j = refl
   file_asks listing j = refl
   file_asks (simulating many stim) j = refl
-  file_asks flagged j = refl
+  file_asks (tracing stim) j = refl
 
   joined_asks : (task : Task) (j : Joined) (o : Outcome) → JoinedComes task top names sources j o → (kind_of o).asks ≡ true
   joined_asks task j _ (reads file f) = file_asks task j

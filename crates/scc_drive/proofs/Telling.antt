@@ -10,7 +10,7 @@ use Rattle.scc_drive.specs.declared.stopped.Stopped.{Stopped}
 use Rattle.scc_drive.specs.declared.stopped.Stopped.TheVariants.{BadWords, Refused, Missing, Failed, NoMemory}
 use Rattle.scc_drive.specs.Answer.{Answers, AnswersBy, ComesFor, Tells, IsDone, IsRefused, IsMissing, HasFailed, IsCutShort, Ends, stopped_text}
 use Rattle.scc_drive.specs.Comes.{Comes}
-use Rattle.scc_drive.specs.Outcome.{Outcome, bad, refusal, absent, compiles, runs, writes, generated, wider, Task, compiling, listing, simulating, flagged, Kind, kind_of, EndsAs, WritesBy, RefusesBy, MissesBy}
+use Rattle.scc_drive.specs.Outcome.{Outcome, bad, refusal, absent, compiles, runs, writes, generated, wider, Task, compiling, forming, listing, simulating, tracing, Kind, kind_of, EndsAs, WritesBy, RefusesBy, MissesBy}
 use Rattle.scc_drive.specs.Said.{Said, SaysFaults, SaysPart}
 use Rattle.scc_drive.specs.Words.{are_words, command_by, word_at}
 use Rattle.scc_thin.specs.declared.design.Design.{Design}
@@ -31,9 +31,10 @@ said_at status n text old new f f' result (inr (inr p)) e not4 not5 = absurd (no
 
 writes_of_task : (task : Task) (top : List ℕ) (sources : List Source) (text : List ℕ) → WritesBy top (wider task sources) text → (kind_of (wider task sources)).may_write ≡ true
 writes_of_task compiling top sources text w = refl
+writes_of_task (forming form) top sources text w = refl
 writes_of_task listing top sources text w = refl
 writes_of_task (simulating many stim) top sources text w = refl
-writes_of_task flagged top sources text w = absurd w
+writes_of_task (tracing stim) top sources text w = refl
 
 may_write : (top : List ℕ) (o : Outcome) (text : List ℕ) → WritesBy top o text → (kind_of o).may_write ≡ true
 may_write top bad text w = absurd w
@@ -47,9 +48,10 @@ may_write top (wider task sources) text w = writes_of_task task top sources text
 
 refuses_of_task : (task : Task) (sources : List Source) (code : Code) (spot : Spot) (other : Option Spot) → RefusesBy (wider task sources) code spot other → (kind_of (wider task sources)).may_refuse ≡ true
 refuses_of_task compiling sources code spot other r = refl
+refuses_of_task (forming form) sources code spot other r = refl
 refuses_of_task listing sources code spot other r = refl
 refuses_of_task (simulating many stim) sources code spot other r = refl
-refuses_of_task flagged sources code spot other r = absurd r
+refuses_of_task (tracing stim) sources code spot other r = refl
 
 may_refuse : (o : Outcome) (code : Code) (spot : Spot) (other : Option Spot) → RefusesBy o code spot other → (kind_of o).may_refuse ≡ true
 may_refuse bad code spot other r = absurd r
@@ -63,9 +65,10 @@ may_refuse (wider task sources) code spot other r = refuses_of_task task sources
 
 misses_of_task : (task : Task) (sources : List Source) (name : List ℕ) → MissesBy (wider task sources) name → ((kind_of (wider task sources)).may_miss ≡ true) × ((kind_of (wider task sources)).asks ≡ true)
 misses_of_task compiling sources name m = absurd m
+misses_of_task (forming form) sources name m = absurd m
 misses_of_task listing sources name m = absurd m
 misses_of_task (simulating many stim) sources name m = (refl, refl)
-misses_of_task flagged sources name m = absurd m
+misses_of_task (tracing stim) sources name m = (refl, refl)
 
 may_miss : (o : Outcome) (name : List ℕ) → MissesBy o name → ((kind_of o).may_miss ≡ true) × ((kind_of o).asks ≡ true)
 may_miss bad name m = absurd m

@@ -9,13 +9,13 @@ use Rattle.scc_directives.specs.declared.file.Source.{Source}
 use Rattle.scc_drive.specs.declared.spots.Spot.{Spot}
 use Rattle.scc_drive.specs.declared.stopped.Stopped.{Stopped}
 use Rattle.scc_drive.specs.declared.stopped.Stopped.TheVariants as stopped
-use Rattle.scc_drive.specs.Outcome.{Task, simulating, Outcome, wider, WritesBy, WritesOf, RefusesOf}
+use Rattle.scc_drive.specs.Outcome.{Task, simulating, tracing, Outcome, wider, WritesOf, RefusesOf, MissesOf}
 use Rattle.scc_drive.specs.Spots.{spot_in, first_spot, moved, IsSpotOf}
 use Rattle.scc_drive.specs.declared.joining.Read.{Read}
 use Rattle.scc_drive.specs.Answer.{AnswersBy, Asks, Writes, Refuses, Misses}
 use Rattle.scc_drive.specs.Comes.{RootsCome}
 use Rattle.scc_drive.specs.Stages.{Gives, Asking, Asked, IsJoined, IsOfStimulus, ReadComes}
-use Rattle.scc_drive.specs.Stops.{RefusesLater, IsLater, is_of_stimulus}
+use Rattle.scc_drive.specs.Stops.{RefusesLater, RefusesStimulus, IsLater, is_of_stimulus}
 use Rattle.scc_drive.proofs.Joined.{joined_asking}
 
 module _ (C : Outcome → Type 0) (top : List ℕ) (task : Task) (sources : List Source) (comes : C (wider task sources)) where
@@ -47,40 +47,54 @@ pub spots_within : (s : Source) (at : ℕ) → at ≤ length s.bytes → (r : Re
 spots_within s at within (Ok spot) e = (record { file = 0; at = at }, (s, refl, within), e)
 spots_within s at within (Err x) e = tt
 
-module _ (C : Outcome → Type 0) (top : List ℕ) (many : Bool) (stim : List ℕ) (sources : List Source) (comes : C (wider (simulating many stim) sources)) (held : Option Shelf) (m m' f f' : ℕ) where
+-- a task that asks for the stimulus of this name
+pub record Stimulated (task : Task) (stim top : List ℕ) (sources : List Source) : Type 0 where
+  pub refuses : (code : Code) (spot : Spot) (other : Option Spot) → RefusesStimulus stim code spot other → RefusesOf task sources code spot other
+  pub misses : (name : List ℕ) → name ≡ stim → MissesOf task name
+  pub writes : (text : List ℕ) → WritesOf task top text
+
+pub simulating_stimulated : (many : Bool) (stim top : List ℕ) (sources : List Source) → Stimulated (simulating many stim) stim top sources
+simulating_stimulated many stim top sources = record { refuses = λ code spot other q. inr q; misses = λ name e. e; writes = λ text. tt }
+
+pub tracing_stimulated : (stim top : List ℕ) (sources : List Source) → Stimulated (tracing stim) stim top sources
+tracing_stimulated stim top sources = record { refuses = λ code spot other q. inr q; misses = λ name e. e; writes = λ text. tt }
+
+module _ (C : Outcome → Type 0) (top stim : List ℕ) (task : Task) (sources : List Source) (given : Stimulated task stim top sources) (comes : C (wider task sources)) (held : Option Shelf) (m m' f f' : ℕ) where
+  -- the answers where the stimulus isn't given
+  pub stimulus_lacks : (s : Stopped) → Asked stim held m m' f f' (Err s) → Asking C top held m m' f f' (Err s)
+  stimulus_lacks (stopped.Refused code spot other) q = (
+    wider task sources,
+    comes,
+    given.refuses code spot other (
+      ap (λ c. is_of_stimulus c) q.0 ∙ refl,
+      (record { name = stim; bytes = q.3.0 }, refl, subst (IsSpotOf (record { name = stim; bytes = q.3.0 } ∷ [])) (sym q.1) (first_of stim q.3.0)),
+      q.2,
+    ),
+  )
+  stimulus_lacks stopped.NoMemory q = tt
+  stimulus_lacks stopped.BadWords q = absurd q
+  stimulus_lacks (stopped.Missing name) q = (q.1, (wider task sources, comes, given.misses name q.0), subst (λ n. Told held (λ shelf. shelf n ≡ None)) (sym q.0) q.2)
+  stimulus_lacks (stopped.Failed name) q = (q.1, (wider task sources, comes, given.misses name q.0))
+
+  stimulus_refused : (s : Stopped) → IsOfStimulus stim s → Asking C top held m m' f f' (Err s)
+  stimulus_refused (stopped.Refused code spot other) q = (wider task sources, comes, given.refuses code spot other q)
+  stimulus_refused stopped.NoMemory q = tt
+  stimulus_refused stopped.BadWords q = absurd q
+  stimulus_refused (stopped.Missing name) q = absurd q
+  stimulus_refused (stopped.Failed name) q = absurd q
+
+  -- the answer that a stimulus gives
+  pub stimulus_gives : (name : List ℕ) (r : Result (List ℕ) Stopped) → name ≡ stim → IfErr r (IsOfStimulus name) → Asking C top held m m' f f' r
+  stimulus_gives name (Ok text) e q = (wider task sources, comes, given.writes text)
+  stimulus_gives name (Err s) e q = stimulus_refused s (subst (λ n. IsOfStimulus n s) e q)
+
+module _ (C : Outcome → Type 0) (top stim : List ℕ) (many : Bool) (sources : List Source) (comes : C (wider (simulating many stim) sources)) (held : Option Shelf) (m m' f f' : ℕ) where
   pub simulating_stops : (s : Stopped) → IsLater many sources s → Asking C top held m m' f f' (Err s)
   simulating_stops (stopped.Refused code spot other) q = (wider (simulating many stim) sources, comes, inl q)
   simulating_stops stopped.NoMemory q = tt
   simulating_stops stopped.BadWords q = absurd q
   simulating_stops (stopped.Missing name) q = absurd q
   simulating_stops (stopped.Failed name) q = absurd q
-
-  pub simulating_unasked : (s : Stopped) → Asked stim held m m' f f' (Err s) → Asking C top held m m' f f' (Err s)
-  simulating_unasked (stopped.Refused code spot other) q = (
-    wider (simulating many stim) sources,
-    comes,
-    inr (
-      ap (λ c. is_of_stimulus c) q.0 ∙ refl,
-      (record { name = stim; bytes = q.3.0 }, refl, subst (IsSpotOf (record { name = stim; bytes = q.3.0 } ∷ [])) (sym q.1) (first_of stim q.3.0)),
-      q.2,
-    ),
-  )
-  simulating_unasked stopped.NoMemory q = tt
-  simulating_unasked stopped.BadWords q = absurd q
-  simulating_unasked (stopped.Missing name) q = (q.1, (wider (simulating many stim) sources, comes, q.0), subst (λ n. Told held (λ shelf. shelf n ≡ None)) (sym q.0) q.2)
-  simulating_unasked (stopped.Failed name) q = (q.1, (wider (simulating many stim) sources, comes, q.0))
-
-  pub simulating_refused : (s : Stopped) → IsOfStimulus stim s → Asking C top held m m' f f' (Err s)
-  simulating_refused (stopped.Refused code spot other) q = (wider (simulating many stim) sources, comes, inr q)
-  simulating_refused stopped.NoMemory q = tt
-  simulating_refused stopped.BadWords q = absurd q
-  simulating_refused (stopped.Missing name) q = absurd q
-  simulating_refused (stopped.Failed name) q = absurd q
-
-  -- the answer that a stimulus gives
-  pub simulating_gives : (name : List ℕ) (r : Result (List ℕ) Stopped) → name ≡ stim → IfErr r (IsOfStimulus name) → Asking C top held m m' f f' r
-  simulating_gives name (Ok text) e q = (wider (simulating many stim) sources, comes, tt)
-  simulating_gives name (Err s) e q = simulating_refused s (subst (λ n. IsOfStimulus n s) e q)
 
 -- ---- what came before
 

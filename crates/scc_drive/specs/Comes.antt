@@ -4,7 +4,7 @@ use Rattle.std.specs.declared.alloc.Global.{Global}
 use Rattle.scc_base.specs.Names.{fixed_names}
 use Rattle.scc_base.specs.Outside.{Shelf}
 use Rattle.scc_base.specs.declared.code.Code.{Code}
-use Rattle.scc_base.specs.declared.code.Code.TheVariants.{FileTooLong, NotYet, SvName}
+use Rattle.scc_base.specs.declared.code.Code.TheVariants.{FileTooLong, SvName}
 use Rattle.scc_base.specs.declared.refusal.Place.{Place}
 use Rattle.scc_base.specs.declared.refusal.Refusal.{Refusal}
 use Rattle.scc_base.specs.declared.refusal.Stop.TheVariants as stop
@@ -13,7 +13,6 @@ use Rattle.scc_svread.specs.Read.{ReadAs, ReadBack, RefusedAs}
 use Rattle.scc_svtrace.specs.Ports.{in_ports}
 use Rattle.scc_directives.specs.declared.file.Source.{Source}
 use Rattle.scc_tokens.specs.declared.joining.Joined.{Joined}
-use Rattle.scc_lexer.specs.declared.token.Token.{Token}
 use Rattle.scc_tokens.specs.Files.{first_part}
 use Rattle.scc_tokens.specs.Join.{join_of}
 use Rattle.scc_directives.specs.Steps as join
@@ -32,7 +31,9 @@ use Rattle.scc_words.specs.declared.command.SvForm.{SvForm}
 use Rattle.scc_words.specs.declared.command.SvForm.TheVariants as sv_form
 use Rattle.scc_words.specs.declared.command.SimWay.{SimWay}
 use Rattle.scc_words.specs.declared.command.SimWay.TheVariants as sim_way
-use Rattle.scc_drive.specs.Outcome.{Task, compiling, listing, simulating, flagged, Outcome, bad, refusal, absent, compiles, runs, writes, generated, wider}
+use Rattle.scc_forms.specs.declared.form.TextForm.{TextForm}
+use Rattle.scc_forms.specs.declared.form.TextForm.TheVariants as text_form
+use Rattle.scc_drive.specs.Outcome.{Task, compiling, forming, listing, simulating, tracing, Outcome, bad, refusal, absent, compiles, runs, writes, generated, wider}
 use Rattle.scc_drive.specs.Spots.{spot_of, spot_in, first_spot}
 use Rattle.scc_drive.specs.Words.{command_by, word_at, roots_of}
 
@@ -41,17 +42,13 @@ abbrev pub outcome_of_design : List Source → Option Design → Outcome
 outcome_of_design sources None = wider compiling sources
 outcome_of_design sources (Some d) = compiles d
 
--- the first token's place, or the end
-abbrev pub first_place : List Token → Place → Place
-first_place [] end = end
-first_place (t ∷ ts) end = t.place
-
--- what joined tokens of the grammar come to; a flag of which the program has no meaning yet refuses the first token
+-- what joined tokens of the grammar come to
 abbrev pub outcome_of_file : Task → List ℕ → List (List ℕ) → List Source → Joined → Outcome
 outcome_of_file compiling top names sources j = outcome_of_design sources (thin_of names top j.tokens)
+outcome_of_file (forming form) top names sources j = wider (forming form) sources
 outcome_of_file listing top names sources j = wider listing sources
 outcome_of_file (simulating many stim) top names sources j = wider (simulating many stim) sources
-outcome_of_file flagged top names sources j = refusal NotYet (spot_of sources (first_place j.tokens j.end))
+outcome_of_file (tracing stim) top names sources j = wider (tracing stim) sources
 
 -- a file of the grammar, and what it comes to; or the first fault
 pub data JoinedComes (task : Task) (top : List ℕ) (names : List (List ℕ)) (sources : List Source) (j : Joined) : Outcome → Type 0 where
@@ -98,10 +95,10 @@ is_plain sv_form.Whole = true
 is_plain sv_form.Hier = false
 is_plain sv_form.Clocks = false
 
--- by the form of what is read; a flag of which the program has no meaning yet refuses the first byte
+-- by the form of what is read
 abbrev pub TextComesBy : Bool → List ℕ → Source → List ℕ → Option (List ℕ) → Outcome → Type 0
 TextComesBy true top text stim held outcome = TextComes top text stim held outcome
-TextComesBy false top text stim held outcome = outcome ≡ refusal NotYet (spot_in (Some text) 0)
+TextComesBy false top text stim held outcome = outcome ≡ wider (tracing stim) (text ∷ [])
 
 abbrev pub LongTextComes : Bool → Bool → List ℕ → Source → List ℕ → Option (List ℕ) → Outcome → Type 0
 LongTextComes true plain top text stim held outcome = outcome ≡ refusal FileTooLong (first_spot text.name)
@@ -116,18 +113,19 @@ TextFileComes plain top name stim (Some bytes) held outcome =
 abbrev pub TextsCome : Bool → List ℕ → (name stim : List ℕ) → Shelf → Outcome → Type 0
 TextsCome plain top name stim shelf outcome = TextFileComes plain top name stim (first_part shelf name) (first_part shelf stim) outcome
 
-abbrev pub is_whole : Form → Bool
-is_whole form.Whole = true
-is_whole form.Hier = false
-is_whole form.Clocks = false
-is_whole form.Memory = false
+-- the form of the text that `compile` writes, where it isn't that of one module
+abbrev pub form_of : Form → Option TextForm
+form_of form.Whole = None
+form_of form.Hier = Some text_form.Hier
+form_of form.Clocks = Some text_form.Clocks
+form_of form.Memory = Some text_form.Memory
 
-abbrev pub task_if : Bool → Task
-task_if true = compiling
-task_if false = flagged
+abbrev pub task_if : Option TextForm → Task
+task_if None = compiling
+task_if (Some f) = forming f
 
 abbrev pub task_of : Form → Task
-task_of f = task_if (is_whole f)
+task_of f = task_if (form_of f)
 
 -- the way of a simulation with several clocks
 abbrev pub has_clocks : SimWay → Bool

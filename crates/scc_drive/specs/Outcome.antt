@@ -5,19 +5,23 @@ use Rattle.scc_base.specs.declared.code.Code.{Code}
 use Rattle.scc_svtree.specs.declared.module.SvModule.{SvModule}
 use Rattle.scc_svtext.specs.Emitted.{SvReads}
 use Rattle.scc_svtrace.specs.Traced.{IsTrace}
+use Rattle.scc_forms.specs.declared.form.TextForm.{TextForm}
+use Rattle.scc_forms.specs.Formed.{IsFormed, has_clocks}
 use Rattle.scc_stages.specs.Emitted.{IsEmitted}
 use Rattle.scc_directives.specs.declared.file.Source.{Source}
 use Rattle.scc_thin.specs.declared.design.Design.{Design}
 use Rattle.scc_thinmodule.specs.Same.{Matches, ShowsTheSame}
 use Rattle.scc_drive.specs.declared.spots.Spot.{Spot}
-use Rattle.scc_drive.specs.Stops.{RefusesLater, RefusesStimulus}
+use Rattle.scc_drive.specs.Stops.{RefusesLater, RefusesStimulus, RefusesText}
 
--- what joined files are for: `compile`; `list`; `sim`, with several clocks or one, on the stimulus of that name
+-- what files are for: `compile`, as one module or in another form; `list`; `sim`, with several clocks or one, on the stimulus of that name; `svsim` of a text
+-- of another form on such a stimulus
 pub data Task : Type 0 where
   compiling : Task
+  forming : TextForm → Task
   listing : Task
   simulating : (many : Bool) → List ℕ → Task
-  flagged : Task
+  tracing : List ℕ → Task
 
 -- what a command comes to where it is told what the names hold
 pub data Outcome : Type 0 where
@@ -30,7 +34,7 @@ pub data Outcome : Type 0 where
   writes : List ℕ → Outcome
   -- the line of a generated design, which isn't defined here
   generated : Outcome
-  -- these files are read by the grammar and are no thin text: which of the later stages refuses them, and what is written, is not defined here
+  -- these files are read by the grammar and are no thin text, or are an emitted text: what refuses them, and what is written, is not defined here
   wider : Task → List Source → Outcome
 
 -- The text is that of one module without wrong sizes, names, drivers or cycles, which matches the design and shows what it shows.
@@ -42,10 +46,11 @@ pub record IsTextOf (design : Design) (text : List ℕ) : Type 0 where
 
 -- what is written of wider files; nothing is claimed of lists and traces
 abbrev pub WritesOf : Task → List ℕ → List ℕ → Type 0
-WritesOf compiling top text = IsEmitted top text
+WritesOf compiling top text = IsEmitted false top text
+WritesOf (forming form) top text = IsFormed form top text
 WritesOf listing top text = Unit {0}
 WritesOf (simulating many stim) top text = Unit {0}
-WritesOf flagged top text = ⊥
+WritesOf (tracing stim) top text = Unit {0}
 
 -- the text that is written, by what a command comes to
 abbrev pub WritesBy : List ℕ → Outcome → List ℕ → Type 0
@@ -61,9 +66,10 @@ WritesBy top (wider task sources) text = WritesOf task top text
 -- as what wider files are refused
 abbrev pub RefusesOf : Task → List Source → Code → Spot → Option Spot → Type 0
 RefusesOf compiling = RefusesLater false
+RefusesOf (forming form) = RefusesLater (has_clocks form)
 RefusesOf listing = RefusesLater false
 RefusesOf (simulating many stim) = λ sources code spot other. RefusesLater many sources code spot other ⊎ RefusesStimulus stim code spot other
-RefusesOf flagged = λ sources code spot other. ⊥
+RefusesOf (tracing stim) = λ sources code spot other. RefusesText sources code spot other ⊎ RefusesStimulus stim code spot other
 
 -- as what a command is refused, by what it comes to
 abbrev pub RefusesBy : Outcome → Code → Spot → Option Spot → Type 0
@@ -78,9 +84,10 @@ RefusesBy (wider task sources) code spot other = RefusesOf task sources code spo
 
 abbrev pub MissesOf : Task → List ℕ → Type 0
 MissesOf compiling name = ⊥
+MissesOf (forming form) name = ⊥
 MissesOf listing name = ⊥
 MissesOf (simulating many stim) name = name ≡ stim
-MissesOf flagged name = ⊥
+MissesOf (tracing stim) name = name ≡ stim
 
 -- the file for want of which a command stops
 abbrev pub MissesBy : Outcome → List ℕ → Type 0
@@ -103,9 +110,10 @@ pub record Kind : Type 0 where
 
 abbrev pub kind_of_task : Task → Kind
 kind_of_task compiling = record { is_bad = false; may_write = true; may_refuse = true; may_miss = false; asks = true }
+kind_of_task (forming form) = record { is_bad = false; may_write = true; may_refuse = true; may_miss = false; asks = true }
 kind_of_task listing = record { is_bad = false; may_write = true; may_refuse = true; may_miss = false; asks = true }
 kind_of_task (simulating many stim) = record { is_bad = false; may_write = true; may_refuse = true; may_miss = true; asks = true }
-kind_of_task flagged = record { is_bad = false; may_write = false; may_refuse = true; may_miss = false; asks = true }
+kind_of_task (tracing stim) = record { is_bad = false; may_write = true; may_refuse = true; may_miss = true; asks = true }
 
 abbrev pub kind_of : Outcome → Kind
 kind_of bad = record { is_bad = true; may_write = false; may_refuse = false; may_miss = false; asks = false }

@@ -11,6 +11,7 @@ use Rattle.scc_tokens.specs.declared.joining.JoinFault.{JoinFault}
 use Rattle.scc_tokens.specs.declared.joining.JoinFault.TheVariants as fault
 use Rattle.scc_syntax.specs.Claim.{IsFault}
 use Rattle.scc_stages.specs.Refusals.{is_later}
+use Rattle.scc_formsim.specs.Forms.{is_of_text}
 use Rattle.scc_drive.specs.declared.spots.Spot.{Spot}
 use Rattle.scc_drive.specs.declared.stopped.Stopped.{Stopped}
 use Rattle.scc_drive.specs.declared.stopped.Stopped.TheVariants as stopped
@@ -59,6 +60,18 @@ IsLater many sources stopped.NoMemory = Unit {0}
 IsLater many sources stopped.BadWords = ⊥
 IsLater many sources (stopped.Missing name) = ⊥
 IsLater many sources (stopped.Failed name) = ⊥
+
+-- a refusal of an emitted text of another form than one module, at a place of it
+abbrev pub RefusesText : List Source → Code → Spot → Option Spot → Type 0
+RefusesText sources code spot other = (is_of_text code ≡ true) × IsSpotOf sources spot × (other ≡ None)
+
+-- such a refusal, unless memory ran out
+abbrev pub IsOfText : Source → Stopped → Type 0
+IsOfText text (stopped.Refused code spot other) = RefusesText (text ∷ []) code spot other
+IsOfText text stopped.NoMemory = Unit {0}
+IsOfText text stopped.BadWords = ⊥
+IsOfText text (stopped.Missing name) = ⊥
+IsOfText text (stopped.Failed name) = ⊥
 
 -- what may be wrong with a stimulus: it is too long, or its text, its ports or its values
 abbrev pub is_of_stimulus : Code → Bool

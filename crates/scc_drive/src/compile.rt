@@ -1,4 +1,4 @@
-//! `compile`: the text of a module.
+//! `compile`: the text of a module, or of another form.
 ghost use Rattle.std.specs.Prelude.{◌≡◌, ◌≤◌, ◌<◌, ◌+◌, length, false, IfOk, IfErr};
 ghost use Rattle.scc_stages.specs.Emitted.{IsEmitted};
 ghost use Rattle.scc_thinmodule.specs.Identifiers.{AreIdentifiers};
@@ -6,17 +6,18 @@ ghost use Rattle.scc_syntax.specs.Claim.{IsReadFile};
 ghost use Rattle.scc_drive.specs.Answer.{AnswersBy};
 ghost use Rattle.scc_drive.specs.Comes as comes;
 ghost use Rattle.scc_drive.specs.Comes.{RootsCome, task_of};
-ghost use Rattle.scc_drive.specs.Outcome.{compiling};
+ghost use Rattle.scc_drive.specs.Outcome.{compiling, forming};
 ghost use Rattle.scc_drive.specs.Stages.{Gives, ReadComes};
 ghost use Rattle.scc_drive.specs.Stops.{IsLater};
 ghost use Rattle.scc_drive.specs.Words.{word_at, roots_of};
 
 use crate::joining::{Read, read_files};
-use crate::later::{not_yet, refused_later};
+use crate::later::{front_at, refused_later};
 use crate::stopped::Stopped;
 use crate::thin::printed;
 use crate::words::word;
-use scc_base::{Files, Stop, Text};
+use scc_base::{Files, NoMemory, Stop, Text};
+use scc_forms::{TextForm, form_text, has_clocks};
 use scc_stages::compile;
 use scc_thin::{Halt, read_design};
 use scc_words::Form;
@@ -44,21 +45,31 @@ fn formed(alloc: Global, top: &[u8], read: &Read, form: Form) -> Result<Text, St
     requires identifiers { AreIdentifiers read.now.names }
     ensures { Gives (ReadComes (task_of form) top.now read.now) top.now result }
 {
-    if is_whole(form) {
-        whole(alloc, top, read)
-    } else {
-        Err(not_yet(alloc, read))
+    match form_of(form) {
+        Some(form) => in_form(alloc, top, read, form),
+        None => whole(alloc, top, read),
     }
 }
 
-fn is_whole(form: Form) -> bool
-    ensures { result ≡ comes.is_whole form }
+fn form_of(form: Form) -> Option<TextForm>
+    ensures { result ≡ comes.form_of form }
 {
     match form {
-        Form::Whole => true,
-        Form::Hier => false,
-        Form::Clocks => false,
-        Form::Memory => false,
+        Form::Whole => None,
+        Form::Hier => Some(TextForm::Hier),
+        Form::Clocks => Some(TextForm::Clocks),
+        Form::Memory => Some(TextForm::Memory),
+    }
+}
+
+fn in_form(alloc: Global, top: &[u8], read: &Read, form: TextForm) -> Result<Text, Stopped>
+    requires { IsReadFile read.now.joined read.now.tree }
+    ensures { Gives (ReadComes (forming form) top.now read.now) top.now result }
+{
+    let front = front_at(alloc, top, read, has_clocks(form))?;
+    match form_text(alloc, &read.names, top, front, form) {
+        Ok(text) => Ok(text),
+        Err(NoMemory) => Err(Stopped::NoMemory),
     }
 }
 
@@ -77,7 +88,7 @@ fn whole(alloc: Global, top: &[u8], read: &Read) -> Result<Text, Stopped>
 
 // The text of the module of a file of the grammar.
 fn compiled_later(alloc: Global, top: &[u8], read: &Read) -> Result<Text, Stopped>
-    ensures text { IfOk result (λ t. IsEmitted top.now t) }
+    ensures text { IfOk result (λ t. IsEmitted false top.now t) }
     ensures stopped { IfErr result (IsLater false read.now.sources) }
 {
     match compile(alloc, &read.names, &read.tree, top) {

@@ -1,13 +1,15 @@
 //! A file beside those that are joined: an emitted text or a stimulus.
-ghost use Rattle.std.specs.Prelude.{◌≡◌, ◌≤◌, length};
+ghost use Rattle.std.specs.Prelude.{◌≡◌, ◌≤◌, length, true};
 ghost use Rattle.scc_base.specs.declared.code.Code.TheVariants as code;
 ghost use Rattle.scc_drive.specs.Spots.{first_spot};
-ghost use Rattle.scc_drive.specs.Stops.{StopsAt};
-ghost use Rattle.scc_drive.specs.Stages.{Asked, IsFound};
+ghost use Rattle.scc_drive.specs.Stops as stops;
+ghost use Rattle.scc_drive.specs.Stops.{IsOfText, StopsAt};
+ghost use Rattle.scc_drive.specs.Stages.{Asked, IsFound, IsOfStimulus};
+ghost use Rattle.scc_formsim.specs.Forms.{is_of_text};
 
-use crate::spots::Spot;
+use crate::spots::{Spot, spot_within};
 use crate::stopped::Stopped;
-use scc_base::{Code, FileFault, Files, Text};
+use scc_base::{Code, FileFault, Files, NoMemory, Refusal, Text, lost};
 use scc_tokens::Source;
 use std::alloc::Global;
 
@@ -53,5 +55,45 @@ fn too_long(name: Text) -> Stopped
             column: 1,
         },
         other: None,
+    }
+}
+
+fn is_of_stimulus(code: Code) -> bool
+    ensures { result ≡ stops.is_of_stimulus code }
+{
+    let number = code.number();
+    number == 108 || (801 <= number && number <= 803)
+}
+
+/// A refusal of a stimulus.
+pub fn refused_stimulus(alloc: Global, stimulus: &Source, refusal: Refusal) -> Stopped
+    ensures { IsOfStimulus stimulus.now.name result }
+{
+    let code = refusal.code;
+    if !is_of_stimulus(code) {
+        return Stopped::from(lost());
+    }
+    match spot_within(alloc, stimulus, refusal.place.at) {
+        Ok(spot) => Stopped::Refused {
+            code,
+            spot,
+            other: None,
+        },
+        Err(NoMemory) => Stopped::NoMemory,
+    }
+}
+
+/// A refusal of an emitted text of another form than one module.
+pub fn refused_text(alloc: Global, text: &Source, refusal: Refusal) -> Stopped
+    requires { is_of_text refusal.code ≡ true }
+    ensures { IsOfText text.now result }
+{
+    match spot_within(alloc, text, refusal.place.at) {
+        Ok(spot) => Stopped::Refused {
+            code: refusal.code,
+            spot,
+            other: None,
+        },
+        Err(NoMemory) => Stopped::NoMemory,
     }
 }

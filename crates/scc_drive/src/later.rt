@@ -1,17 +1,15 @@
 //! What the stages behind the grammar answer, as a command says it.
-ghost use Rattle.std.specs.Prelude.{◌≡◌, true, false, IfOk, IfErr};
-ghost use Rattle.scc_base.specs.declared.code.Code.TheVariants as code;
+ghost use Rattle.std.specs.Prelude.{◌≡◌, true, IfOk, IfErr};
 ghost use Rattle.scc_stages.specs.Refusals.{is_later};
-ghost use Rattle.scc_drive.specs.Comes as comes;
 ghost use Rattle.scc_drive.specs.Spots.{IsOtherOf};
-ghost use Rattle.scc_drive.specs.Stops.{IsLater, Stops};
+ghost use Rattle.scc_drive.specs.Stops.{IsLater};
 
 use crate::joining::Read;
-use crate::spots::{Spot, locate, locate_in};
+use crate::spots::{Spot, locate_in};
 use crate::stopped::Stopped;
-use scc_base::{Code, NoMemory, Place, Refusal, Stop};
+use scc_base::{NoMemory, Place, Refusal, Stop};
 use scc_stages::{Front, front_of, name_of};
-use scc_tokens::{Source, Token};
+use scc_tokens::Source;
 use std::alloc::Global;
 
 /// A refusal of a stage behind the grammar.
@@ -59,29 +57,5 @@ pub fn front_at(alloc: Global, top: &[u8], read: &Read, many: bool) -> Result<Fr
             refusal,
         )),
         Err(Stop::NoMemory) => Err(Stopped::NoMemory),
-    }
-}
-
-fn first_place(tokens: &[Token], end: Place) -> Place
-    ensures { result ≡ comes.first_place tokens.now end }
-{
-    match tokens {
-        [first, ..] => first.place,
-        [] => end,
-    }
-}
-
-/// The answer to a flag of which the program has no meaning yet: the first token isn't compiled.
-pub fn not_yet(alloc: Global, read: &Read) -> Stopped
-    ensures { Stops read.now.sources (comes.first_place read.now.joined.tokens read.now.joined.end) code.NotYet result }
-{
-    let place = first_place(read.joined.tokens.as_slice(), read.joined.end);
-    match locate(alloc, read.sources.as_slice(), place) {
-        Ok(spot) => Stopped::Refused {
-            code: Code::NotYet,
-            spot,
-            other: None,
-        },
-        Err(NoMemory) => Stopped::NoMemory,
     }
 }

@@ -6,16 +6,14 @@ ghost use Rattle.scc_drive.specs.Comes as comes;
 ghost use Rattle.scc_drive.specs.Comes.{RootsCome};
 ghost use Rattle.scc_drive.specs.Outcome.{listing, simulating};
 ghost use Rattle.scc_drive.specs.Stages.{Gives, Asking, ReadComes, IsOfStimulus};
-ghost use Rattle.scc_drive.specs.Stops as stops;
 ghost use Rattle.scc_drive.specs.Words.{word_at, roots_of};
 
-use crate::files::ask;
+use crate::files::{ask, refused_stimulus};
 use crate::joining::{Read, read_files};
 use crate::later::front_at;
-use crate::spots::spot_within;
 use crate::stopped::Stopped;
 use crate::words::word;
-use scc_base::{Code, Files, NoMemory, Refusal, Stop, Text, lost};
+use scc_base::{Files, NoMemory, Stop, Text};
 use scc_commands as commands;
 use scc_commands::Way;
 use scc_stages::Front;
@@ -121,30 +119,5 @@ fn trace_of(
         Ok(text) => Ok(text),
         Err(Stop::Refused(refusal)) => Err(refused_stimulus(alloc, stimulus, refusal)),
         Err(Stop::NoMemory) => Err(Stopped::NoMemory),
-    }
-}
-
-fn is_of_stimulus(code: Code) -> bool
-    ensures { result ≡ stops.is_of_stimulus code }
-{
-    let number = code.number();
-    number == 108 || (801 <= number && number <= 803)
-}
-
-// A refusal of a stimulus.
-fn refused_stimulus(alloc: Global, stimulus: &Source, refusal: Refusal) -> Stopped
-    ensures { IsOfStimulus stimulus.now.name result }
-{
-    let code = refusal.code;
-    if !is_of_stimulus(code) {
-        return Stopped::from(lost());
-    }
-    match spot_within(alloc, stimulus, refusal.place.at) {
-        Ok(spot) => Stopped::Refused {
-            code,
-            spot,
-            other: None,
-        },
-        Err(NoMemory) => Stopped::NoMemory,
     }
 }

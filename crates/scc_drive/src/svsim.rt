@@ -1,21 +1,23 @@
 //! `svsim`: the trace of an emitted text on a stimulus.
 ghost use Rattle.std.specs.Prelude.{◌≡◌, ◌≤◌, ℕ, List, true, false, length, IfOk, IfErr, Some};
 ghost use Rattle.scc_base.specs.declared.code.Code.TheVariants as code;
+ghost use Rattle.scc_formsim.specs.Forms.{CanRun};
 ghost use Rattle.scc_svread.specs.Read.{ReadAs};
 ghost use Rattle.scc_drive.specs.declared.stopped.Stopped.TheVariants as stopped;
 ghost use Rattle.scc_drive.specs.Answer.{AnswersBy};
 ghost use Rattle.scc_drive.specs.Comes as comes;
 ghost use Rattle.scc_drive.specs.Comes.{TextsCome, outcome_of_stimulus};
 ghost use Rattle.scc_drive.specs.Spots as spots;
-ghost use Rattle.scc_drive.specs.Stages.{Asked, Gives, IsHeld, IsNoModule};
-ghost use Rattle.scc_drive.specs.Stops.{StopsAt, StoppedIn};
+ghost use Rattle.scc_drive.specs.Stages.{Asked, Gives, IsHeld, IsNoModule, IsOfStimulus};
+ghost use Rattle.scc_drive.specs.Stops.{IsOfText, StopsAt, StoppedIn};
 ghost use Rattle.scc_drive.specs.Words.{word_at};
 
-use crate::files::{ask, found};
+use crate::files::{ask, found, refused_stimulus, refused_text};
 use crate::spots::spot_in;
 use crate::stopped::Stopped;
 use crate::words::word;
 use scc_base::{Code, Files, NoMemory, Stop, Text};
+use scc_formsim::{Runnable, read_runnable, traced as traced_in_form};
 use scc_svread::read;
 use scc_svtrace::module_trace;
 use scc_svtree::SvModule;
@@ -40,7 +42,7 @@ pub fn svsim<F: Files>(
     if is_plain(form) {
         on_text(alloc, top, &text, name, files)
     } else {
-        Err(refused(alloc, &text, Code::NotYet, 0))
+        on_form(alloc, top, &text, name, has_clocks(form), files)
     }
 }
 
@@ -51,6 +53,14 @@ fn is_plain(form: SvForm) -> bool
         SvForm::Whole => true,
         SvForm::Hier => false,
         SvForm::Clocks => false,
+    }
+}
+
+fn has_clocks(form: SvForm) -> bool {
+    match form {
+        SvForm::Whole => false,
+        SvForm::Hier => false,
+        SvForm::Clocks => true,
     }
 }
 
@@ -123,6 +133,48 @@ fn traced(alloc: Global, m: &SvModule, stimulus: &Source) -> Result<Text, Stoppe
     match module_trace(alloc, m, 0, stimulus.bytes.bytes()) {
         Ok(text) => Ok(text),
         Err(stop) => Err(stopped_in(alloc, stimulus, stop)),
+    }
+}
+
+// What a text of another form answers that was read.
+fn on_form<F: Files>(
+    alloc: Global,
+    top: &[u8],
+    text: &Source,
+    name: &str,
+    many: bool,
+    files: &mut F,
+) -> Result<Text, Stopped>
+    requires short { length text.now.bytes ≤ 1048576 }
+    requires held { IsHeld (F.held files.old) text.now.name text.now.bytes }
+    ensures { AnswersBy (TextsCome false top.now text.now.name name.now) top.now (F.held files.old) (F.misses files.old) (F.misses files.new) (F.faults files.old) (F.faults files.new) result }
+{
+    let module = module_in_form(alloc, top, text, many)?;
+    let stimulus = stimulus_of(alloc, name, text, files)?;
+    trace_in_form(alloc, &module, &stimulus)
+}
+
+// The module of this name that a text of another form says.
+fn module_in_form(alloc: Global, top: &[u8], text: &Source, many: bool) -> Result<Runnable, Stopped>
+    ensures runs { IfOk result CanRun }
+    ensures refused { IfErr result (IsOfText text.now) }
+{
+    match read_runnable(alloc, top, text.bytes.bytes(), many) {
+        Ok(module) => Ok(module),
+        Err(Stop::Refused(refusal)) => Err(refused_text(alloc, text, refusal)),
+        Err(Stop::NoMemory) => Err(Stopped::NoMemory),
+    }
+}
+
+fn trace_in_form(alloc: Global, r: &Runnable, stimulus: &Source) -> Result<Text, Stopped>
+    requires runs { CanRun r.now }
+    requires short { length stimulus.now.bytes ≤ 1048576 }
+    ensures { IfErr result (IsOfStimulus stimulus.now.name) }
+{
+    match traced_in_form(alloc, r, 0, stimulus.bytes.bytes()) {
+        Ok(text) => Ok(text),
+        Err(Stop::Refused(refusal)) => Err(refused_stimulus(alloc, stimulus, refusal)),
+        Err(Stop::NoMemory) => Err(Stopped::NoMemory),
     }
 }
 

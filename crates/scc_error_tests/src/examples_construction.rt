@@ -189,4 +189,17 @@ pub const EXAMPLES: &[Example] = &[
         }],
         refusal: "a.cpp:1:29: E412 construction turns",
     },
+    Example {
+        words: &["compile", "T", "a.cpp", "--clocks"],
+        files: &[File {
+            name: "a.cpp",
+            parts: &[Part {
+                times: 1,
+                texts: &[
+                    "SC_MODULE(C) { sc_in<bool> k; void f() {} SC_CTOR(C) { SC_METHOD(f); sensitive << k.pos(); } }; SC_MODULE(T) { sc_in<bool> k[129]; C c[129]; SC_CTOR(T) { for (int i = 0; i < 129; i++) c[i].k(k[i]); } };",
+                ],
+            }],
+        }],
+        refusal: "a.cpp:1:56: E413 too many clocks",
+    },
 ];

@@ -141,4 +141,75 @@ endmodule
         }],
         refusal: "a.sv:5:16391: E706 sv depth",
     },
+    Example {
+        words: &["svsim", "T", "a.sv", "--hier", "--stim", "s.stim"],
+        files: &[File {
+            name: "a.sv",
+            parts: &[Part {
+                times: 1,
+                texts: &[
+                    "module T (
+  input logic a,
+  output logic y
+);
+  Inv u (.x(a), .y(y));
+endmodule
+",
+                ],
+            }],
+        }],
+        refusal: "a.sv:5:3: E707 sv instance",
+    },
+    Example {
+        words: &["svsim", "T", "a.sv", "--hier", "--stim", "s.stim"],
+        files: &[File {
+            name: "a.sv",
+            parts: &[
+                Part {
+                    times: 1,
+                    texts: &[
+                        "module T (
+);
+",
+                    ],
+                },
+                Part {
+                    times: 257,
+                    texts: &[
+                        "  T$a a",
+                        " ();
+",
+                    ],
+                },
+                Part {
+                    times: 1,
+                    texts: &[
+                        "endmodule
+module T$a (
+);
+",
+                    ],
+                },
+                Part {
+                    times: 256,
+                    texts: &[
+                        "  T$b b",
+                        " ();
+",
+                    ],
+                },
+                Part {
+                    times: 1,
+                    texts: &[
+                        "endmodule
+module T$b (
+);
+endmodule
+",
+                    ],
+                },
+            ],
+        }],
+        refusal: "a.sv:1:1: E708 hier too large",
+    },
 ];

@@ -1,7 +1,13 @@
 //! Expressions. A chain of operators is as deep as it is long, so first operands are walked by a loop.
+ghost use Rattle.std.specs.Prelude.{◌≡◌, IfOk};
+ghost use Rattle.scc_svtree.specs.Term as term;
+ghost use Rattle.scc_svtree.specs.Term.{term_of};
+ghost use Rattle.scc_svtree.specs.declared.expr.SvLeft.TheVariants as place;
+ghost use Rattle.scc_lowered.specs.Selected.{bit_term};
+
 use crate::built::{binary, cast, literal};
 use crate::convert::{Lowered, converted, expression, stored};
-use crate::index::{indexed, opened};
+use crate::index::{Index, indexed, opened};
 use crate::lowering::{Cells, Lowering};
 use crate::operator::{Operand, chosen, operated, operated_alone};
 use crate::place::{Found, Picked, bits_taken, locate};
@@ -259,6 +265,13 @@ fn bit_at(
     levels: u32,
 ) -> Result<SvExpr, NoMemory> {
     let at = indexed(alloc, at, cells, cx, levels)?;
+    bit_text(alloc, e, at)
+}
+
+// The lowest bit of the expression, shifted by an index.
+fn bit_text(alloc: Global, e: SvExpr, at: Index) -> Result<SvExpr, NoMemory>
+    ensures { IfOk result (λ r. term_of r ≡ bit_term (term_of e) (term.Part (place.Whole at.var))) }
+{
     let at = at.read(alloc)?;
     let shifted = binary(alloc, SvBinary::Shr, e, at)?;
     cast(alloc, 1, shifted)

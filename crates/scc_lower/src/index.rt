@@ -1,10 +1,15 @@
 //! Indices that aren't static, each as one variable.
+ghost use Rattle.std.specs.Prelude.{◌≡◌, IfOk};
+ghost use Rattle.scc_svtree.specs.Term as term;
+ghost use Rattle.scc_svtree.specs.Term.{term_of};
+ghost use Rattle.scc_svtree.specs.declared.expr.SvLeft.TheVariants as place;
+
 use crate::built::whole;
 use crate::convert::{converted, expression};
 use crate::expr::lowered;
 use crate::lowering::{Cells, Lowering};
 use crate::place::Chosen;
-use scc_base::{List, NoMemory, push};
+use scc_base::{NoMemory, push};
 use scc_bits::{Kind, signed, width};
 use scc_core::CoreExpr;
 use scc_svtree::{SvExpr, SvExprNode, SvLeft, SvStmt, VarId};
@@ -32,7 +37,9 @@ impl Index {
         }
     }
 
-    pub fn read(self, alloc: Global) -> Result<SvExpr, NoMemory> {
+    pub fn read(self, alloc: Global) -> Result<SvExpr, NoMemory>
+        ensures { IfOk result (λ e. term_of e ≡ term.Part (place.Whole self.var)) }
+    {
         whole(alloc, self.var)
     }
 }

@@ -8,6 +8,7 @@ mod exits;
 mod expr;
 mod index;
 mod known;
+mod laws;
 mod lowering;
 mod name;
 mod operator;
@@ -19,6 +20,10 @@ mod whole;
 
 pub use exits::{greatest_exit, greatest_exit_of};
 pub use known::{cell_of, cells_of, known_word};
+pub use laws::{
+    cells_have_texts_of_their_own, choices_answer_on_lowered_operands, conversions_keep_numbers,
+    operators_answer_on_lowered_operands, reads_give_the_words_of_cells,
+};
 pub use lowering::{Cells, Lowering, View};
 pub use name::sv_name;
 pub use stmt::{lowered_expr, lowered_stmt, lowered_stmts};

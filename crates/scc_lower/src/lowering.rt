@@ -1,4 +1,7 @@
 //! What a lowering is given, and what it leaves beside its text.
+ghost use Rattle.std.specs.Prelude.{◌≡◌, ◌+◌, ◌*◌, IfOk, Some, slice_get};
+ghost use Rattle.scc_lower.specs.Reads.{constant_of, var_read};
+
 use scc_base::{List, NoMemory, lost};
 use scc_bits::Word;
 use scc_core::{Cell, Known, Places};
@@ -44,16 +47,18 @@ impl<'a> Lowering<'a> {
     }
 
     /// The view of a cell.
-    pub(crate) fn view(&self, cell: u32) -> Result<View, NoMemory> {
-        self.views.get(cell as usize).copied().ok_or(lost())
+    pub(crate) fn view(&self, cell: u32) -> Result<View, NoMemory>
+        ensures { IfOk result (λ v. slice_get self.now.views.now cell ≡ Some v) }
+    {
+        match self.views.get(cell as usize) {
+            Some(view) => Ok(*view),
+            None => Err(lost()),
+        }
     }
 
     /// The variable from which a cell is read.
     pub(crate) fn read_from(&self, cell: u32) -> Result<VarId, NoMemory> {
-        match self.view(cell)? {
-            View::Next => twice(cell, 1),
-            View::Constant(_) | View::Plain | View::Delayed => twice(cell, 0),
-        }
+        read_of(self.view(cell)?, cell)
     }
 
     /// The variable to which a cell is written.
@@ -83,8 +88,13 @@ impl<'a> Cells<'a> {
     }
 
     /// The cell of a number.
-    pub fn cell(&self, number: u32) -> Result<&'a Cell, NoMemory> {
-        self.cells.get(number as usize).ok_or(lost())
+    pub fn cell(&self, number: u32) -> Result<&'a Cell, NoMemory>
+        ensures { IfOk result (λ c. slice_get self.now.cells.now number ≡ Some c.now) }
+    {
+        match self.cells.get(number as usize) {
+            Some(cell) => Ok(cell),
+            None => Err(lost()),
+        }
     }
 
     /// The variable that holds the number of the block that is being left.
@@ -108,9 +118,38 @@ impl<'a> Cells<'a> {
     }
 }
 
+/// The variable from which a cell is read in a view.
+pub(crate) fn read_of(view: View, cell: u32) -> Result<VarId, NoMemory>
+    ensures { IfOk result (λ v. v.0 ≡ var_read view cell) }
+{
+    match view {
+        View::Next => twice(cell, 1),
+        View::Constant(_) => twice(cell, 0),
+        View::Plain => twice(cell, 0),
+        View::Delayed => twice(cell, 0),
+    }
+}
+
+/// The word of a view that is a constant.
+pub(crate) fn constant_of(view: View) -> Option<Word>
+    ensures { result ≡ constant_of view }
+{
+    match view {
+        View::Constant(word) => Some(word),
+        View::Plain => None,
+        View::Next => None,
+        View::Delayed => None,
+    }
+}
+
 // 2c + more.
-fn twice(cell: u32, more: u32) -> Result<VarId, NoMemory> {
-    match cell.checked_mul(2).and_then(|n| n.checked_add(more)) {
+fn twice(cell: u32, more: u32) -> Result<VarId, NoMemory>
+    ensures { IfOk result (λ v. v.0 ≡ cell * 2 + more) }
+{
+    let Some(double) = cell.checked_mul(2) else {
+        return Err(lost());
+    };
+    match double.checked_add(more) {
         Some(n) => Ok(VarId(n)),
         None => Err(lost()),
     }

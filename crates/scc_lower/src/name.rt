@@ -1,49 +1,72 @@
 //! Names in the emitted text.
+ghost use Rattle.std.specs.Prelude.{◌≡◌, ◌++◌, IfOk, OnOk, decimal};
+ghost use Rattle.scc_lower.specs.Names.{name_of, parts_of};
+ghost use Rattle.scc_lowered.specs.Parts.{joined, part_text, text_at};
+
 use itoa::Buffer;
-use scc_base::{Name, Names, NoMemory, PathPart, Text, lost};
+use scc_base::{Name, Names, NoMemory, Path, PathPart, Text, lost};
 use scc_core::CellName;
 use std::alloc::Global;
 
 /// The name of a cell: the members and indices of its path joined by `$`, and for a local its number, its identifier and its
 /// indices behind those of its process (this project's own).
-pub fn sv_name(alloc: Global, names: &Names, n: &CellName) -> Result<Text, NoMemory> {
-    let mut text = Text::new(alloc);
-    let mut first = true;
-    for part in n.path.as_slice() {
-        separate(&mut text, first)?;
-        first = false;
-        match part {
-            PathPart::Member(name) => member(&mut text, names, *name)?,
-            PathPart::Index(i) => decimal(&mut text, *i)?,
-        }
-    }
+pub fn sv_name(alloc: Global, names: &Names, n: &CellName) -> Result<Text, NoMemory>
+    ensures { IfOk result (λ t. t ≡ name_of names.now n.now) }
+{
+    let parts = parts(alloc, n)?;
+    text_of(alloc, names, parts.as_slice())
+}
+
+fn parts(alloc: Global, n: &CellName) -> Result<Path, NoMemory>
+    ensures { IfOk result (λ p. p ≡ parts_of n.now) }
+{
+    let mut parts = Path::of(alloc, n.path.as_slice())?;
     if let Some((number, name)) = n.local {
-        separate(&mut text, first)?;
-        first = false;
-        decimal(&mut text, number)?;
-        separate(&mut text, false)?;
-        member(&mut text, names, name)?;
+        parts.push(PathPart::Index(number))?;
+        parts.push(PathPart::Member(name))?;
     }
     for i in n.indices.as_slice() {
-        separate(&mut text, first)?;
-        first = false;
-        decimal(&mut text, *i)?;
+        parts.push(PathPart::Index(*i))?;
+    }
+    Ok(parts)
+}
+
+fn text_of(alloc: Global, names: &Names, parts: &[PathPart]) -> Result<Text, NoMemory>
+    ensures { IfOk result (λ t. t ≡ joined names.now parts.now) }
+{
+    let mut text = Text::new(alloc);
+    let Some((first, more)) = parts.split_first() else {
+        return Ok(text);
+    };
+    part(&mut text, names, *first)?;
+    for p in more {
+        text.push_bytes(b"$")?;
+        part(&mut text, names, *p)?;
     }
     Ok(text)
 }
 
-fn separate(text: &mut Text, first: bool) -> Result<(), NoMemory> {
-    if first { Ok(()) } else { text.push_bytes(b"$") }
+fn part(text: &mut Text, names: &Names, p: PathPart) -> Result<(), NoMemory>
+    ensures { OnOk result (text.new ≡ text.old ++ part_text names.now p) }
+{
+    match p {
+        PathPart::Member(name) => member(text, names, name),
+        PathPart::Index(i) => decimal(text, i),
+    }
 }
 
-fn member(text: &mut Text, names: &Names, name: Name) -> Result<(), NoMemory> {
+fn member(text: &mut Text, names: &Names, name: Name) -> Result<(), NoMemory>
+    ensures { OnOk result (text.new ≡ text.old ++ text_at names.now name.0) }
+{
     if !names.has(name) {
         return Err(lost());
     }
     text.push_bytes(names.text(name).as_bytes())
 }
 
-fn decimal(text: &mut Text, n: u32) -> Result<(), NoMemory> {
+fn decimal(text: &mut Text, n: u32) -> Result<(), NoMemory>
+    ensures { OnOk result (text.new ≡ text.old ++ decimal n) }
+{
     let mut buffer = Buffer::new();
     text.push_bytes(buffer.format(n).as_bytes())
 }

@@ -1,8 +1,14 @@
 //! Bits of variables.
+ghost use Rattle.std.specs.Prelude.{◌≡◌, ◌+◌, ◌-◌, ◌&&◌, IfOk, Some, min, nat_eq};
+ghost use Rattle.scc_svtree.specs.Term as term;
+ghost use Rattle.scc_svtree.specs.Term.{term_of};
+ghost use Rattle.scc_lowered.specs.Selected.{part_left};
+ghost use Rattle.scc_lower.specs.Reads.{part_of, read_term, read_text};
+
 use crate::built::{left, literal};
-use crate::lowering::{Cells, Lowering, View};
+use crate::lowering::{Cells, Lowering, View, constant_of, read_of};
 use scc_base::{NoMemory, lost};
-use scc_bits::{Value, width};
+use scc_bits::{Kind, Value, Word, width};
 use scc_svtree::{SvExpr, SvLeft, VarId};
 use std::alloc::Global;
 
@@ -23,21 +29,32 @@ impl Bits {
     }
 
     /// How many there are.
-    pub fn count(self) -> u32 {
+    pub fn count(self) -> u32
+        ensures { result ≡ min (self.h - self.l + 1) 4294967295 }
+    {
         self.h.saturating_sub(self.l).saturating_add(1)
     }
 }
 
 /// Bits of a variable of a width; all of them are the variable itself.
-pub fn part(var: VarId, width: u32, bits: Bits) -> SvLeft {
+pub fn part(var: VarId, width: u32, bits: Bits) -> SvLeft
+    ensures { result ≡ part_left var width bits.h bits.l }
+{
     let Bits { h, l } = bits;
-    if l == 0 && h == width.saturating_sub(1) {
+    if are_all(width, h, l) {
         SvLeft::Whole(var)
     } else if h == l {
         SvLeft::Bit { var, at: h }
     } else {
         SvLeft::Range { var, h, l }
     }
+}
+
+// Whether bits h down to l are all of so many.
+fn are_all(width: u32, h: u32, l: u32) -> bool
+    ensures { result ≡ (nat_eq l 0 && nat_eq h (width - 1)) }
+{
+    l == 0 && h == width.saturating_sub(1)
 }
 
 /// A read of bits of a cell.
@@ -47,26 +64,45 @@ pub fn read_part(
     cx: &Lowering<'_>,
     cell: u32,
     bits: Bits,
-) -> Result<SvExpr, NoMemory> {
+) -> Result<SvExpr, NoMemory>
+    ensures { IfOk result (λ e. read_text cells.entry.cells.now cx.now.views.now cell bits.h bits.l ≡ Some (term_of e)) }
+{
     let kind = cells.cell(cell)?.kind;
-    match cx.view(cell)? {
-        View::Constant(word) => {
-            let Some(v) = Value::of(kind, word) else {
-                return Err(lost());
-            };
-            literal(alloc, bits.count(), bits_of(v, bits)?)
-        }
-        View::Plain | View::Next | View::Delayed => {
-            let var = cx.read_from(cell)?;
+    let view = cx.view(cell)?;
+    read_in(alloc, view, kind, cell, bits)
+}
+
+fn read_in(alloc: Global, view: View, kind: Kind, cell: u32, bits: Bits) -> Result<SvExpr, NoMemory>
+    ensures { IfOk result (λ e. term_of e ≡ read_term view kind cell bits.h bits.l) }
+{
+    match constant_of(view) {
+        Some(word) => constant_part(alloc, kind, word, bits),
+        None => {
+            let var = read_of(view, cell)?;
             left(alloc, part(var, width(kind), bits))
         }
     }
 }
 
+fn constant_part(alloc: Global, kind: Kind, word: Word, bits: Bits) -> Result<SvExpr, NoMemory>
+    ensures { IfOk result (λ e. term_of e ≡ term.Literal (min (bits.h - bits.l + 1) 4294967295) (part_of bits.h bits.l word.bits)) }
+{
+    let Some(v) = Value::of(kind, word) else {
+        return Err(lost());
+    };
+    let bits_there = bits_of(v, bits)?;
+    literal(alloc, bits.count(), bits_there)
+}
+
 /// The word of some bits of a number.
-pub fn bits_of(v: Value, bits: Bits) -> Result<u128, NoMemory> {
-    if bits.l == 0 && bits.h == width(v.kind()).saturating_sub(1) {
-        return Ok(v.word().bits);
+pub fn bits_of(v: Value, bits: Bits) -> Result<u128, NoMemory>
+    ensures { IfOk result (λ w. w ≡ part_of bits.h bits.l v.word) }
+{
+    let kind = v.kind();
+    let all = width(kind);
+    let word = v.word();
+    if are_all(all, bits.h, bits.l) {
+        return Ok(word.bits);
     }
     match v.selected(bits.h, bits.l) {
         Some(part) => Ok(part.word().bits),

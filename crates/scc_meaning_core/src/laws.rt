@@ -8,7 +8,7 @@ ghost use Rattle.scc_meaning_core.specs.Code.{Code, End, If, Block, numbered, si
 ghost use Rattle.scc_meaning_core.specs.Program.{Program, Process};
 ghost use Rattle.scc_meaning_core.specs.Static.{static, Cells};
 ghost use Rattle.scc_meaning_core.specs.Segments.{Plain, Test, Halt, Finish, segment, segments, all_segments};
-ghost use Rattle.scc_meaning_core.specs.Sizes.{bound, loops_deep, states, thread_statements, live_body};
+ghost use Rattle.scc_meaning_core.specs.Sizes.{bound, loops_deep, states, thread_statements, live_body, measure, bits_in};
 ghost use Rattle.scc_meaning_core.specs.First.{first_of, refused, refused_beside, TellsFirst};
 ghost use Rattle.scc_meaning_core.specs.Paths.{Misses};
 ghost use Rattle.scc_meaning_core.specs.Flow.{TellsMisses, TellsIdle};
@@ -21,8 +21,8 @@ ghost use Rattle.scc_base.specs.declared.code.Code.TheVariants as reason;
 ghost use Rattle.scc_meaning_core.specs.Resolved.{Made, Stopped};
 ghost use Rattle.scc_meaning_core.specs.Unpointed.{unpointed};
 ghost use Rattle.scc_meaning_core.specs.Renumbered.{resolved_program};
-ghost use Rattle.scc_meaning_core.specs.WorkedRun.{counts};
-ghost use Rattle.scc_meaning_core.specs.Worked.{here, count_cells, count_body, branch_body, put, byte, load, one_more, local_cells, local_body, process, turn_cells, turn_body, turn_written, number, pointer_cells, through};
+ghost use Rattle.scc_meaning_core.specs.WorkedRun.{counts, counting};
+ghost use Rattle.scc_meaning_core.specs.Worked.{here, count_cells, count_body, branch_body, put, byte, load, one_more, local_cells, local_body, process, turn_cells, turn_body, turn_written, leaves_at, counter, number, pointer_cells, through};
 
 /// The counting thread: 12 statements, one loop that waits, at most 72 steps, two states, 9 statements in its segments.
 pub fn the_counting_thread_is_measured()
@@ -31,6 +31,9 @@ pub fn the_counting_thread_is_measured()
     ensures steps { bound count_body ≡ 72 }
     ensures waits { states count_cells count_body ≡ 2 }
     ensures written { thread_statements count_cells count_body ≡ 9 }
+    ensures measure { measure counting ≡ 9 }
+    ensures bits { bits_in turn_cells (leaves_at counter) ≡ 1 }
+    ensures known { bits_in turn_cells (leaves_at (number 3)) ≡ 0 }
 {}
 
 /// Its segments: the reset one clears, the other two count.

@@ -13,6 +13,10 @@ ghost use Rattle.scc_meaning_plain.specs.WorkedMade.{pointers, nodes_of};
 ghost use Rattle.scc_meaning_plain.specs.WorkedRun.{word_after};
 ghost use Rattle.scc_meaning_plain.specs.Design as design;
 ghost use Rattle.scc_meaning_plain.specs.Stages.{accepted, compiled};
+ghost use Rattle.scc_meaning_plain.specs.Common.{Agrees};
+ghost use Rattle.scc_meaning_plain.specs.Construct.{Making};
+ghost use Rattle.scc_meaning_plain.specs.Worth.{Site};
+ghost use Rattle.scc_meaning_plain.specs.Program.{End};
 ghost use Rattle.scc_meaning_plain.specs.Worked.{here, int, program, made, copied, load};
 
 /// `m = pick(1) + pick(0)`: each call is copied with a result and a parameter of its own.
@@ -52,4 +56,9 @@ pub fn calls_are_accepted()
 pub fn the_stages_accept()
     ensures calls { and_made (inlined program made) accepted ≡ Made (copied_program program made) }
     ensures top { option_map (λ t. made_map (λ c. c.processes) t) (compiled false program) ≡ Some (Made []) }
+{}
+
+/// No statements make nothing of what is made, in a constructor and by the machine.
+pub fn constructors_and_processes_agree()
+    ensures { (make : Making) (s : Site) → Agrees make s End → Agrees make s End }
 {}

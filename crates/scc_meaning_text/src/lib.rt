@@ -3,4 +3,4 @@
 
 mod laws;
 
-pub use laws::modules_show_designs;
+pub use laws::{blocks_are_renamed, modules_show_designs};

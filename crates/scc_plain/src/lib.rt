@@ -9,7 +9,6 @@ mod last;
 mod outside;
 mod stage;
 mod top;
-mod whole;
 mod write;
 
 pub use stage::plain;

@@ -1,21 +1,23 @@
 //! The static stage as a whole.
 ghost use Rattle.std.specs.Prelude.{◌≡◌, IfErr, IfOk, true};
 ghost use Rattle.scc_bodies.specs.Refusals.{MayStop};
-ghost use Rattle.scc_plain.specs.Whole.{whole_plain};
+ghost use Rattle.scc_plainlook.specs.Whole.{whole_plain};
+ghost use Rattle.scc_treeplaces.specs.Items.{stops_at};
 
 use crate::duplicates::find_duplicates;
 use crate::instance::walk_instance;
 use crate::last::look_last;
 use crate::outside::Outside;
 use crate::top::make_top;
-use crate::whole::is_whole;
 use crate::write::written;
 use scc_base::{Code, List, Name, NoMemory, Place, Stop, lost};
 use scc_bodies::{FunctionId, Walk, gone, refuse};
+use scc_plainlook::look;
 use scc_plaintree::Plain;
 use scc_statements::walk_body;
 use scc_templates::{FunctionKey, Needed};
 use scc_tree::{FileTree, ItemNode};
+use scc_treeplaces::is_placed;
 use std::alloc::Global;
 
 /// The functions whose bodies were walked, in that order.
@@ -42,6 +44,36 @@ impl Order {
 /// their object (E304); then classes that hold themselves and functions that call themselves (E309).
 pub fn plain(alloc: Global, tree: &FileTree, top: Name) -> Result<Plain, Stop>
     ensures stop { IfErr result MayStop }
+    ensures place { IfErr result (λ e. stops_at tree.now e ≡ true) }
+    ensures whole { IfOk result (λ p. whole_plain p ≡ true) }
+{
+    match needed(alloc, tree, top) {
+        Ok(program) => Ok(program),
+        Err(stop) => Err(placed(tree, stop)),
+    }
+}
+
+// A refusal at a place of the tree. No other is ever given.
+fn placed(tree: &FileTree, stop: Stop) -> Stop
+    requires { MayStop stop }
+    ensures stop { MayStop result }
+    ensures place { stops_at tree.now result ≡ true }
+{
+    match stop {
+        Stop::Refused(r) => {
+            if is_placed(tree, r) {
+                Stop::Refused(r)
+            } else {
+                Stop::from(lost())
+            }
+        }
+        Stop::NoMemory => Stop::NoMemory,
+    }
+}
+
+// The program that a top needs.
+fn needed(alloc: Global, tree: &FileTree, top: Name) -> Result<Plain, Stop>
+    ensures stop { IfErr result MayStop }
     ensures whole { IfOk result (λ p. whole_plain p ≡ true) }
 {
     find_duplicates(alloc, tree)?;
@@ -57,17 +89,8 @@ fn reached(top: Name, tree: &FileTree, w: &mut Walk) -> Result<Plain, Stop>
     make_top(top, tree, w)?;
     let order = walked(tree, w)?;
     look_last(tree, w, &order)?;
-    looked_at(written(tree, w, &order)?)
-}
-
-// A program that is whole.
-fn looked_at(program: Plain) -> Result<Plain, Stop>
-    ensures stop { IfErr result MayStop }
-    ensures whole { IfOk result (λ p. whole_plain p ≡ true) }
-{
-    if !is_whole(&program) {
-        return Err(Stop::from(lost()));
-    }
+    let program = written(tree, w, &order)?;
+    look(w.alloc, &program)?;
     Ok(program)
 }
 

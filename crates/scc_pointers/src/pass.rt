@@ -1,8 +1,8 @@
 //! The pass.
-ghost use Rattle.std.specs.Prelude.{◌≡◌, Err, IfOk};
+ghost use Rattle.std.specs.Prelude.{◌≡◌, Err, IfOk, filter, map, not};
 ghost use Rattle.scc_base.specs.declared.refusal.Refusal.{Refusal};
 ghost use Rattle.scc_base.specs.declared.refusal.Stop.TheVariants as stop;
-ghost use Rattle.scc_pointers.specs.Resolved.{KeepsTop, IsOfPointers};
+ghost use Rattle.scc_pointers.specs.Resolved.{KeepsObjects, IsOfPointers, is_pointer, title_of};
 
 use crate::held::Resolver;
 use crate::stmt::resolved_stmts;
@@ -19,7 +19,7 @@ use std::alloc::Global;
 pub struct Resolve;
 
 impl Pass for Resolve {
-    ghost gives = { λ _ c m. KeepsTop c m };
+    ghost gives = { λ _ c m. KeepsObjects c m };
 
     ghost refuses = { λ _ _ r. IsOfPointers r };
 
@@ -31,14 +31,9 @@ impl Pass for Resolve {
             vectors,
         } = c;
         let places = Places::of(alloc, &cells, &vectors)?;
-        let bodies = all(
-            alloc,
-            Known::new(&cells, &places),
-            &places,
-            processes.as_slice(),
-        )?;
         let numbers = numbers_of(alloc, cells.as_slice())?;
-        let processes = renumbered(alloc, processes, bodies, numbers.as_slice())?;
+        let known = Known::new(&cells, &places);
+        let processes = all(alloc, known, &places, processes, numbers.as_slice())?;
         let cells = kept(alloc, cells)?;
         Ok(Core {
             top,
@@ -51,25 +46,42 @@ impl Pass for Resolve {
 
 const GONE: u32 = u32::MAX;
 
-fn is_pointer(cell: &Cell) -> bool {
+fn is_pointer(cell: &Cell) -> bool
+    ensures { result ≡ is_pointer cell.now }
+{
     matches!(cell.sort, CellSort::Pointer(_))
 }
 
-// The bodies without pointers, with the cells' old numbers.
+// The processes with their bodies without pointers and the new numbers.
 fn all(
     alloc: Global,
     known: Known<'_>,
     places: &Places,
-    processes: &[CoreProcess],
-) -> Result<List<List<CoreStmt>>, Stop>
+    processes: List<CoreProcess>,
+    numbers: &[u32],
+) -> Result<List<CoreProcess>, Stop>
+    ensures titles { IfOk result (λ out. map title_of out ≡ map title_of processes) }
     ensures stop { (q : Refusal) → result ≡ Err (stop.Refused q) → IsOfPointers q }
 {
     let mut out = List::new(alloc);
-    for p in processes {
-        let mut r = Resolver::new(alloc, known, places);
-        out.push(resolved_stmts(p.body.as_slice(), &mut r)?)?;
+    for p in processes.into_vec() {
+        let body = new_body(alloc, known, places, p.body.as_slice())?;
+        out.push(renumbered_process(alloc, p, body, numbers)?)?;
     }
     Ok(out)
+}
+
+// A body without pointers, with the cells' old numbers.
+fn new_body(
+    alloc: Global,
+    known: Known<'_>,
+    places: &Places,
+    body: &[CoreStmt],
+) -> Result<List<CoreStmt>, Stop>
+    ensures stop { (q : Refusal) → result ≡ Err (stop.Refused q) → IsOfPointers q }
+{
+    let mut r = Resolver::new(alloc, known, places);
+    resolved_stmts(body, &mut r)
 }
 
 // The new numbers of the cells that stay.
@@ -88,7 +100,9 @@ fn numbers_of(alloc: Global, cells: &[Cell]) -> Result<Vec<u32>, NoMemory> {
 }
 
 // The cells that are no pointers.
-fn kept(alloc: Global, cells: List<Cell>) -> Result<List<Cell>, NoMemory> {
+fn kept(alloc: Global, cells: List<Cell>) -> Result<List<Cell>, NoMemory>
+    ensures { IfOk result (λ out. out ≡ filter (λ x. not (is_pointer x)) cells) }
+{
     let mut out = List::new(alloc);
     for cell in cells.into_vec() {
         if is_pointer(&cell) {
@@ -107,26 +121,15 @@ fn number(numbers: &[u32], cell: u32) -> Result<u32, NoMemory> {
     }
 }
 
-// The processes with their new bodies and the new numbers.
-fn renumbered(
-    alloc: Global,
-    processes: List<CoreProcess>,
-    bodies: List<List<CoreStmt>>,
-    numbers: &[u32],
-) -> Result<List<CoreProcess>, NoMemory> {
-    let mut out = List::new(alloc);
-    for (p, body) in processes.into_vec().into_iter().zip(bodies.into_vec()) {
-        out.push(renumbered_process(alloc, p, body, numbers)?)?;
-    }
-    Ok(out)
-}
-
+// A process with its new body and the new numbers.
 fn renumbered_process(
     alloc: Global,
     p: CoreProcess,
     new: List<CoreStmt>,
     numbers: &[u32],
-) -> Result<CoreProcess, NoMemory> {
+) -> Result<CoreProcess, NoMemory>
+    ensures { IfOk result (λ q. title_of q ≡ title_of p) }
+{
     let CoreProcess {
         sort,
         name,

@@ -1,10 +1,16 @@
 //! Clocks as data, and sensitivity lists.
+ghost use Rattle.std.specs.Prelude.{IfOk};
+ghost use Rattle.scc_base.specs.declared.code.Code.TheVariants as code;
+ghost use Rattle.scc_rules.specs.Refusals.{Finds};
+
 use crate::facts::{Facts, Role, filled, is_combinational};
 use scc_base::{Code, NoMemory, Place, Refusal, lost};
 use scc_flow::Mark;
 use std::alloc::Global;
 
-fn refusal(code: Code, place: Place) -> Option<Refusal> {
+fn refusal(code: Code, place: Place) -> Option<Refusal>
+    ensures { Finds code result }
+{
     Some(Refusal {
         code,
         place,
@@ -13,7 +19,9 @@ fn refusal(code: Code, place: Place) -> Option<Refusal> {
 }
 
 /// A clock that is a reset or stands in a sensitivity list, at that process, or is read.
-pub fn clock_as_data(alloc: Global, f: &Facts<'_>) -> Result<Option<Refusal>, NoMemory> {
+pub fn clock_as_data(alloc: Global, f: &Facts<'_>) -> Result<Option<Refusal>, NoMemory>
+    ensures { IfOk result (Finds code.ClockAsData) }
+{
     let mut clocks = filled(alloc, f.core.cells.len(), false)?;
     for p in f.core.processes.as_slice() {
         if let Some(edge) = p.edge {
@@ -62,7 +70,9 @@ fn meets(alloc: Global, f: &Facts<'_>, mark: &Mark, set: &[bool]) -> Result<bool
 }
 
 /// A root that a combinational method reads and that isn't in its sensitivity list.
-pub fn missing_sensitivity(alloc: Global, f: &Facts<'_>) -> Result<Option<Refusal>, NoMemory> {
+pub fn missing_sensitivity(alloc: Global, f: &Facts<'_>) -> Result<Option<Refusal>, NoMemory>
+    ensures { IfOk result (Finds code.MissingSensitivity) }
+{
     let mut listed = filled(alloc, f.core.cells.len(), 0u32)?;
     let mut turn = 0u32;
     for (p, marks) in f.core.processes.as_slice().iter().zip(f.marks.iter()) {

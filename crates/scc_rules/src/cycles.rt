@@ -1,4 +1,8 @@
 //! Which combinational methods read what others write: their order, and cycles.
+ghost use Rattle.std.specs.Prelude.{IfOk};
+ghost use Rattle.scc_base.specs.declared.code.Code.TheVariants as code;
+ghost use Rattle.scc_rules.specs.Refusals.{Finds};
+
 use crate::facts::{Facts, Role, filled, is_combinational};
 use scc_base::{Code, List, NoMemory, Refusal, lost, push};
 use std::alloc::Global;
@@ -131,7 +135,9 @@ pub fn order_of(alloc: Global, r: &Readers) -> Result<List<u32>, NoMemory> {
 }
 
 /// The first method on a cycle, with the first that reads what it writes on a cycle with it.
-pub fn comb_loop(alloc: Global, f: &Facts<'_>, r: &Readers) -> Result<Option<Refusal>, NoMemory> {
+pub fn comb_loop(alloc: Global, f: &Facts<'_>, r: &Readers) -> Result<Option<Refusal>, NoMemory>
+    ensures { IfOk result (Finds code.CombLoop) }
+{
     let groups = groups_of(alloc, r)?;
     for n in r.methods.iter() {
         let mut other: Option<u32> = None;

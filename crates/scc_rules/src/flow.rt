@@ -1,4 +1,6 @@
 //! What every path through a method has written whole: latches, and reads of what isn't written before.
+ghost use Rattle.scc_rules.specs.Refusals.{Finds};
+
 use crate::facts::{Facts, Role, filled, is_combinational};
 use crate::loads::own_loads;
 use scc_base::{Code, NoMemory, Place, Refusal, lost, push};
@@ -348,7 +350,9 @@ fn after(
 }
 
 /// The first of the methods' findings, method by method.
-pub fn first_of(found: &[Paths], code: Code) -> Option<Refusal> {
+pub fn first_of(found: &[Paths], code: Code) -> Option<Refusal>
+    ensures { Finds code result }
+{
     for paths in found {
         let place = if code == Code::Latch {
             paths.latch

@@ -1,4 +1,8 @@
 //! The rules in the order of their codes.
+ghost use Rattle.std.specs.Prelude.{◌≡◌, true, IfOk, IfErr, IfSome};
+ghost use Rattle.scc_base.specs.declared.code.Code.TheVariants as code;
+ghost use Rattle.scc_rules.specs.Refusals.{Finds, MayStop, is_refusal};
+
 use crate::clock::{clock_as_data, missing_sensitivity};
 use crate::cycles::{comb_loop, order_of, readers_of};
 use crate::facts::{Facts, facts_of};
@@ -16,13 +20,17 @@ pub type Order = List<u32>;
 /// Checks a core against the rules of processes, and orders its combinational methods. Each loop of the core holds a wait, and no
 /// statement mentions a pointer. It refuses ClockAsData, TwoWriters, SharedVariable, MissingSensitivity, Latch, CombLoop,
 /// CombState, WaitInMethod, LoopMayNotWait, EndReached and SignalIndex, the first code by number that stands.
-pub fn check(alloc: Global, c: &Core) -> Result<Order, Stop> {
+pub fn check(alloc: Global, c: &Core) -> Result<Order, Stop>
+    ensures stop { IfErr result MayStop }
+{
     let places = Places::of(alloc, &c.cells, &c.vectors)?;
     check_known(alloc, &places, c)
 }
 
 /// The same, where the cells' names are in a table.
-pub fn check_known(alloc: Global, places: &Places, c: &Core) -> Result<Order, Stop> {
+pub fn check_known(alloc: Global, places: &Places, c: &Core) -> Result<Order, Stop>
+    ensures stop { IfErr result MayStop }
+{
     let known = Known::new(&c.cells, places);
     let roots = places.roots(alloc, &c.cells)?;
     let f = facts_of(alloc, c, known, roots)?;
@@ -42,14 +50,19 @@ pub fn check_known(alloc: Global, places: &Places, c: &Core) -> Result<Order, St
     Ok(order_of(alloc, &readers)?)
 }
 
-fn refuse(found: Option<Refusal>) -> Result<(), Stop> {
+fn refuse(found: Option<Refusal>) -> Result<(), Stop>
+    requires { IfSome found (λ r. is_refusal r.code ≡ true) }
+    ensures { IfErr result MayStop }
+{
     match found {
         Some(refusal) => Err(Stop::Refused(refusal)),
         None => Ok(()),
     }
 }
 
-fn at(code: Code, place: Place) -> Option<Refusal> {
+fn at(code: Code, place: Place) -> Option<Refusal>
+    ensures { Finds code result }
+{
     Some(Refusal {
         code,
         place,
@@ -57,7 +70,9 @@ fn at(code: Code, place: Place) -> Option<Refusal> {
     })
 }
 
-fn wait_in_method(f: &Facts<'_>) -> Option<Refusal> {
+fn wait_in_method(f: &Facts<'_>) -> Option<Refusal>
+    ensures { Finds code.WaitInMethod result }
+{
     for p in f.core.processes.as_slice() {
         if p.sort == Sort2::Method
             && let Some(place) = first_wait(p.body.as_slice())
@@ -68,7 +83,9 @@ fn wait_in_method(f: &Facts<'_>) -> Option<Refusal> {
     None
 }
 
-fn loop_may_not_wait(alloc: Global, f: &Facts<'_>) -> Result<Option<Refusal>, NoMemory> {
+fn loop_may_not_wait(alloc: Global, f: &Facts<'_>) -> Result<Option<Refusal>, NoMemory>
+    ensures { IfOk result (Finds code.LoopMayNotWait) }
+{
     for live in f.lives.iter() {
         if let Some(place) = loop_without_wait(alloc, live.as_slice())? {
             return Ok(at(Code::LoopMayNotWait, place));
@@ -77,7 +94,9 @@ fn loop_may_not_wait(alloc: Global, f: &Facts<'_>) -> Result<Option<Refusal>, No
     Ok(None)
 }
 
-fn end_reached(f: &Facts<'_>) -> Option<Refusal> {
+fn end_reached(f: &Facts<'_>) -> Option<Refusal>
+    ensures { Finds code.EndReached result }
+{
     for (p, ends) in f.core.processes.as_slice().iter().zip(f.ends.iter()) {
         if p.sort == Sort2::Thread && *ends {
             return at(Code::EndReached, p.place);
@@ -86,7 +105,9 @@ fn end_reached(f: &Facts<'_>) -> Option<Refusal> {
     None
 }
 
-fn signal_index(alloc: Global, f: &Facts<'_>) -> Result<Option<Refusal>, NoMemory> {
+fn signal_index(alloc: Global, f: &Facts<'_>) -> Result<Option<Refusal>, NoMemory>
+    ensures { IfOk result (Finds code.SignalIndex) }
+{
     for p in f.core.processes.as_slice() {
         if let Some(place) = first_chosen_signal(p.body.as_slice(), alloc, f)? {
             return Ok(at(Code::SignalIndex, place));

@@ -1,4 +1,8 @@
 //! Roots with two writers, and variables that two processes share.
+ghost use Rattle.std.specs.Prelude.{IfOk};
+ghost use Rattle.scc_base.specs.declared.code.Code.TheVariants as code;
+ghost use Rattle.scc_rules.specs.Refusals.{Finds};
+
 use crate::facts::{Facts, Role, filled};
 use scc_base::{Code, NoMemory, Place, Refusal, lost};
 use scc_flow::Mark;
@@ -34,7 +38,9 @@ fn earlier(a: Option<First>, b: First) -> Option<First> {
     }
 }
 
-fn refused(code: Code, place: Place, other: First) -> Option<Refusal> {
+fn refused(code: Code, place: Place, other: First) -> Option<Refusal>
+    ensures { Finds code result }
+{
     Some(Refusal {
         code,
         place,
@@ -43,7 +49,9 @@ fn refused(code: Code, place: Place, other: First) -> Option<Refusal> {
 }
 
 /// A root that two processes write: at the first such statement of the later one.
-pub fn two_writers(alloc: Global, f: &Facts<'_>) -> Result<Option<Refusal>, NoMemory> {
+pub fn two_writers(alloc: Global, f: &Facts<'_>) -> Result<Option<Refusal>, NoMemory>
+    ensures { IfOk result (Finds code.TwoWriters) }
+{
     let mut firsts = filled(alloc, f.core.cells.len(), None)?;
     let mut process = 0u32;
     for marks in f.marks.iter() {
@@ -96,7 +104,9 @@ struct Shared {
 }
 
 /// A variable that two processes name and one of them writes: at the first such statement of the later one.
-pub fn shared_variable(alloc: Global, f: &Facts<'_>) -> Result<Option<Refusal>, NoMemory> {
+pub fn shared_variable(alloc: Global, f: &Facts<'_>) -> Result<Option<Refusal>, NoMemory>
+    ensures { IfOk result (Finds code.SharedVariable) }
+{
     let n = f.core.cells.len();
     let mut shared = Shared {
         named: filled(alloc, n, None)?,
@@ -142,7 +152,9 @@ fn shared_by(
     marks: &[Mark],
     process: u32,
     shared: &mut Shared,
-) -> Result<Option<Refusal>, NoMemory> {
+) -> Result<Option<Refusal>, NoMemory>
+    ensures { IfOk result (Finds code.SharedVariable) }
+{
     let mut met: Option<(u32, Place, First)> = None;
     for mark in marks {
         if let Some((number, place, first)) = met

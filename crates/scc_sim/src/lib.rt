@@ -9,9 +9,10 @@ mod ports;
 mod simulation;
 mod steps;
 
-pub use bounds::{Size, segments_size, size_of, step_bounds};
+pub use bounds::segments_size;
 pub use constants::constants_of;
 pub use list::list_text;
 pub use ports::SimPorts;
+pub use scc_bounds::{Size, size_of, step_bounds};
 pub use simulation::Simulation;
 pub use steps::{Steps, read_steps};

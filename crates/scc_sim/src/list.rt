@@ -1,7 +1,8 @@
 //! The list of a design's registers and of its processes' bounds.
-use crate::bounds::{segments_size, size_of};
+use crate::bounds::segments_size;
 use itoa::Buffer;
 use scc_base::{Names, NoMemory, Text, lost, push};
+use scc_bounds::size_of;
 use scc_core::{Core, CoreProcess, Sort2};
 use scc_lower::sv_name;
 use scc_states::Split;

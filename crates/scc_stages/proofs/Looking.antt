@@ -1,5 +1,5 @@
 -- What the reader's answer says of a text.
-use Rattle.std.proofs.Common.{◌≡◌, inl, inr, ℕ, List, false, true, ap, sym, ◌∙◌}
+use Rattle.std.proofs.Common.{◌≡◌, inl, inr, ℕ, List, Bool, false, true, ap, sym, ◌∙◌}
 use Rattle.scc_base.specs.declared.refusal.Stop.{Stop}
 use Rattle.scc_svtree.specs.declared.module.SvModule.{SvModule}
 use Rattle.scc_svgrammar.specs.declared.halt.Halt.{Halt}
@@ -24,17 +24,18 @@ of_wrong (Name at) n = let q : false ≡ true = n in cc
 of_wrong (Driver at) n = let q : false ≡ true = n in cc
 
 -- nothing that is wrong with a text is a refusal because of depth
-of_faulty : (raw : RawModule) (e : Stop) → IsFaulty false raw e → is_too_deep e ≡ true → ⊥
-of_faulty raw e (inl p) n = let q : false ≡ true = sym (ap is_too_deep p) ∙ n in cc
-of_faulty raw e (inr (inl w)) n = of_wrong w.first (sym (ap is_too_deep w.said) ∙ n)
-of_faulty raw e (inr (inr l)) n = let q : false ≡ true = sym (ap is_too_deep l.loops.said) ∙ n in cc
+of_faulty : (many : Bool) (raw : RawModule) (e : Stop) → IsFaulty many raw e → is_too_deep e ≡ true → ⊥
+of_faulty many raw e (inl p) n = let q : false ≡ true = sym (ap is_too_deep p) ∙ n in cc
+of_faulty many raw e (inr (inl w)) n = of_wrong w.first (sym (ap is_too_deep w.said) ∙ n)
+of_faulty many raw e (inr (inr l)) n = let q : false ≡ true = sym (ap is_too_deep l.loops.said) ∙ n in cc
 
-stands_deep : (bytes : Bytes) (e : Stop) → RefusedAs false bytes e → is_too_deep e ≡ true → StandsDeep bytes
-stands_deep bytes e (inl s) n = of_fault bytes s.fault s.stands (sym (ap is_too_deep s.said) ∙ n)
-stands_deep bytes e (inr t) n = absurd (of_faulty t.raw e t.holds n)
+stands_deep : (many : Bool) (bytes : Bytes) (e : Stop) → RefusedAs many bytes e → is_too_deep e ≡ true → StandsDeep bytes
+stands_deep many bytes e (inl s) n = of_fault bytes s.fault s.stands (sym (ap is_too_deep s.said) ∙ n)
+stands_deep many bytes e (inr t) n = absurd (of_faulty many t.raw e t.holds n)
 
-pub is_sound : (top bytes : List ℕ) (m : SvModule) → ReadAs false bytes m → m.name ≡ top → IsEmitted top bytes
-is_sound top bytes m read named = sound m read.text named
+pub is_sound : (many : Bool) (top bytes : List ℕ) (m : SvModule) → ReadAs many bytes m → m.name ≡ top → IsEmitted many top bytes
+is_sound many top bytes m read named = sound m read.text named
 
-pub is_deep : (top bytes : List ℕ) (m : SvModule) (e : Stop) → bytes ≡ module_text m → m.name ≡ top → RefusedAs false bytes e → is_too_deep e ≡ true → IsEmitted top bytes
-is_deep top bytes m e text named refused n = deep m text named (stands_deep bytes e refused n)
+pub is_deep : (many : Bool) (top bytes : List ℕ) (m : SvModule) (e : Stop) → bytes ≡ module_text m → m.name ≡ top → RefusedAs many bytes e → is_too_deep e ≡ true
+    → IsEmitted many top bytes
+is_deep many top bytes m e text named refused n = deep m text named (stands_deep many bytes e refused n)

@@ -13,11 +13,11 @@ use Rattle.scc_svtext.specs.ModuleText.{module_text}
 abbrev pub StandsDeep : Bytes → Type 0
 StandsDeep bytes = (rest : Bytes) × PassesLimitAt 8192 bytes rest
 
--- The bytes are the text of a module of this name: of the one module without wrong sizes, names, drivers or cycles that has this
--- text; or a part of the module stands too deep for the reader.
-pub data IsEmitted (top bytes : List ℕ) : Type 0 where
-  sound : (m : SvModule) → SvReads false bytes m → m.name ≡ top → IsEmitted top bytes
-  deep : (m : SvModule) → bytes ≡ module_text m → m.name ≡ top → StandsDeep bytes → IsEmitted top bytes
+-- The bytes are the text of a module of this name, which may have several clocks where `many` says so: of the one module without
+-- wrong sizes, names, drivers or cycles that has this text; or a part of the module stands too deep for the reader.
+pub data IsEmitted (many : Bool) (top bytes : List ℕ) : Type 0 where
+  sound : (m : SvModule) → SvReads many bytes m → m.name ≡ top → IsEmitted many top bytes
+  deep : (m : SvModule) → bytes ≡ module_text m → m.name ≡ top → StandsDeep bytes → IsEmitted many top bytes
 
 -- a refusal because a part stands too deep
 abbrev pub is_too_deep : Stop → Bool

@@ -17,7 +17,7 @@ use std::alloc::Global;
 /// What the file breaks, by the first stage that refuses: names and constants (E301 to E314), construction (E401 to E412), the
 /// rules of processes (E501 to E514) or sizes (E601 to E605). Want of memory takes the place of a text that isn't read back.
 pub fn compile(alloc: Global, names: &Names, tree: &FileTree, top: &[u8]) -> Result<Text, Stop>
-    ensures written { IfOk result (λ t. IsEmitted top.now t) }
+    ensures written { IfOk result (λ t. IsEmitted false top.now t) }
     ensures refused { IfErr result (λ e. may_stop false e ≡ true) }
 {
     let front = front_of(alloc, tree, name_of(names, top), false)?;
@@ -45,7 +45,7 @@ pub fn compile_front(
     top: &[u8],
     front: &Front,
 ) -> Result<Text, NoMemory>
-    ensures written { IfOk result (λ t. IsEmitted top.now t) }
+    ensures written { IfOk result (λ t. IsEmitted false top.now t) }
 {
     let module = blocks(
         alloc,
@@ -55,5 +55,5 @@ pub fn compile_front(
         front.splits.as_slice(),
     )?;
     let text = print(alloc, &module)?;
-    looked_at(alloc, top, &module, text)
+    looked_at(alloc, false, top, &module, text)
 }

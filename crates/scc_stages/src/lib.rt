@@ -9,3 +9,4 @@ mod refusals;
 
 pub use emit::{compile, compile_front, name_of};
 pub use front::{Front, front_of};
+pub use look::looked_at;

@@ -1,4 +1,7 @@
 //! What an asynchronous reset may do: along the one path of the reset segment each assignment gives a whole cell a static value.
+ghost use Rattle.std.specs.Prelude.{IfErr};
+ghost use Rattle.scc_states.specs.Refusals.{MayStop};
+
 use crate::outline::Outline;
 use scc_base::{Code, NoMemory, Stop, lost, push};
 use scc_core::{CoreExpr, CoreLeft, CoreNode, CoreStmt, Known};
@@ -26,7 +29,9 @@ pub fn check_reset(
     known: Known<'_>,
     body: &[CoreStmt],
     lines: &[Outline],
-) -> Result<(), Stop> {
+) -> Result<(), Stop>
+    ensures stop { IfErr result MayStop }
+{
     let mut turns = Vec::new(alloc);
     let first = Turn {
         body,
@@ -52,7 +57,9 @@ fn next<'a>(
     known: Known<'_>,
     turn: Turn<'a>,
     turns: &mut Vec<Turn<'a>>,
-) -> Result<bool, Stop> {
+) -> Result<bool, Stop>
+    ensures stop { IfErr result MayStop }
+{
     let (Some(s), Some(line)) = (turn.body.get(turn.at), turn.lines.get(turn.at)) else {
         if turn.sort == Sort::Loop && !turn.body.is_empty() {
             push(turns, Turn { at: 0, ..turn })?;
@@ -123,7 +130,9 @@ fn leave(n: u32, turns: &mut Vec<Turn<'_>>) -> Result<(), NoMemory> {
 
 // A statement without a wait, with all that stands in it.
 #[cycle(reset_inside)]
-fn inside(s: &CoreStmt, alloc: Global, known: Known<'_>) -> Result<(), Stop> {
+fn inside(s: &CoreStmt, alloc: Global, known: Known<'_>) -> Result<(), Stop>
+    ensures stop { IfErr result MayStop }
+{
     match &s.node {
         CoreNode::Assign { left, value } => {
             if gives_static(alloc, known, left, value)? {
@@ -145,7 +154,9 @@ fn inside(s: &CoreStmt, alloc: Global, known: Known<'_>) -> Result<(), Stop> {
 }
 
 #[cycle(reset_inside)]
-fn each(body: &[CoreStmt], alloc: Global, known: Known<'_>) -> Result<(), Stop> {
+fn each(body: &[CoreStmt], alloc: Global, known: Known<'_>) -> Result<(), Stop>
+    ensures stop { IfErr result MayStop }
+{
     for s in body {
         inside(s, alloc, known)?;
     }

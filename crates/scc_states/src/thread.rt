@@ -1,4 +1,7 @@
 //! The segments of a thread.
+ghost use Rattle.std.specs.Prelude.{IfErr};
+ghost use Rattle.scc_states.specs.Refusals.{MayStop};
+
 use crate::kept::{kept_of, own_cells};
 use crate::measure::measured;
 use crate::outline::outlines;
@@ -21,13 +24,17 @@ const DEEPEST: u32 = 1_024;
 
 /// The segments of a thread of a checked core, by its number. It refuses a wait too many (TooManyStates), segments that are too
 /// large or too deep (SegmentsTooLarge), and what an asynchronous reset may not do.
-pub fn split(alloc: Global, c: &Core, process: u32) -> Result<Split, Stop> {
+pub fn split(alloc: Global, c: &Core, process: u32) -> Result<Split, Stop>
+    ensures stop { IfErr result MayStop }
+{
     let places = Places::of(alloc, &c.cells, &c.vectors)?;
     split_known(alloc, Known::new(&c.cells, &places), c, process)
 }
 
 /// The same, where the cells' names are in a table.
-pub fn split_known(alloc: Global, known: Known<'_>, c: &Core, process: u32) -> Result<Split, Stop> {
+pub fn split_known(alloc: Global, known: Known<'_>, c: &Core, process: u32) -> Result<Split, Stop>
+    ensures stop { IfErr result MayStop }
+{
     let Some(thread) = c.processes.get(process as usize) else {
         return Err(Stop::from(lost()));
     };

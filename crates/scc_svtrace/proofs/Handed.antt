@@ -19,17 +19,17 @@ use Rattle.scc_trace.specs.Stimulus.{Outcome, ◌>>=◌, found_of, step_in, hex_
 use Rattle.scc_svtrace.specs.Ports.{port_of, in_ports}
 use Rattle.scc_svtrace.specs.Trace.{IsHanded, AreAllHanded}
 
-some_same : {A : Type 0} (a b : A) → Some a ≡ Some b → a ≡ b
+pub some_same : {A : Type 0} (a b : A) → Some a ≡ Some b → a ≡ b
 some_same {A} a b e = ap from e
   where
     from : Option A → A
     from None = a
     from (Some x) = x
 
-abbrev good : {A : Type 0} → A → Outcome A
+abbrev pub good : {A : Type 0} → A → Outcome A
 good a = Ok a
 
-ok_same : {A : Type 0} (a b : A) → good a ≡ good b → a ≡ b
+pub ok_same : {A : Type 0} (a b : A) → good a ≡ good b → a ≡ b
 ok_same {A} a b e = ap from e
   where
     from : Outcome A → A
@@ -37,21 +37,21 @@ ok_same {A} a b e = ap from e
     from (Ok x) = x
 
 -- what stands before the rest of a chain
-record Before {A B : Type 0} (o : Outcome A) (f : A → Outcome B) (y : B) : Type 0 where
-  value : A
-  is : o ≡ Ok value
-  rest : f value ≡ Ok y
+pub record Before {A B : Type 0} (o : Outcome A) (f : A → Outcome B) (y : B) : Type 0 where
+  pub value : A
+  pub is : o ≡ Ok value
+  pub rest : f value ≡ Ok y
 
-bind_ok : {A B : Type 0} (o : Outcome A) (f : A → Outcome B) (y : B) → (o >>= f) ≡ Ok y → Before o f y
+pub bind_ok : {A B : Type 0} (o : Outcome A) (f : A → Outcome B) (y : B) → (o >>= f) ≡ Ok y → Before o f y
 bind_ok (Ok x) f y e = record { value = x; is = refl; rest = e }
 bind_ok (Err r) f y e = absurd (cc)
 
 -- a value that is not too wide, and none behind it is
-record Narrow (width n : ℕ) (behind : Option ℕ) : Type 0 where
-  fits : n < 2 ^ width
-  none : behind ≡ None
+pub record Narrow (width n : ℕ) (behind : Option ℕ) : Type 0 where
+  pub fits : n < 2 ^ width
+  pub none : behind ≡ None
 
-narrow : (width at n : ℕ) (behind : Option ℕ) → first_wide width at n behind ≡ None → Narrow width n behind
+pub narrow : (width at n : ℕ) (behind : Option ℕ) → first_wide width at n behind ≡ None → Narrow width n behind
 narrow width at n behind e = go (nat_lt n (2 ^ width)) refl e
   where
     go : (b : Bool) → nat_lt n (2 ^ width) ≡ b → (if b then behind else Some at) ≡ None → Narrow width n behind
@@ -59,7 +59,7 @@ narrow width at n behind e = go (nat_lt n (2 ^ width)) refl e
     go false f e = absurd (cc)
 
 module _ (m : SvModule) where
-  abbrev Fits : List VarId → List Piece → Type 0
+  abbrev pub Fits : List VarId → List Piece → Type 0
   Fits vs ps = (f : Found) → found_of (widths_of (map (port_of m) vs)) ps ≡ Some f → f.wide ≡ None → AreHanded (width_at m.vars) vs f.words
 
   fits_more : (v : VarId) (vs : List VarId) (p : Piece) (ps : List Piece) → IsWidth (width_at m.vars v.0) → Fits vs ps
@@ -73,7 +73,7 @@ module _ (m : SvModule) where
       let P : Found → Type 0 = λ y. AreHanded (width_at m.vars) (v ∷ vs) y.words in
       subst P s (w, a.fits, k g q a.none)
 
-  found_fits : (vs : List VarId) (ps : List Piece) → Each (λ v. IsWidth (width_at m.vars v.0)) vs → Fits vs ps
+  pub found_fits : (vs : List VarId) (ps : List Piece) → Each (λ v. IsWidth (width_at m.vars v.0)) vs → Fits vs ps
   unfolding found_of
   found_fits [] [] w f e n = let P : Found → Type 0 = λ y. AreHanded (width_at m.vars) [] y.words in subst P (some_same _ f e) tt
   found_fits [] (p ∷ ps) w f e n = absurd (cc)
@@ -116,7 +116,7 @@ module _ (m : SvModule) where
       let d = bind_ok (line_at file (codes "ports") (names_line (codes "ports") (names_of (in_ports m))) c.value.0) _ ss c.rest in
       all_words (step_of file b.value (widths_of (in_ports m))) (λ l s q. step_words file b.value l s w q) c.value.1 ss d.rest
 
-inputs_wide : (width : ℕ → ℕ) (clocks : ℕ → Bool) (vs : List SvVar) (n : ℕ) → ((v : ℕ) → v < n + length vs → IsWidth (width v)) → Each (λ v. IsWidth (width v.0)) (inputs_from n clocks vs)
+pub inputs_wide : (width : ℕ → ℕ) (clocks : ℕ → Bool) (vs : List SvVar) (n : ℕ) → ((v : ℕ) → v < n + length vs → IsWidth (width v)) → Each (λ v. IsWidth (width v.0)) (inputs_from n clocks vs)
 inputs_wide width clocks [] n h = tt
 inputs_wide width clocks (x ∷ xs) n h = go (is_input x.dir && not (clocks n)) (inputs_wide width clocks xs (n + 1) (λ v l. h v (omega (arith, l))))
   where

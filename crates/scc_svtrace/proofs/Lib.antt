@@ -1,2 +1,4 @@
 pub mod Turning
 pub mod Handed
+pub mod Masked
+pub mod Listed

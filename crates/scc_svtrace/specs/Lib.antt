@@ -1,3 +1,4 @@
 pub mod Ports
 pub mod Trace
 pub mod Traced
+pub mod Clocked

@@ -46,19 +46,19 @@ trace_from m n [] = []
 trace_from m n (o ∷ os) = lines_of m n o ++ trace_from m (n + 1) os
 
 -- Steps from a valuation are observed, and this is what they show.
-pub record Shown (m : SvModule) (x : ℕ → ℕ) (n : ℕ) (steps : List StimStep) (text : Bytes) : Type 0 where
+pub record Shown (m : SvModule) (x : ℕ → ℕ) (n : ℕ) (steps : List StepInput) (text : Bytes) : Type 0 where
   pub observed : List (List (ℕ → ℕ))
-  pub ran : Steps m x (map (input_of m) steps) observed
+  pub ran : Steps m x steps observed
   pub lines : text ≡ trace_from m n observed
 
 -- one step
-pub record Turned (m : SvModule) (n : ℕ) (s : StimStep) (x z : ℕ → ℕ) (old new : Bytes) : Type 0 where
+pub record Turned (m : SvModule) (n : ℕ) (s : StepInput) (x z : ℕ → ℕ) (old new : Bytes) : Type 0 where
   pub observed : List (ℕ → ℕ)
-  pub step : Step m (input_of m s) x z observed
+  pub step : Step m s x z observed
   pub lines : new ≡ old ++ lines_of m n observed
 
 -- steps whose lines stand behind what was there
-pub record Appended (m : SvModule) (x : ℕ → ℕ) (n : ℕ) (steps : List StimStep) (old new : Bytes) : Type 0 where
+pub record Appended (m : SvModule) (x : ℕ → ℕ) (n : ℕ) (steps : List StepInput) (old new : Bytes) : Type 0 where
   pub text : Bytes
   pub shown : Shown m x n steps text
   pub behind : new ≡ old ++ text

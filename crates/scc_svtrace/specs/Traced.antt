@@ -1,5 +1,5 @@
 -- The trace of a module on the text of a stimulus.
-use Rattle.std.specs.Prelude.{◌≡◌, ℕ, List, ◌++◌, Some, Ok, Err, ◌⊎◌}
+use Rattle.std.specs.Prelude.{◌≡◌, ℕ, List, ◌++◌, map, Some, Ok, Err, ◌⊎◌}
 use Rattle.scc_base.specs.declared.refusal.Refusal.{Refusal}
 use Rattle.scc_base.specs.declared.refusal.Stop.{Stop}
 use Rattle.scc_base.specs.declared.refusal.Stop.TheVariants as stop
@@ -9,7 +9,7 @@ use Rattle.scc_trace.specs.declared.stim.Version.{Version}
 use Rattle.scc_trace.specs.Cut.{Bytes, first}
 use Rattle.scc_trace.specs.Stimulus.{stim_of, version_of}
 use Rattle.scc_svtrace.specs.Ports.{in_ports}
-use Rattle.scc_svtrace.specs.Trace.{Shown, header}
+use Rattle.scc_svtrace.specs.Trace.{Shown, input_of, header}
 
 -- The trace on a stimulus, which is the file of this number, from a valuation in which every variable is 0.
 pub record IsTrace (file : ℕ) (m : SvModule) (stimulus trace : Bytes) : Type 0 where
@@ -18,7 +18,7 @@ pub record IsTrace (file : ℕ) (m : SvModule) (stimulus trace : Bytes) : Type 0
   pub version : Version
   pub named : version_of (first 10 stimulus) ≡ Some version
   pub lines : Bytes
-  pub shown : Shown m (λ v. 0) 0 steps lines
+  pub shown : Shown m (λ v. 0) 0 (map (input_of m) steps) lines
   pub whole : trace ≡ header version ++ lines
 
 -- the first refusal of a stimulus

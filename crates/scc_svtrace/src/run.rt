@@ -1,5 +1,5 @@
 //! Steps of a stimulus, one after the other.
-ghost use Rattle.std.specs.Prelude.{◌≡◌, OnOk};
+ghost use Rattle.std.specs.Prelude.{◌≡◌, map, OnOk};
 ghost use Rattle.scc_svtree.specs.Variables.{word_at};
 ghost use Rattle.scc_svtrace.specs.Ports as ports;
 ghost use Rattle.scc_svtrace.specs.Trace as trace;
@@ -24,7 +24,7 @@ fn turn(
     requires ports { outputs.now.ports ≡ ports.out_ports runner.old.top }
     requires fitting { IsHanded runner.old.top step.now }
     ensures same { runner.new.top ≡ runner.old.top }
-    ensures turned { OnOk result (Turned runner.old.top number step.now (word_at runner.old.words) (word_at runner.new.words) out.old out.new) }
+    ensures turned { OnOk result (Turned runner.old.top number (trace.input_of runner.old.top step.now) (word_at runner.old.words) (word_at runner.new.words) out.old out.new) }
 {
     runner.settle(step.words.as_slice());
     line(alloc, runner, outputs, number, false, out)?;
@@ -46,7 +46,7 @@ pub fn play(
     requires vars { outputs.now.vars ≡ ports.outputs_of runner.old.top }
     requires ports { outputs.now.ports ≡ ports.out_ports runner.old.top }
     requires fitting { AreAllHanded runner.old.top steps.now }
-    ensures { OnOk result (Appended runner.old.top (word_at runner.old.words) 0 steps.now out.old out.new) }
+    ensures { OnOk result (Appended runner.old.top (word_at runner.old.words) 0 (map (trace.input_of runner.old.top) steps.now) out.old out.new) }
 {
     for (number, step) in steps.iter().enumerate() {
         turn(alloc, runner, outputs, number as u64, step, out)?;

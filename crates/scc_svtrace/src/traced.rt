@@ -13,8 +13,8 @@ use scc_svtree::SvModule;
 use scc_trace::{Version, stimulus, version};
 use std::alloc::Global;
 
-// The first line of a trace.
-fn header(version: Version) -> &'static [u8]
+/// The first line of a trace.
+pub fn header(version: Version) -> &'static [u8]
     ensures { result.now ≡ trace.header version }
 {
     match version {

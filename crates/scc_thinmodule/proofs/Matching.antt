@@ -1,5 +1,5 @@
 -- The module of a design matches it, in the words of the whole language.
-use Rattle.std.proofs.Common.{◌≡◌, ℕ, suc, ◌+◌, List, [], ◌∷◌, map, length, Bool, true, false, cond, Option, Some, ap, refl, sym, ◌∙◌, arith}
+use Rattle.std.proofs.Common.{◌≡◌, ℕ, suc, ◌+◌, List, [], ◌∷◌, map, length, Bool, true, false, cond, Option, Some, None, ap, refl, sym, ◌∙◌, arith}
 use Rattle.std.specs.Prelude.{take, slice_get, option_map, unwrap_or}
 use Rattle.scc_running.specs.Design as running
 use Rattle.scc_running.specs.Design.{is_input}
@@ -46,6 +46,7 @@ module _ (d : Design) where
       name = refl;
       ports = ap (map var_view) (all_taken 0 d.ports) ∙ views 0 d.ports (λ k. ap (slice_get d.ports) (omega arith));
       inner = λ v x e port. ap (λ l. slice_get l v) (all_taken 0 d.ports) ∙ e;
+      edges = λ k e h. absurd (let f : None ≡ Some e = h in cc);
       registers = λ v e. absurd (let f : false ≡ true = e in cc);
     };
   }

@@ -1,8 +1,8 @@
 //! The pass.
-ghost use Rattle.std.specs.Prelude.{◌≡◌, Err, IfOk};
+ghost use Rattle.std.specs.Prelude.{◌≡◌, Err, IfOk, map};
 ghost use Rattle.scc_base.specs.declared.refusal.Refusal.{Refusal};
 ghost use Rattle.scc_base.specs.declared.refusal.Stop.TheVariants as stop;
-ghost use Rattle.scc_unroll.specs.Unrolled.{KeepsCells, IsOfUnrolling};
+ghost use Rattle.scc_unroll.specs.Unrolled.{KeepsAllButBodies, IsOfUnrolling, head_of};
 
 use crate::built::{Unrolled, unrolled_stmts};
 use crate::line::{Line, lines_of};
@@ -19,7 +19,7 @@ use std::alloc::Global;
 pub struct Unroll;
 
 impl Pass for Unroll {
-    ghost gives = { λ _ c m. KeepsCells c m };
+    ghost gives = { λ _ c m. KeepsAllButBodies c m };
 
     ghost refuses = { λ _ _ r. IsOfUnrolling r };
 
@@ -46,6 +46,7 @@ fn all(
     known: Known<'_>,
     processes: List<CoreProcess>,
 ) -> Result<List<CoreProcess>, Stop>
+    ensures heads { IfOk result (λ ps. map head_of ps ≡ map head_of processes) }
     ensures stop { (r : Refusal) → result ≡ Err (stop.Refused r) → IsOfUnrolling r }
 {
     let mut out = List::new(alloc);
@@ -56,6 +57,7 @@ fn all(
 }
 
 fn process(alloc: Global, known: Known<'_>, p: CoreProcess) -> Result<CoreProcess, Stop>
+    ensures head { IfOk result (λ q. head_of q ≡ head_of p) }
     ensures stop { (r : Refusal) → result ≡ Err (stop.Refused r) → IsOfUnrolling r }
 {
     let body = match new_body(alloc, known, p.body.as_slice(), p.place)? {

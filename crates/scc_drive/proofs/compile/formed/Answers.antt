@@ -1,10 +1,10 @@
-use Rattle.std.proofs.Common.{◌≡◌, ap, sym, subst, ◌∙◌, false, Err}
+use Rattle.std.proofs.Common.{◌≡◌, subst}
 use Rattle.scc_drive.specs.Comes.{task_if}
 use Rattle.scc_drive.specs.Stages.{Gives, ReadComes}
-use Rattle.scc_drive.proofs.Compiled.{flagged_gives}
 use Rattle.scc_drive.proofs.compile.formed.Goals as goal
 
-pub returns-else-is_whole : goal.returns-else-is_whole
-returns-else-is_whole c =
-    subst (λ b. Gives (ReadComes (task_if b) c.args.top.now c.args.read.now) c.args.top.now (Err c.not_yet.result)) (sym c.if-is_whole.false ∙ c.is_whole.ensures)
-    (flagged_gives c.args.top.now c.args.read.now c.requires.read c.not_yet.result c.not_yet.ensures)
+pub returns-in-Some : goal.returns-in-Some
+returns-in-Some c = subst (λ o. Gives (ReadComes (task_if o) c.args.top.now c.args.read.now) c.args.top.now c.in_form.result) c.in-Some.ensures c.in_form.ensures
+
+pub returns-in-None : goal.returns-in-None
+returns-in-None c = subst (λ o. Gives (ReadComes (task_if o) c.args.top.now c.args.read.now) c.args.top.now c.whole.result) c.in-None.ensures c.whole.ensures

@@ -3,6 +3,7 @@ use Rattle.scc_kinds.specs.declared.kind.Word.{Word}
 use Rattle.scc_svtree.specs.Steps.{IsSettledStep}
 use Rattle.scc_svtree.specs.Variables.{word_at}
 use Rattle.scc_svrun.specs.Runs.{given}
+use Rattle.scc_svtrace.specs.Trace.{input_of}
 use Rattle.scc_svtrace.proofs.Turning.{held, edged}
 use Rattle.scc_svtrace.proofs.run.turn.Goals as goal
 
@@ -12,7 +13,7 @@ returns-in_ok-line-2-clause-turned c =
     let x = word_at c.args.runner.now.words in
     let y = word_at c.settle.new.self.words in
     let P : List Word → Type 0 = λ ws. IsSettledStep m (given m ws) x y in
-    edged m c.args.number c.args.step.now x y (subst P c.as_slice.ensures.elements c.settle.ensures.step) c.settle.new.self.top c.edge.new.self.top (word_at c.edge.new.self.words)
+    edged m c.args.number (input_of m c.args.step.now) x y (subst P c.as_slice.ensures.elements c.settle.ensures.step) c.settle.new.self.top c.edge.new.self.top (word_at c.edge.new.self.words)
     c.args.out.now c.line.new.out c.line-then-step.new.out c.if-step.true c.settle.ensures.same c.in_ok-line.ensures c.edge.ensures.step c.edge.ensures.same c.in_ok-line-2.ensures
 
 pub returns-else-step-clause-turned : goal.returns-else-step-clause-turned
@@ -21,5 +22,5 @@ returns-else-step-clause-turned c =
     let x = word_at c.args.runner.now.words in
     let y = word_at c.settle.new.self.words in
     let P : List Word → Type 0 = λ ws. IsSettledStep m (given m ws) x y in
-    held m c.args.number c.args.step.now x y (subst P c.as_slice.ensures.elements c.settle.ensures.step) c.settle.new.self.top
+    held m c.args.number (input_of m c.args.step.now) x y (subst P c.as_slice.ensures.elements c.settle.ensures.step) c.settle.new.self.top
     c.args.out.now c.line.new.out c.if-step.false c.settle.ensures.same c.in_ok-line.ensures

@@ -7,7 +7,7 @@ use Rattle.scc_trace.specs.declared.stim.StimPort.{StimPort}
 use Rattle.scc_trace.specs.declared.stim.StimStep.{StimStep}
 use Rattle.scc_trace.specs.Stimulus.{stim_of}
 use Rattle.scc_svtrace.specs.Ports.{port_of, in_ports}
-use Rattle.scc_svtrace.specs.Trace.{AreAllHanded}
+use Rattle.scc_svtrace.specs.Trace.{input_of, AreAllHanded}
 use Rattle.scc_svtrace.proofs.Handed.{stimulus_fits}
 use Rattle.scc_svtrace.proofs.Turning.{shown_from_zero}
 use Rattle.scc_svtrace.proofs.traced.module_trace.Goals as goal
@@ -26,7 +26,7 @@ returns-clause-trace c =
     let m = c.args.m.now in
     let ports : c.as_slice.result.now ≡ in_ports m = c.as_slice.ensures.elements ∙ c.in_ok-inputs.ensures ∙ ap (λ l. map (port_of m) l) (c.inputs.ensures ∙ ap (λ k. inputs_of k) c.in_ok-runner.ensures.same) in
     let P : List StimPort → Type 0 = λ p. stim_of c.args.file p c.args.bytes.now ≡ Ok c.in_ok-steps.steps in
-    let a = shown_from_zero m c.in_ok-runner.runner.top (word_at c.in_ok-runner.runner.words) c.in_ok-steps.steps c.as_slice-2.result.now c.in_ok-out.out c.play.new.out
+    let a = shown_from_zero StimStep input_of m c.in_ok-runner.runner.top (word_at c.in_ok-runner.runner.words) c.in_ok-steps.steps c.as_slice-2.result.now c.in_ok-out.out c.play.new.out
     c.in_ok-runner.ensures.same c.in_ok-runner.ensures.zero c.as_slice-2.ensures.elements c.in_ok-play.ensures in
     record {
       steps = c.in_ok-steps.steps;

@@ -1,21 +1,21 @@
--- What the declarations of every plain program have: their numbers name what is there, and sizes keep their limit.
-use Rattle.std.specs.Prelude.{ℕ, Bool, true, false, ◌&&◌, nat_lt, nat_le, List, length, Option, Some, None}
+-- What the declarations of every plain program have: their kinds are kinds, their numbers name what is there, and sizes keep their limit.
+use Rattle.std.specs.Prelude.{ℕ, Bool, true, ◌&&◌, nat_lt, nat_le, length, Option, Some, None}
 use Rattle.std.specs.List.{list_all}
+use Rattle.scc_kinds.specs.declared.kind.Kind.{Kind}
 use Rattle.scc_plaintree.specs.declared.program.Base.{Base}
 use Rattle.scc_plaintree.specs.declared.program.Base.TheVariants as base
-use Rattle.scc_plaintree.specs.declared.program.Shape.{Shape}
 use Rattle.scc_plaintree.specs.declared.program.PlainMember.{PlainMember}
 use Rattle.scc_plaintree.specs.declared.program.PlainClass.{PlainClass}
 use Rattle.scc_plaintree.specs.declared.program.PlainFunction.{PlainFunction}
-use Rattle.scc_plaintree.specs.declared.program.Plain.{Plain}
+use Rattle.scc_plainlook.specs.Constant.{is_kind}
 
 -- the class of a base is one of so many
 abbrev pub is_whole_base : ℕ → Base → Bool
-is_whole_base classes (base.Number kind) = true
+is_whole_base classes (base.Number k) = is_kind k
 is_whole_base classes (base.Class n) = nat_lt n classes
-is_whole_base classes (base.Input kind) = true
-is_whole_base classes (base.Output kind) = true
-is_whole_base classes (base.Signal kind) = true
+is_whole_base classes (base.Input k) = is_kind k
+is_whole_base classes (base.Output k) = is_kind k
+is_whole_base classes (base.Signal k) = is_kind k
 is_whole_base classes base.ModuleName = true
 
 -- 1 to 65,536 elements
@@ -30,11 +30,12 @@ abbrev pub is_below : ℕ → Option ℕ → Bool
 is_below count None = true
 is_below count (Some n) = nat_lt n count
 
+abbrev pub is_kind_if : Option Kind → Bool
+is_kind_if None = true
+is_kind_if (Some k) = is_kind k
+
 abbrev pub is_whole_class : ℕ → ℕ → PlainClass → Bool
 is_whole_class classes functions c = is_below functions c.constructor && list_all (is_whole_member classes) c.members
 
-abbrev pub is_whole_function : ℕ → PlainFunction → Bool
-is_whole_function classes f = is_below classes f.class && (nat_le f.params (length f.locals) && list_all (is_whole_member classes) f.locals)
-
-abbrev pub whole_plain : Plain → Bool
-whole_plain p = nat_lt p.top (length p.classes) && (list_all (is_whole_class (length p.classes) (length p.functions)) p.classes && list_all (is_whole_function (length p.classes)) p.functions)
+abbrev pub is_whole_head : ℕ → PlainFunction → Bool
+is_whole_head classes f = is_below classes f.class && (nat_le f.params (length f.locals) && (is_kind_if f.result && list_all (is_whole_member classes) f.locals))

@@ -1,22 +1,25 @@
-//! A look at the declarations of a program: whether their numbers name what is there.
+//! The declarations of a program.
 ghost use Rattle.std.specs.Prelude.{◌≡◌};
 ghost use Rattle.std.specs.List.{list_all};
-ghost use Rattle.scc_plain.specs.Whole as spec;
+ghost use Rattle.scc_plainlook.specs.Heads as spec;
 
-use scc_plaintree::{Base, Plain, PlainClass, PlainFunction, PlainMember};
+use crate::number::is_kind;
+use scc_bits::Kind;
+use scc_plaintree::{Base, PlainClass, PlainFunction, PlainMember};
 
 // The most elements of an array (this project's profile).
 const MOST: u32 = 65_536;
 
-fn is_whole_base(classes: usize, base: Base) -> bool
-    ensures { result ≡ spec.is_whole_base classes base }
+/// Whether a base has a kind, or a class of so many.
+pub(crate) fn is_whole_base(classes: usize, base: Base) -> bool
+    ensures base { result ≡ spec.is_whole_base classes base }
 {
     match base {
-        Base::Number(_) => true,
+        Base::Number(kind) => is_kind(kind),
         Base::Class(n) => (n as usize) < classes,
-        Base::Input(_) => true,
-        Base::Output(_) => true,
-        Base::Signal(_) => true,
+        Base::Input(kind) => is_kind(kind),
+        Base::Output(kind) => is_kind(kind),
+        Base::Signal(kind) => is_kind(kind),
         Base::ModuleName => true,
     }
 }
@@ -54,39 +57,40 @@ fn is_below(count: usize, n: Option<u32>) -> bool
     }
 }
 
+fn is_kind_if(kind: Option<Kind>) -> bool
+    ensures { result ≡ spec.is_kind_if kind }
+{
+    match kind {
+        Some(kind) => is_kind(kind),
+        None => true,
+    }
+}
+
 fn is_whole_class(classes: usize, functions: usize, c: &PlainClass) -> bool
     ensures { result ≡ spec.is_whole_class classes functions c.now }
 {
     is_below(functions, c.constructor) && are_whole_members(classes, c.members.as_slice())
 }
 
-fn are_whole_classes(classes: usize, functions: usize, list: &[PlainClass]) -> bool
-    ensures { result ≡ list_all (spec.is_whole_class classes functions) list.now }
+/// Whether the declarations of classes are whole, in a program of so many classes and functions.
+pub(crate) fn are_whole_classes(classes: usize, functions: usize, list: &[PlainClass]) -> bool
+    ensures classes { result ≡ list_all (spec.is_whole_class classes functions) list.now }
 {
     list.iter().all(|c| is_whole_class(classes, functions, c))
 }
 
-fn is_whole_function(classes: usize, f: &PlainFunction) -> bool
-    ensures { result ≡ spec.is_whole_function classes f.now }
+fn is_whole_head(classes: usize, f: &PlainFunction) -> bool
+    ensures { result ≡ spec.is_whole_head classes f.now }
 {
     is_below(classes, f.class)
         && (f.params as usize) <= f.locals.len()
+        && is_kind_if(f.result)
         && are_whole_members(classes, f.locals.as_slice())
 }
 
-fn are_whole_functions(classes: usize, list: &[PlainFunction]) -> bool
-    ensures { result ≡ list_all (spec.is_whole_function classes) list.now }
+/// Whether the declarations of functions are whole, in a program of so many classes.
+pub(crate) fn are_whole_heads(classes: usize, list: &[PlainFunction]) -> bool
+    ensures heads { result ≡ list_all (spec.is_whole_head classes) list.now }
 {
-    list.iter().all(|f| is_whole_function(classes, f))
-}
-
-/// Whether the numbers of a program's declarations name what is there, and its arrays have 1 to 65,536 elements.
-pub fn is_whole(p: &Plain) -> bool
-    ensures { result ≡ spec.whole_plain p.now }
-{
-    let classes = p.classes.len();
-    let functions = p.functions.len();
-    (p.top as usize) < classes
-        && are_whole_classes(classes, functions, p.classes.as_slice())
-        && are_whole_functions(classes, p.functions.as_slice())
+    list.iter().all(|f| is_whole_head(classes, f))
 }

@@ -1,0 +1,6 @@
+//! What a core's trees stand for, as the terms, the code and the program of the definitions; no code.
+#![tactic(auto)]
+
+mod laws;
+
+pub use laws::{a_program_is_its_core, a_statement_adds_its_size};

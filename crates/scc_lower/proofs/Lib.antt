@@ -1,0 +1,4 @@
+pub mod Apart
+pub mod Terms
+pub mod Worded
+pub mod Reading

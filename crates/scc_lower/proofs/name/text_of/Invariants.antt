@@ -1,0 +1,6 @@
+use Rattle.std.proofs.Common.{◌≡◌, ◌++◌, take}
+use Rattle.scc_lowered.specs.Parts.{behind}
+use Rattle.scc_lower.proofs.name.text_of.Given as goal
+
+abbrev pub invariant-loop-p : goal.invariant-loop-p
+invariant-loop-p l = l.text ≡ l.initial.text ++ behind l.fn.names (take l.p-index l.more)

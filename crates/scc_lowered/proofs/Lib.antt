@@ -1,0 +1,9 @@
+pub mod Bytes
+pub mod Pieces
+pub mod Simple
+pub mod Gives
+pub mod Converted
+pub mod Shapes
+pub mod Operates
+pub mod Operators
+pub mod Selected

@@ -1,0 +1,5 @@
+pub mod Parts
+pub mod Gives
+pub mod Conversion
+pub mod Operating
+pub mod Selected

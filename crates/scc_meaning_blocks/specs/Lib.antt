@@ -1,0 +1,12 @@
+pub mod Acting
+pub mod Effect
+pub mod Shown
+pub mod Lowered
+pub mod Turns
+pub mod Places
+pub mod Tied
+pub mod Passed
+pub mod Rounds
+pub mod Names
+pub mod Listed
+pub mod Worked

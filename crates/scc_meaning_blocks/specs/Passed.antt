@@ -1,0 +1,124 @@
+-- What passes over cores keep, what a core is that the rules accept, and how a thread is cut. This project's own.
+use Rattle.std.specs.Prelude.{◌≡◌, ℕ, Bool, true, false, not, List, [], ◌∷◌, ◌++◌, map, filter, flat_map, Option, Some, None, slice_get}
+use Rattle.scc_base.specs.declared.refusal.Place.{Place}
+use Rattle.scc_meaning.specs.Location.{Location}
+use Rattle.scc_running.specs.Body as machine
+use Rattle.scc_running.specs.Design as running
+use Rattle.scc_running.specs.Machine.{Frames, Stop, Go, Suspended, after}
+use Rattle.scc_running.specs.Process.{first_frames}
+use Rattle.scc_running.specs.Value.{Held}
+use Rattle.scc_running.specs.Start.{IsProper}
+use Rattle.scc_running.specs.Same.{SameDesign}
+use Rattle.scc_meaning_core.specs.Code.{Code, End, Put, Aim, If, Block, Loop, Exit, Wait, waits_in}
+use Rattle.scc_meaning_core.specs.Program.{Program, Process, Cell, is_pointer, is_combinational, is_root, is_variable}
+use Rattle.scc_meaning_core.specs.Static.{Cells}
+use Rattle.scc_meaning_core.specs.Live.{live}
+use Rattle.scc_meaning_core.specs.Uses.{Use, reads_of, among, has_sort, is_single, cells_of}
+use Rattle.scc_meaning_core.specs.Clashes.{live_acts, names_of}
+use Rattle.scc_meaning_core.specs.Paths.{Misses, Early, MayNotWait, ReachesEnd}
+use Rattle.scc_meaning_core.specs.Feeding.{feeds, Reaches}
+use Rattle.scc_meaning_core.specs.Rules.{clocks, reset_cells, watched, own_uses, first_rule}
+use Rattle.scc_meaning_core.specs.Kept.{OneOf, written_by, kept}
+use Rattle.scc_meaning_core.specs.Segments.{Segment, all_segments, counts}
+use Rattle.scc_meaning_core.specs.Sizes.{live_body}
+use Rattle.scc_meaning_core.specs.Source.{Home, source_of}
+
+-- the next statement assigns a pointer, and isn't its declaration; or it is a wait
+abbrev pub next_points : Frames → Bool
+next_points Stop = false
+next_points (Go mark m machine.End k) = next_points k
+next_points (Go mark m (machine.Point declares l t r) k) = not declares
+next_points f = false
+
+abbrev pub next_waits : Frames → Bool
+next_waits Stop = false
+next_waits (Go mark m machine.End k) = next_waits k
+next_waits (Go mark m (machine.Wait number count r) k) = true
+next_waits f = false
+
+abbrev pub fresh : (Location → ℕ) → (Location → Option Location) → Held
+fresh words targets = record { store = record { words = words; targets = targets }; requests = [] }
+
+-- what a process comes to, statement by statement; behind a wait it goes on with any proper words
+pub data Comes (d : running.Design) (i : ℕ) (p : running.Process) (signals : Location → ℕ) : Frames → Held → Type 0 where
+  begins : (words : Location → ℕ) → IsProper d words → Comes d i p signals (first_frames i p) (fresh words d.targets)
+  goes_on : {f g : Frames} {h k : Held} → Comes d i p signals f h → next_waits f ≡ false → after d.places d.functions signals 1 f h ≡ Suspended g k → Comes d i p signals g k
+  resumes : {f g : Frames} {h k : Held} → (words : Location → ℕ) → IsProper d words → Comes d i p signals f h → next_waits f ≡ true → after d.places d.functions signals 1 f h ≡ Suspended g k
+      → Comes d i p signals g (fresh words k.store.targets)
+
+-- Along whatever its processes come to, fixed locations keep their words, and no pointer is assigned behind its declaration.
+pub record Keeps (d : running.Design) : Type 0 where
+  pub fixed : (i : ℕ) (p : running.Process) (signals : Location → ℕ) (f : Frames) (h : Held) (l : Location) (w : ℕ)
+      → slice_get d.processes i ≡ Some p → IsProper d signals → Comes d i p signals f h → d.fixed l ≡ Some w → h.store.words l ≡ w
+  pub pointers : (i : ℕ) (p : running.Process) (signals : Location → ℕ) (f : Frames) (h : Held)
+      → slice_get d.processes i ≡ Some p → IsProper d signals → Comes d i p signals f h → next_points f ≡ false
+
+-- the cells that are no pointers, and the processes by their names
+abbrev pub plain_cells : Program → List Cell
+plain_cells p = filter (λ c. not (is_pointer c.sort)) p.cells
+
+pub record SameShape (c m : Program) : Type 0 where
+  pub top : c.top ≡ m.top
+  pub cells : plain_cells c ≡ plain_cells m
+  pub vectors : c.vectors ≡ m.vectors
+  pub names : map (λ q. q.name) c.processes ≡ map (λ q. q.name) m.processes
+  pub sorts : map (λ q. q.is_thread) c.processes ≡ map (λ q. q.is_thread) m.processes
+
+abbrev pub IsInjective : Home → Type 0
+IsInjective home = (i j m n : ℕ) → home i m ≡ home j n → (i ≡ j) × (m ≡ n)
+
+-- The law of a pass: what it is given and what it gives mean the same, k statements at most for one.
+pub record Law (k : ℕ) (constant : Location → Option ℕ) (c m : Program) : Type 0 where
+  pub shape : SameShape c m
+  pub keeps : (home : Home) → IsInjective home → Keeps (source_of home m constant) → Keeps (source_of home c constant)
+  pub same : (home : Home) → IsInjective home → Keeps (source_of home m constant) → SameDesign k (source_of home c constant) (source_of home m constant)
+
+-- the bodies of loops, at every depth
+abbrev pub loops_in : Code → List Code
+loops_in End = []
+loops_in (Put p l k e r) = loops_in r
+loops_in (Aim p to t r) = loops_in r
+loops_in (If p t a b r) = loops_in a ++ (loops_in b ++ loops_in r)
+loops_in (Block p b r) = loops_in b ++ loops_in r
+loops_in (Loop p n b r) = b ∷ (loops_in b ++ loops_in r)
+loops_in (Exit p n r) = loops_in r
+loops_in (Wait p l n r) = loops_in r
+
+abbrev pub all_reads : Cells → Process → List ℕ
+all_reads cs q = flat_map (reads_of cs) (live_acts cs q)
+
+abbrev pub all_named : Cells → Process → List ℕ
+all_named cs q = flat_map (names_of cs) (live_acts cs q)
+
+-- A core of which no rule is broken, by what paths do.
+pub record Accepted (p : Program) : Type 0 where
+  pub clock_data : (i x : ℕ) (q : Process) → slice_get p.processes i ≡ Some q → among x (clocks p) ≡ true → among x (reset_cells q.reset ++ (q.senses ++ all_reads p.cells q)) ≡ false
+  pub writers : (i j x : ℕ) (q r : Process) → slice_get p.processes i ≡ Some q → slice_get p.processes j ≡ Some r → has_sort is_root p.cells x ≡ true
+      → among x (written_by p.cells q) ≡ true → among x (written_by p.cells r) ≡ true → i ≡ j
+  pub shared : (i j x : ℕ) (q r : Process) → slice_get p.processes i ≡ Some q → slice_get p.processes j ≡ Some r → has_sort is_variable p.cells x ≡ true
+      → among x (all_named p.cells q) ≡ true → among x (written_by p.cells r) ≡ true → i ≡ j
+  pub senses : (i x : ℕ) (q : Process) → slice_get p.processes i ≡ Some q → is_combinational q ≡ true → has_sort is_root p.cells x ≡ true
+      → among x (all_reads p.cells q) ≡ true → among x q.senses ≡ true
+  pub latches : (i x : ℕ) (q : Process) → slice_get p.processes i ≡ Some q → is_combinational q ≡ true → has_sort is_root p.cells x ≡ true
+      → among x (written_by p.cells q) ≡ true → Misses p.cells (live p.cells q.body) x → ⊥
+  pub cycles : (i : ℕ) → Reaches (feeds p) i i → ⊥
+  pub early : (i x : ℕ) (q : Process) (at : Place) → slice_get p.processes i ≡ Some q → q.is_thread ≡ false → watched p q x ≡ true → Early p.cells (live p.cells q.body) x at → ⊥
+  pub waits : (i : ℕ) (q : Process) → slice_get p.processes i ≡ Some q → q.is_thread ≡ false → waits_in q.body ≡ 0
+  pub loops : (i : ℕ) (q : Process) (b : Code) → slice_get p.processes i ≡ Some q → OneOf b (loops_in (live p.cells q.body)) → MayNotWait p.cells b → ⊥
+  pub ends : (i : ℕ) (q : Process) → slice_get p.processes i ≡ Some q → q.is_thread ≡ true → ReachesEnd p.cells (live p.cells q.body) → ⊥
+  pub single : (i n x : ℕ) (q : Process) (u : Use) → slice_get p.processes i ≡ Some q → slice_get (own_uses q.body) n ≡ Some u
+      → among x (cells_of p.cells u.left) ≡ true → has_sort is_root p.cells x ≡ true → is_single p.cells u.left ≡ true
+
+-- the rules refuse nothing exactly where nothing stands that they speak of; to be proved where it is used
+pub record TellsAccepted (p : Program) : Type 0 where
+  pub seen : first_rule p ≡ None → Accepted p
+  pub only : Accepted p → first_rule p ≡ None
+
+-- a thread that is cut: its segments, of which the first is the reset segment, the counts of its waits, and what it keeps
+pub record Thread : Type 0 where
+  pub segments : List Segment
+  pub waits : List ℕ
+  pub kept : List ℕ
+
+abbrev pub thread_of : Cells → ℕ → Process → Thread
+thread_of cs i q = record { segments = all_segments (live_body cs q.body); waits = counts (live_body cs q.body); kept = kept cs i q }

@@ -1,0 +1,43 @@
+-- What ties the registers to the source's state on one side, and to a valuation of the module on the other. This project's own.
+use Rattle.std.specs.Prelude.{◌≡◌, ℕ, true, [], Option, Some, None, slice_get}
+use Rattle.scc_meaning.specs.Location.{Location}
+use Rattle.scc_meaning.specs.Value.{Names}
+use Rattle.scc_running.specs.Process.{State}
+use Rattle.scc_running.specs.Start.{HoldsConstant}
+use Rattle.scc_meaning_core.specs.Program.{Program, Process, Cell}
+use Rattle.scc_meaning_core.specs.Source.{Home, at_top, cell_location}
+use Rattle.scc_meaning_core.specs.Constants.{constants_of}
+use Rattle.scc_meaning_blocks.specs.Turns.{Regs}
+use Rattle.scc_meaning_blocks.specs.Effect.{Place}
+use Rattle.scc_meaning_blocks.specs.Places.{frames_at}
+use Rattle.scc_meaning_blocks.specs.Names.{holds_word}
+
+-- the names of a process whose calls are copied: it has no object and stands in no call
+abbrev pub own_names : ℕ → Names
+own_names i = record { process = i; calls = []; object = Some (at_top []) }
+
+-- Roots and registers hold the same words; what no process writes holds its constant; and the frames of a thread are those of its place.
+pub record Tied (home : Home) (p : Program) (s : State) (g : Regs) : Type 0 where
+  pub words : (c : ℕ) (x : Cell) → slice_get p.cells c ≡ Some x → holds_word p c ≡ true → s.store.words (cell_location home p x) ≡ g.word c
+  pub constants : (l : Location) → HoldsConstant (constants_of home p l) (s.store.words l)
+  pub places : (i : ℕ) (q : Process) (place : Place) → slice_get p.processes i ≡ Some q → g.place i ≡ Some place → frames_at home p.cells i (own_names i) q.body place ≡ Some (s.frames i)
+
+-- Where a thread's state and counter stand among the variables; one without any is always in state 0, and waits for no further edge.
+pub record Registers : Type 0 where
+  pub variable : ℕ → Option ℕ
+  pub state : ℕ → Option ℕ
+  pub counter : ℕ → Option ℕ
+
+abbrev pub HoldsNumber : (ℕ → ℕ) → Option ℕ → ℕ → Type 0
+HoldsNumber y None n = n ≡ 0
+HoldsNumber y (Some v) n = y v ≡ n
+
+abbrev pub HoldsCell : (ℕ → ℕ) → Option ℕ → ℕ → Type 0
+HoldsCell y None n = Unit {0}
+HoldsCell y (Some v) n = y v ≡ n
+
+-- The valuation holds the words of the registers, and for each thread that has a place its state and counter.
+pub record Mirrors (r : Registers) (y : ℕ → ℕ) (g : Regs) : Type 0 where
+  pub words : (c : ℕ) → HoldsCell y (r.variable c) (g.word c)
+  pub states : (i : ℕ) (place : Place) → g.place i ≡ Some place → HoldsNumber y (r.state i) place.number
+  pub counters : (i : ℕ) (place : Place) → g.place i ≡ Some place → HoldsNumber y (r.counter i) place.left

@@ -1,0 +1,62 @@
+-- Values worked by hand: the counting thread on registers, a reader before its writer, an array of which one element is read too early.
+use Rattle.std.specs.Prelude.{ℕ, nat_eq, Bool, false, List, [], ◌∷◌, Option, Some, None, if◌then◌else◌}
+use Rattle.scc_kinds.specs.declared.kind.Kind.TheVariants as kind
+use Rattle.scc_meaning.specs.Location as location
+use Rattle.scc_running.specs.Machine.{Frames, Outcome, Suspended, run}
+use Rattle.scc_running.specs.Process.{first_frames}
+use Rattle.scc_running.specs.Design as running
+use Rattle.scc_meaning_core.specs.Term as term
+use Rattle.scc_meaning_core.specs.Term.{Term, Load, Read}
+use Rattle.scc_meaning_core.specs.Code.{Code, End, If, Block}
+use Rattle.scc_meaning_core.specs.Program.{Program, Cell, Output, Input, Signal, Variable}
+use Rattle.scc_meaning_core.specs.Worked.{here, cell, byte, named}
+use Rattle.scc_meaning_core.specs.WorkedRules.{a_process, with_cells, put_at, at}
+use Rattle.scc_meaning_core.specs.WorkedRun.{counting, design}
+use Rattle.scc_meaning_blocks.specs.Turns.{Regs, begun, edged}
+use Rattle.scc_meaning_blocks.specs.Passed.{fresh}
+
+-- the counting thread from registers that hold anything
+abbrev pub anything : Regs
+anything = record { word = λ c. 7; place = λ i. None }
+
+abbrev pub reset : ℕ → ℕ → Option ℕ
+reset level c = if nat_eq c 1 then Some level else None
+
+abbrev pub first_edge : Regs
+first_edge = edged counting (0 ∷ []) (begun counting (reset 1) anything)
+
+abbrev pub second_edge : Regs
+second_edge = edged counting (0 ∷ []) (begun counting (reset 0) first_edge)
+
+-- the frames with which its first resume is suspended
+abbrev pub frames_of : Outcome → Option Frames
+frames_of (Suspended f h) = Some f
+frames_of o = None
+
+abbrev pub first_frames_in : List running.Process → Option Frames
+first_frames_in [] = None
+first_frames_in (p ∷ ps) = frames_of (run design.places design.functions (λ l. 1) 72 (first_frames 0 p) (fresh (λ l. 7) design.targets))
+
+-- `void f() { q.write(s.read()); } void g() { s.write(a.read()); }`, a in cell 0, q in 1, s in 2
+abbrev pub read_of : ℕ → Term
+read_of c = Read here (kind.Uint 8) (term.Cell here c)
+
+abbrev pub reader_first : Program
+reader_first = with_cells (cell 0 (kind.Uint 8) Input ∷ cell 1 (kind.Uint 8) Output ∷ cell 2 (kind.Uint 8) Signal ∷ [])
+    (a_process false None (2 ∷ []) (Block here (put_at 3 1 (read_of 2) End) End) ∷ a_process false None (0 ∷ []) (Block here (put_at 4 2 (read_of 0) End) End) ∷ [])
+
+-- `m[0] = 0; if (a) m[1] = 0; q = m[a];` with a `bool a` in cell 0, m in cells 1 and 2, and q in cell 3, the read at 9
+abbrev pub element : ℕ → Cell
+element i = record { name = record { path = location.Member 5 ∷ location.Element i ∷ []; own = None; indices = [] }; kind = kind.Uint 8; sort = Variable 0 false; place = here }
+
+abbrev pub some_cells : List Cell
+some_cells = cell 0 kind.Bool Input ∷ element 0 ∷ element 1 ∷ cell 3 (kind.Uint 8) Output ∷ []
+
+abbrev pub flag : Term
+flag = Read here kind.Bool (term.Cell here 0)
+
+abbrev pub chosen : Term
+chosen = Load (at 9) (kind.Uint 8) (term.Index (term.Prefix here (named 5)) 2 flag)
+
+abbrev pub early_code : Code
+early_code = put_at 1 1 (byte 0) (If here flag (put_at 2 2 (byte 0) End) End (put_at 3 3 chosen End))

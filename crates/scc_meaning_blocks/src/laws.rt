@@ -1,0 +1,79 @@
+//! Laws that cite the definitions.
+ghost use Rattle.std.specs.Prelude.{◌≡◌, ℕ, List, [], ◌∷◌, ◌++◌, codes, decimal, Option, Some, None, true, false, map, slice_get};
+ghost use Rattle.scc_meaning.specs.Location.{Location};
+ghost use Rattle.scc_running.specs.Process.{State};
+ghost use Rattle.scc_running.specs.Design.{Design};
+ghost use Rattle.scc_meaning_blocks.specs.Rounds.{EndsSoon};
+ghost use Rattle.scc_svtree.specs.Code as emitted_code;
+ghost use Rattle.scc_svtree.specs.Term as emitted;
+ghost use Rattle.scc_meaning_core.specs.Term.{Term};
+ghost use Rattle.scc_meaning_core.specs.Program.{Program, Process};
+ghost use Rattle.scc_meaning_core.specs.Code.{Code, End};
+ghost use Rattle.scc_meaning_core.specs.Static.{Cells};
+ghost use Rattle.scc_meaning_core.specs.Feeding.{IsOrder};
+ghost use Rattle.scc_meaning_core.specs.Flow.{flow};
+ghost use Rattle.scc_meaning_core.specs.Worked.{count_body, count_cells};
+ghost use Rattle.scc_meaning_core.specs.WorkedRules.{at};
+ghost use Rattle.scc_meaning_core.specs.WorkedRun.{counting, counting_process, design, home};
+ghost use Rattle.scc_meaning_blocks.specs.Acting.{Acting};
+ghost use Rattle.scc_meaning_blocks.specs.Effect.{Place, effect, Fell};
+ghost use Rattle.scc_meaning_blocks.specs.Shown.{View, Shows};
+ghost use Rattle.scc_meaning_blocks.specs.Lowered.{IsLoweredTerm, IsLoweredCode};
+ghost use Rattle.scc_meaning_blocks.specs.Turns.{Regs};
+ghost use Rattle.scc_meaning_blocks.specs.Places.{frames_at};
+ghost use Rattle.scc_meaning_blocks.specs.Tied.{Tied, Mirrors, Registers, own_names};
+ghost use Rattle.scc_meaning_blocks.specs.Passed.{Law, SameShape, TellsAccepted, thread_of};
+ghost use Rattle.scc_meaning_blocks.specs.Names.{registers, is_own, location_text, is_kept_at};
+ghost use Rattle.scc_meaning_blocks.specs.Listed.{process_line};
+ghost use Rattle.scc_meaning_blocks.specs.Worked.{first_edge, second_edge, first_frames_in, reader_first, some_cells, early_code};
+ghost use Rattle.scc_meaning_core.specs.Source.{Home};
+
+/// The counting thread on registers: 0 at its reset, 1 behind the next edge; it stands behind wait 0, then behind wait 1.
+pub fn registers_count()
+    ensures zero { first_edge.word 2 ≡ 0 }
+    ensures place { first_edge.place 0 ≡ Some (record { number = 0; left = 0 }) }
+    ensures one { second_edge.word 2 ≡ 1 }
+    ensures next { second_edge.place 0 ≡ Some (record { number = 1; left = 0 }) }
+    ensures kept { registers counting ≡ 2 ∷ 3 ∷ [] }
+{}
+
+/// The frames of its first suspension are those of its place; the registers are tied to a state, and mirrored by a valuation.
+pub fn waits_have_frames()
+    ensures frames { frames_at home count_cells 0 (own_names 0) count_body (record { number = 0; left = 0 }) ≡ first_frames_in design.processes }
+    ensures tied { (h : Home) (p : Program) (s : State) (g : Regs) (i : ℕ) (q : Process) (place : Place) → Tied h p s g → slice_get p.processes i ≡ Some q → g.place i ≡ Some place → frames_at h p.cells i (own_names i) q.body place ≡ Some (s.frames i) }
+    ensures mirrored { (r : Registers) (y : ℕ → ℕ) (g : Regs) → Mirrors r y g → Mirrors r y g }
+{}
+
+/// No statements leave what they find, and are no statements of emitted text.
+pub fn valuations_show_stores()
+    ensures nothing { (cs : Cells) (a : Acting) → effect cs End a ≡ Fell a }
+    ensures term { (cs : Cells) (views : List View) (width : ℕ → ℕ) (e : Term) (front : emitted_code.Code) (t : emitted.Term) → IsLoweredTerm cs views width e front t → IsLoweredTerm cs views width e front t }
+    ensures code { (cs : Cells) (views : List View) (width : ℕ → ℕ) (c : Code) (code : emitted_code.Code) → IsLoweredCode cs views width c code → IsLoweredCode cs views width c code }
+    ensures leaving { (cs : Cells) (views : List View) (a : Acting) (x : ℕ → ℕ) → Shows cs views a x → Shows cs views a x }
+{}
+
+/// A pass keeps what its law says; the rules tell what paths do.
+pub fn passes_keep_shapes()
+    ensures shape { (k : ℕ) (constant : Location → Option ℕ) (c m : Program) → Law k constant c m → SameShape c m }
+    ensures rounds { (d : Design) → EndsSoon d → EndsSoon d }
+    ensures rules { (p : Program) → TellsAccepted p → TellsAccepted p }
+    ensures waits { (thread_of count_cells 0 (record { is_thread = true; name = record { path = []; own = None; indices = [] }; place = at 0; senses = []; edge = None; reset = None; body = count_body })).waits ≡ 1 ∷ 1 ∷ [] }
+{}
+
+/// The writer of a signal comes first.
+pub fn a_reader_stands_behind_its_writer()
+    ensures { IsOrder reader_first (1 ∷ 0 ∷ []) }
+{}
+
+/// Of an array of which one element may not have been written, that element is read too early.
+pub fn an_element_is_read_early()
+    ensures { map (λ e. e.1) (flow some_cells early_code (λ x. true)).early ≡ (0 ∷ []) ∷ (0 ∷ []) ∷ (2 ∷ []) ∷ [] }
+{}
+
+/// The line of the counting thread, and which names are a thread's own.
+pub fn the_list_of_the_counting_thread()
+    ensures line { process_line (λ n. codes "run") count_cells counting_process ≡ codes "thread run states " ++ (decimal 2 ++ (codes " steps " ++ (decimal 72 ++ (codes " statements " ++ (decimal 9 ++ codes "\n"))))) }
+    ensures own { (text : ℕ → List ℕ) → is_own text (record { top = 0; cells = []; vectors = []; processes = [] }) [] ≡ false }
+    ensures kept { (l : Location) → is_kept_at home (record { top = 0; cells = []; vectors = []; processes = [] }) l ≡ false }
+    ensures name { (text : ℕ → List ℕ) (l : Location) → location_text home (record { top = 0; cells = []; vectors = []; processes = [] }) text l ≡ [] }
+{}

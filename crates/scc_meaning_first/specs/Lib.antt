@@ -1,0 +1,4 @@
+pub mod Recursion
+pub mod Static
+pub mod Stages
+pub mod Worked

@@ -1,0 +1,4 @@
+pub mod Flattened
+pub mod Text
+pub mod Homes
+pub mod Worked

@@ -1,0 +1,6 @@
+//! What modules with instances are together, and their text: definitions that other crates cite, each cited here by a law.
+#![tactic(auto)]
+
+mod laws;
+
+pub use laws::{modules_show_what_their_flattening_shows, two_inverters_are_flattened};

@@ -1,0 +1,128 @@
+-- Steps of a module with memories, and what it shows of a design (IEEE 1800-2017, 9.2.2.4). A step is that of any module.
+use Rattle.std.specs.Prelude.{◌≡◌, ℕ, ◌+◌, nat_eq, Bool, true, false, not, cond, ◌&&◌, ◌||◌, List, [], ◌∷◌, map, flat_map, length, Option, Some, None, option_and_then, slice_get, position, bytes_eq, if◌then◌else◌}
+use Rattle.std.specs.List.{list_any, range_with_len}
+use Rattle.scc_meaning.specs.Location.{Location}
+use Rattle.scc_running.specs.Design.{Design}
+use Rattle.scc_running.specs.Run as run
+use Rattle.scc_running.specs.Statement.{Shot, Seen, ShowsTheSame}
+use Rattle.scc_svtree.specs.Steps.{StepInput, input_at}
+use Rattle.scc_svtree.specs.declared.module.SvModule.{SvModule}
+use Rattle.scc_svtree.specs.declared.module.SvVar.{SvVar}
+use Rattle.scc_meaning_text.specs.Emitted.{outputs_from, has_edge}
+use Rattle.scc_meaning_text.specs.Emitted as plain
+use Rattle.scc_meaning_memory.specs.Array.{Array, element_name, var_named, width_of}
+use Rattle.scc_meaning_memory.specs.Taken.{IsTaken, name_at}
+use Rattle.scc_meaning_memory.specs.Memory.{MemModule, MemBlock, Comb, Edge, Memory, Valuation, IsSettled}
+use Rattle.scc_meaning_memory.specs.Edges.{after_resets, after_edges}
+
+abbrev pub is_clock : List MemBlock → ℕ → Bool
+is_clock [] v = false
+is_clock (Comb c ∷ bs) v = is_clock bs v
+is_clock (Edge rising clock reset sets memories ∷ bs) v = nat_eq clock v || is_clock bs v
+
+abbrev pub with_inputs : MemModule → (ℕ → ℕ) → (ℕ → ℕ) → ℕ → ℕ
+with_inputs m inputs x v = cond (input_at m.vars v && not (is_clock m.blocks v)) (inputs v) (x v)
+
+-- inputs and resets, then settled
+abbrev pub begun : MemModule → (ℕ → ℕ) → Valuation → Valuation
+begun m inputs x = record { words = after_resets m.blocks (with_inputs m inputs x.words); elements = x.elements }
+
+-- a step from x to z, with what is observed: once, and behind an edge again
+pub data Step (m : MemModule) (s : StepInput) (x : Valuation) : Valuation → List Valuation → Type 0 where
+  held : (y : Valuation) → s.has_edge ≡ false → IsSettled m (begun m s.inputs x) y → Step m s x y (y ∷ [])
+  edged : (y z : Valuation) → s.has_edge ≡ true → IsSettled m (begun m s.inputs x) y → IsSettled m (after_edges m s.clocks y) z → Step m s x z (y ∷ z ∷ [])
+
+abbrev pub Steps : MemModule → Valuation → List StepInput → List (List Valuation) → Type 0
+Steps m x [] [] = Unit {0}
+Steps m x (s ∷ ss) (o ∷ os) = (z : Valuation) × Step m s x z o × Steps m z ss os
+Steps m x _ _ = ⊥
+
+-- words for the inputs but the clocks, in order
+abbrev pub first : List ℕ → ℕ
+first [] = 0
+first (x ∷ xs) = x
+
+abbrev pub behind : List ℕ → List ℕ
+behind [] = []
+behind (x ∷ xs) = xs
+
+abbrev pub given_from : MemModule → ℕ → List SvVar → List ℕ → ℕ → ℕ
+given_from m i [] xs v = 0
+given_from m i (w ∷ ws) xs v = if input_at m.vars i && not (is_clock m.blocks i) then cond (nat_eq i v) (first xs) (given_from m (i + 1) ws (behind xs) v) else given_from m (i + 1) ws xs v
+
+abbrev pub clocks_at : (Location → List ℕ) → MemModule → Option (List Location) → ℕ → Bool
+clocks_at text m None v = false
+clocks_at text m (Some ls) v = list_any (λ l. bytes_eq (text l) (name_at m.vars v)) ls
+
+abbrev pub step_of : (Location → List ℕ) → MemModule → run.Step → StepInput
+step_of text m s = record { inputs = given_from m 0 m.vars s.inputs; clocks = clocks_at text m s.edge; has_edge = has_edge s.edge }
+
+abbrev pub set_by : MemBlock → List ℕ
+set_by (Comb c) = []
+set_by (Edge rising clock reset sets memories) = map (λ s. s.target) sets
+
+-- a register of that name, and the element of a memory
+abbrev pub register_named : MemModule → List ℕ → Option ℕ
+register_named m name = option_and_then (λ v. cond (list_any (nat_eq v) (flat_map set_by m.blocks)) (Some v) None) (var_named m.vars name)
+
+abbrev pub element_in : (ℕ → ℕ → ℕ) → List ℕ → ℕ → List Memory → Option ℕ
+element_in elements name k [] = None
+element_in elements name k (a ∷ more) = element_or (position (λ i. bytes_eq (element_name a.name i) name) (range_with_len 0 a.size)) (element_in elements name (k + 1) more)
+  where
+    element_or : Option ℕ → Option ℕ → Option ℕ
+    element_or (Some i) more = Some (elements k i)
+    element_or None more = more
+
+abbrev pub register : (Location → List ℕ) → MemModule → Valuation → Location → Option ℕ
+register text m x l = word_or (register_named m (text l)) (element_in x.elements (text l) 0 m.memories)
+  where
+    word_or : Option ℕ → Option ℕ → Option ℕ
+    word_or (Some v) more = Some (x.words v)
+    word_or None more = more
+
+abbrev pub shot : (Location → List ℕ) → MemModule → Valuation → Shot
+shot text m x = record { outputs = outputs_from 0 m.vars x.words; registers = register text m x }
+
+abbrev pub seen_of : (Location → List ℕ) → MemModule → List Valuation → Option Seen
+seen_of text m (x ∷ []) = Some (record { before = shot text m x; after = None })
+seen_of text m (x ∷ y ∷ []) = Some (record { before = shot text m x; after = Some (shot text m y) })
+seen_of text m xs = None
+
+abbrev pub AreSeen : (Location → List ℕ) → MemModule → List (List Valuation) → List Seen → Type 0
+AreSeen text m [] [] = Unit {0}
+AreSeen text m (xs ∷ xss) (s ∷ ss) = (seen_of text m xs ≡ Some s) × AreSeen text m xss ss
+AreSeen text m _ _ = ⊥
+
+abbrev pub Runs : (Location → List ℕ) → MemModule → Valuation → List run.Step → List Seen → Type 0
+Runs text m x steps seen = (xss : List (List Valuation)) × Steps m x (map (step_of text m) steps) xss × AreSeen text m xss seen
+
+-- the module with memories shows what the design shows
+abbrev pub MemoryShows : (Location → List ℕ) → Design → MemModule → Type 0
+MemoryShows text d m = ShowsTheSame Valuation (register text m) (Runs text m) d
+
+-- A memory stands for a taken array.
+pub record StandsFor (m : SvModule) (b : Memory) (a : Array) : Type 0 where
+  pub taken : IsTaken m a
+  pub name : b.name ≡ a.name
+  pub size : b.size ≡ length a.elements
+  pub width : (v : ℕ) → list_any (nat_eq v) a.elements ≡ true → width_of m.vars v ≡ b.width
+
+abbrev pub SameShot : Shot → Shot → Type 0
+SameShot a b = (a.outputs ≡ b.outputs) × ((l : Location) (w : ℕ) → a.registers l ≡ Some w → b.registers l ≡ Some w)
+
+abbrev pub SameAfter : Option Shot → Option Shot → Type 0
+SameAfter None None = Unit {0}
+SameAfter (Some a) (Some b) = SameShot a b
+SameAfter _ _ = ⊥
+
+abbrev pub AllSame : List Seen → List Seen → Type 0
+AllSame [] [] = Unit {0}
+AllSame (a ∷ more) (b ∷ rest) = SameShot a.before b.before × SameAfter a.after b.after × AllSame more rest
+AllSame _ _ = ⊥
+
+-- A module with its taken arrays as memories, and no other: from valuations that agree in registers and elements both show the same.
+pub record HasMemories (text : Location → List ℕ) (m : SvModule) (n : MemModule) : Type 0 where
+  pub only : (k : ℕ) (b : Memory) → slice_get n.memories k ≡ Some b → (a : Array) × StandsFor m b a
+  pub all : (a : Array) → IsTaken m a → (k : ℕ) × (b : Memory) × (slice_get n.memories k ≡ Some b) × StandsFor m b a
+  pub same : (x : ℕ → ℕ) (y : Valuation) → ((l : Location) (w : ℕ) → plain.register text m x l ≡ Some w → register text n y l ≡ Some w)
+      → (steps : List run.Step) (a b : List Seen) → plain.Runs text m x steps a → Runs text n y steps b → AllSame a b

@@ -1,0 +1,37 @@
+//! Laws that cite the definitions.
+ghost use Rattle.std.specs.Prelude.{◌≡◌, ℕ, List, ◌++◌, codes, decimal, true, false, Some, slice_get};
+ghost use Rattle.scc_meaning.specs.Location.{Location};
+ghost use Rattle.scc_running.specs.Design.{Design};
+ghost use Rattle.scc_svtree.specs.declared.module.SvModule.{SvModule};
+ghost use Rattle.scc_svtree.specs.declared.expr.SvBinary.TheVariants.{Lt};
+ghost use Rattle.scc_svtree.specs.Term.{Cond, Binary, Literal};
+ghost use Rattle.scc_meaning_memory.specs.Array.{Array, IsNamed, element_name, with_part, width_of, tree, whole};
+ghost use Rattle.scc_meaning_memory.specs.Taken.{IsTaken};
+ghost use Rattle.scc_meaning_memory.specs.Memory.{MemModule, Memory, run};
+ghost use Rattle.scc_meaning_memory.specs.Edges.{after_edges};
+ghost use Rattle.scc_meaning_memory.specs.Steps.{MemoryShows, HasMemories, StandsFor};
+ghost use Rattle.scc_meaning_memory.specs.Worked.{vars, array, read_code, with_memory, here};
+
+/// The names of elements and next values, and the choice of an element by a variable: the first half, then the second.
+pub fn arrays_are_found_by_name()
+    ensures element { (k : ℕ) → element_name array.name k ≡ codes "m$" ++ decimal k }
+    ensures next { with_part (codes "m$0") (codes "n") ≡ codes "m$0$$n" }
+    ensures width { width_of vars 6 ≡ 2 }
+    ensures choice { tree array 6 2 3 ≡ Cond (Binary Lt (whole 6) (Literal 2 1)) (whole 1) (Cond (Binary Lt (whole 6) (Literal 2 2)) (whole 3) (whole 5)) }
+    ensures taken { (m : SvModule) (a : Array) → IsTaken m a → IsNamed m.vars a }
+{}
+
+/// An element is read at its index; at an edge the one at the address takes the value, and the others stay.
+pub fn a_memory_is_read_and_written()
+    ensures read { run with_memory here.elements read_code here.words 5 ≡ 5 }
+    ensures past { run with_memory here.elements read_code (λ v. 3) 5 ≡ 0 }
+    ensures written { (after_edges with_memory (λ v. true) here).elements 0 1 ≡ 9 }
+    ensures other { (after_edges with_memory (λ v. true) here).elements 0 2 ≡ 5 }
+    ensures unclocked { (after_edges with_memory (λ v. false) here).elements 0 1 ≡ 5 }
+{}
+
+/// What a module with memories shows, and whose memories it has.
+pub fn modules_with_memories_show_designs()
+    ensures shows { (text : Location → List ℕ) (d : Design) (m : MemModule) → MemoryShows text d m → MemoryShows text d m }
+    ensures memories { (text : Location → List ℕ) (m : SvModule) (n : MemModule) (k : ℕ) (b : Memory) → HasMemories text m n → slice_get n.memories k ≡ Some b → (a : Array) × StandsFor m b a }
+{}

@@ -1,0 +1,8 @@
+//! Arrays that can be memories, and what modules with memories do: definitions that other crates cite, each cited here by a law.
+#![tactic(auto)]
+
+mod laws;
+
+pub use laws::{
+    a_memory_is_read_and_written, arrays_are_found_by_name, modules_with_memories_show_designs,
+};

@@ -1,0 +1,4 @@
+pub mod Chains
+pub mod Fronts
+pub mod Tests
+pub mod Turns

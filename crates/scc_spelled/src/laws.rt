@@ -1,0 +1,33 @@
+//! Laws over the tables of words and marks, each the clause of a function that does nothing.
+ghost use Rattle.scc_spelled.specs.Laws.{WordsAreSpelled, MarksAreSpelled, WordsHaveOneSpelling, MarksHaveOneSpelling, ThinWordsAreSpelled, ThinMarksAreSpelled, ElseIsSpelled, ScopesAreSpelled, MarksOfDirectivesAreSpelled};
+
+/// The grammar takes each text that is a word for the terminal of that spelling.
+#[tactic(auto, using(crate::proofs::Spelled::words_are_spelled))]
+pub fn words_are_spelled()
+    ensures spelled { WordsAreSpelled }
+{}
+
+/// The grammar takes each text that is a mark for the terminal of that spelling.
+#[tactic(auto, using(crate::proofs::Spelled::marks_are_spelled))]
+pub fn marks_are_spelled()
+    ensures spelled { MarksAreSpelled }
+{}
+
+/// A number of a word or mark has one spelling.
+pub fn numbers_have_one_spelling()
+    ensures words { WordsHaveOneSpelling }
+    ensures marks { MarksHaveOneSpelling }
+{}
+
+/// Thin texts are read by the numbers of these words and marks.
+pub fn thin_texts_are_spelled()
+    ensures words { ThinWordsAreSpelled }
+    ensures marks { ThinMarksAreSpelled }
+{}
+
+/// What directives look for is spelled so.
+pub fn directives_are_spelled()
+    ensures words { ElseIsSpelled }
+    ensures scopes { ScopesAreSpelled }
+    ensures marks { MarksOfDirectivesAreSpelled }
+{}
