@@ -1,7 +1,7 @@
 #!/usr/bin/env python3
 """Prints how long `scc compile` takes on sources at half of a limit and at the limit, and its greatest memory.
 
-  growth.py STAGE [SHAPE ..]    STAGE: static, construction, middle, compile
+  growth.py STAGE [SHAPE ..]    STAGE: static, construction, middle, compile, forms (what the flags of `compile` write)
 
 The program is that of SCC, else crates/scc/out/scc. Fails where an answer is another than the shape's, or where
 twice the source takes more than 2.2 times as long (times under 20 milliseconds aren't compared).
@@ -125,6 +125,20 @@ def generated(n):
     return subprocess.run([PROGRAM, "gen", str(n), "--source"], capture_output=True, check=True).stdout.decode()
 
 
+def memory(n):
+    return clocked(f"  sc_uint<8> m[{n}];\n  sc_uint<16> i;", "q.write(m[i]); m[i] = a.read(); i = i + 1;")
+
+
+def clocks(n):
+    return (f"{HEAD}SC_MODULE(T) {{\n" + repeated(n, "  sc_in<bool> c#;\n  sc_out<bool> q#;\n  bool m#;\n  void f#() { m# = !m#; q#.write(m#); }\n") +
+            "  SC_CTOR(T) {\n" + repeated(n, "    SC_METHOD(f#); sensitive << c#.pos();\n") + "  }\n};\n")
+
+
+# the flag of `compile` for each shape of the forms
+FLAGS = {"hierarchy": "--hier", "memory": "--memory", "clocks": "--clocks"}
+# printed only: each clock's part of a design has all its cells, so the time grows with clocks times cells
+PRINTED = {"clocks"}
+
 # for each stage: name, the source of a size, the size, the module's name, the code of the refusal or None
 SHAPES = {
     "static": [("members", members, 20000, "T", None), ("instances", instances, 4000, "T", None),
@@ -138,6 +152,7 @@ SHAPES = {
                ("elements", elements, 60000, "T", None), ("listed", listed, 24000, "T", None)],
     "compile": [("generated stages", generated, 1000, "Gen", None), ("states", states, 16000, "T", None),
                 ("ports", ports, 30000, "T", None)],
+    "forms": [("hierarchy", modules, 10000, "T", None), ("memory", memory, 65000, "T", None), ("clocks", clocks, 128, "T", None)],
 }
 
 
@@ -167,16 +182,16 @@ def main():
         for name, source, size, top, code in SHAPES[stage]:
             if wanted and name not in wanted:
                 continue
-            half = None
+            half, flag = None, [FLAGS[name]] if stage == "forms" else []
             for n in (size // 2, size):
                 pathlib.Path(folder, "a.cpp").write_text(source(n))
-                status, said, took, memory = measured(["compile", top, "a.cpp"], folder)
+                status, said, took, memory = measured(["compile", top, "a.cpp"] + flag, folder)
                 print(f"{name:<20} {n:>7} {took * 1000:>9.1f} ms {memory:>8} KB", flush=True)
                 right = status == 0 if code is None else status == 1 and f" {code} " in said
                 if not right:
                     print(f"{name}: status {status}: {said[:200].strip()}")
                     failed = True
-                if half is not None and took > 0.02 and took > 2.2 * half:
+                if half is not None and name not in PRINTED and took > 0.02 and took > 2.2 * half:
                     print(f"{name}: not linear")
                     failed = True
                 half = took

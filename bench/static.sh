@@ -2,7 +2,7 @@
 # Prints how long `scc compile` takes on sources of about half the most tokens and of nearly the most that are refused behind the static
 # stage, since the top's constructor has a parameter, so that everything up to the plain program is done and nothing behind it: members,
 # initialisers, labels of a `switch`, local variables, statements, loops, calls, functions, classes, instances and specialised bodies. Fails
-# where one is not refused so, or where twice the source takes more than 2.5 times as long.
+# where one is not refused so, or where twice the source takes more than 2.2 times the processor time.
 set -euo pipefail
 cd "$(dirname "$0")/.."
 source bench/timed.sh
@@ -29,7 +29,7 @@ while IFS='@' read -r name most before first between second behind; do
     [[ $said == *": E404 "* ]] || { echo "$name: $said"; failed=1; }
     took=$(timed 5 T "$file")
     printf '%-24s %7d %8d us\n' "$name" "$n" "$took"
-    ((half == 0 || took * 10 <= half * 25)) || { echo "$name: not linear"; failed=1; }
+    ((half == 0 || took * 10 <= half * 22)) || { echo "$name: not linear"; failed=1; }
     half=$took
   done
 done <<'SHAPES'

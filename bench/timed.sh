@@ -5,13 +5,12 @@ program=${SCC:-crates/scc/out/scc}
 work=$(mktemp -d)
 trap 'rm -rf "$work"' EXIT
 
-# microseconds of the fastest of so many runs, which other work on the machine disturbs least: runs, top, file
+# microseconds of processor time of the fastest of so many runs, which other work on the machine disturbs least: runs, top, file
 timed() {
-  local best=1000000000 start took
+  local best=1000000000 user system took TIMEFORMAT='%3U %3S'
   for ((run = 0; run < $1; run++)); do
-    start=${EPOCHREALTIME/[.,]/}
-    "$program" compile "$2" "$3" >/dev/null 2>&1 || true
-    took=$((${EPOCHREALTIME/[.,]/} - start))
+    read -r user system < <({ time "$program" compile "$2" "$3" >/dev/null 2>&1 || true; } 2>&1)
+    took=$(((10#${user/./} + 10#${system/./}) * 1000))
     ((took < best)) && best=$took
   done
   printf '%d' "$best"

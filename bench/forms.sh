@@ -1,0 +1,8 @@
+#!/usr/bin/env bash
+# Prints how the processor time of `scc compile` grows with `--hier` (10,000 instances), `--memory` (65,000 elements) and `--clocks` (128
+# clocks): at half of a size and at the size. Fails where twice the source takes more than 2.2 times as long; the clocks are only printed. See
+# growth.py.
+set -euo pipefail
+cd "$(dirname "$0")/.."
+[[ -n ${SCC:-} ]] || ./scc compile And examples/and.cpp >/dev/null
+exec python3 bench/growth.py forms
