@@ -6,3 +6,4 @@ pub mod Lowered
 pub mod Standing
 pub mod Applied
 pub mod Valued
+pub mod Numbers

@@ -1,7 +1,8 @@
 //! A number with its kind.
-ghost use Rattle.std.specs.Prelude.{◌≡◌, ◌<◌, ◌≤◌, ◌^◌, ◌+◌, ◌-◌, ◌↔◌, IsTrue, Some, None, true, false, Err, IfOk, IfSome, IsSome, nat_eq, not, unwrap_or};
-ghost use Rattle.scc_kinds.specs.Kinds.{IsValid, Fits, width_of, is_signed, number_of, stored};
-ghost use Rattle.scc_kinds.specs.Constants.{CountsBy};
+ghost use Rattle.std.specs.Prelude.{◌≡◌, ◌<◌, ◌≤◌, ◌^◌, ◌+◌, ◌-◌, ◌/◌, ◌%◌, ◌↔◌, pos, IsTrue, Some, None, true, false, Err, IfOk, IfSome, IsSome, nat_eq, not, unwrap_or};
+ghost use Rattle.scc_kinds.specs.Kinds.{IsValid, Fits, width_of, is_signed, stored};
+ghost use Rattle.scc_kinds.specs.Constants.{CountsBy, is_negative};
+ghost use Rattle.scc_kinds.specs.Numbers.{Holds, low, reading};
 ghost use Rattle.scc_kinds.specs.Bits.{part, replaced, joined, range_of, concat_of, is_convertible};
 ghost use Rattle.scc_kinds.specs.Operators.{Divisor};
 ghost use Rattle.scc_bits.specs.Values.{kind_of, is_too_wide, applied};
@@ -12,8 +13,8 @@ use crate::application::apply;
 use crate::bits::{concat, replace, select};
 use crate::result::{result_kind, too_wide};
 use scc_kinds::{
-    Kind, Op, Word, concat_kind, conv, converts, counted, fits, is_large, is_small, range_kind,
-    signed, takes_right, valid, width,
+    Kind, Op, Word, concat_kind, conv, converts, counted, cut, fits, is_large, is_small,
+    range_kind, signed, takes_right, valid, width,
 };
 use std::marker::Model;
 
@@ -187,16 +188,24 @@ impl Value {
     }
 
     /// Bit `i`, counted from 0 at the low end; 0 past the width.
-    pub fn bit(self, i: u128) -> bool {
+    pub fn bit(self, i: u128) -> bool
+        ensures { result ≡ nat_eq (self.word / 2 ^ i % 2) 1 }
+    {
         i < 128 && self.word.bits >> i & 1 == 1
     }
 
     /// The number with bits h down to l replaced by the low bits of y; None where h is below l or not below the width.
-    pub fn replaced(self, h: u32, l: u32, y: u128) -> Option<Value> {
+    pub fn replaced(self, h: u32, l: u32, y: u128) -> Option<Value>
+        ensures kind { IfSome result (λ v. v.kind ≡ self.kind) }
+        ensures word { IfSome result (λ v. v.word ≡ replaced h l self.word (y % 2 ^ (h - l + 1))) }
+        ensures is { IsSome result ↔ ((l ≤ h) × (h < width_of self.kind)) }
+    {
         if h < l || width(self.kind) <= h {
             return None;
         }
-        let low = low_bits(y, h - l + 1);
+        let low = Word {
+            bits: cut(h - l + 1, y),
+        };
         let word = replace(self.kind, self.word, h, l, low);
         Some(Value {
             kind: self.kind,
@@ -221,7 +230,10 @@ impl Value {
     }
 
     /// The number in two's complement of 128 bits.
-    pub fn bits(self) -> u128 {
+    pub fn bits(self) -> u128
+        ensures low { result ≡ low 128 (exactly self) }
+        ensures value { reading (is_signed self.kind) 128 result ≡ exactly self }
+    {
         let to = Kind::Wide {
             bits: 128,
             signed: signed(self.kind),
@@ -230,17 +242,24 @@ impl Value {
     }
 
     /// Whether the number is below 0.
-    pub fn is_negative(self) -> bool {
+    pub fn is_negative(self) -> bool
+        ensures { result ≡ is_negative (exactly self) }
+    {
         signed(self.kind) && self.bits() >> 127 == 1
     }
 
     /// Whether two numbers are equal, whatever their kinds.
-    pub fn equals(self, other: Value) -> bool {
+    pub fn equals(self, other: Value) -> bool
+        ensures { IsTrue result ↔ exactly self ≡ exactly other }
+    {
         self.is_negative() == other.is_negative() && self.bits() == other.bits()
     }
 
     /// The number, where it is from 0 to 2^32 - 1.
-    pub fn small(self) -> Option<u32> {
+    pub fn small(self) -> Option<u32>
+        ensures some { IfSome result (λ n. exactly self ≡ pos n) }
+        ensures is { IsSome result ↔ Holds false 32 (exactly self) }
+    {
         if self.is_negative() {
             return None;
         }
@@ -248,16 +267,11 @@ impl Value {
     }
 
     /// The same number in another kind; None where that kind isn't valid or doesn't hold it.
-    pub fn held(self, to: Kind) -> Option<Value> {
+    pub fn held(self, to: Kind) -> Option<Value>
+        ensures some { IfSome result (λ v. (v.kind ≡ to) × (exactly v ≡ exactly self)) }
+        ensures is { IsSome result ↔ (IsValid to × Holds (is_signed to) (width_of to) (exactly self)) }
+    {
         let other = self.stored(to)?;
         other.equals(self).then_some(other)
     }
-}
-
-fn low_bits(y: u128, n: u32) -> Word
-    requires { (1 ≤ n) × (n ≤ 128) }
-    ensures { result.bits < 2 ^ n }
-{
-    let bits = if n == 128 { y } else { y & ((1 << n) - 1) };
-    Word { bits }
 }
