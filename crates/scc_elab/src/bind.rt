@@ -58,14 +58,16 @@ pub fn bind(
         return Err(Stop::refused(Code::BindKind, place));
     }
     let bound = Some(Bound { to, at: place });
-    Ok(g.set_thing(
-        number,
-        ThingSort::Port {
-            kind,
-            output,
-            bound,
-        },
-    )?)
+    Ok(
+        g.things.set(
+            number,
+            ThingSort::Port {
+                kind,
+                output,
+                bound,
+            },
+        )?,
+    )
 }
 
 // Whether a port below the top may be bound to a thing: a signal of its kind, or such a port of the parent of its module, an

@@ -1,7 +1,8 @@
 //! The calls: construction from the top.
-ghost use Rattle.std.specs.Prelude.{◌≡◌, true, false, length, IfOk, IfErr};
+ghost use Rattle.std.specs.Prelude.{◌≡◌, ◌≤◌, true, false, length, IfOk, IfErr};
 ghost use Rattle.scc_design.specs.Whole.{is_whole_design};
 ghost use Rattle.scc_elab.specs.Refusals.{may_stop};
+ghost use Rattle.scc_elab.specs.Storage.{storage_of};
 
 use crate::after::{check_functions, check_ports};
 use crate::clocks::processes_of;
@@ -21,6 +22,7 @@ use std::alloc::Global;
 /// The design of a program, all of whose clocked processes name one edge of one clock. Refused as E401 to E407 and E409 to E412.
 pub fn elaborate(alloc: Global, p: &Plain) -> Result<Design, Stop>
     ensures whole { IfOk result (λ d. is_whole_design (length p.now.classes) (length p.now.functions) d ≡ true) }
+    ensures bits { IfOk result (λ d. storage_of d.objects ≤ 1048576) }
     ensures refused { IfErr result (λ e. may_stop false e ≡ true) }
 {
     allowed(
@@ -35,6 +37,7 @@ pub fn elaborate(alloc: Global, p: &Plain) -> Result<Design, Stop>
 /// as E401 to E407 and E409 to E413.
 pub fn elaborate_many(alloc: Global, p: &Plain) -> Result<Design, Stop>
     ensures whole { IfOk result (λ d. is_whole_design (length p.now.classes) (length p.now.functions) d ≡ true) }
+    ensures bits { IfOk result (λ d. storage_of d.objects ≤ 1048576) }
     ensures refused { IfErr result (λ e. may_stop true e ≡ true) }
 {
     allowed(
@@ -45,7 +48,9 @@ pub fn elaborate_many(alloc: Global, p: &Plain) -> Result<Design, Stop>
     )
 }
 
-fn constructed(p: &Plain, many: bool, alloc: Global) -> Result<Design, Stop> {
+fn constructed(p: &Plain, many: bool, alloc: Global) -> Result<Design, Stop>
+    ensures { IfOk result (λ d. storage_of d.objects ≤ 1048576) }
+{
     check_top(p)?;
     let mut g = Grown::new(alloc)?;
     let mut stack = Stack::new(alloc);

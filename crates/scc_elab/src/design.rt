@@ -1,4 +1,8 @@
 //! The design, from what construction made.
+ghost use Rattle.std.specs.Prelude.{◌≡◌, ◌≤◌, IfOk};
+ghost use Rattle.scc_elab.specs.Storage.{node_bits, storage_of};
+ghost use Rattle.scc_elab.specs.Things.{sort_bits};
+
 use crate::after::root_of;
 use crate::grown::Grown;
 use crate::spots::SpotId;
@@ -8,7 +12,9 @@ use scc_design::{Design, Object, ObjectNode, Process, Target, VectorSize};
 use std::alloc::Global;
 
 /// The design of what was made, with its processes.
-pub fn design_of(g: &Grown, processes: List<Process>) -> Result<Design, NoMemory> {
+pub fn design_of(g: &Grown, processes: List<Process>) -> Result<Design, NoMemory>
+    ensures { IfOk result (λ d. storage_of d.objects ≤ 1048576) }
+{
     Ok(Design {
         objects: objects_of(g)?,
         processes,
@@ -17,7 +23,9 @@ pub fn design_of(g: &Grown, processes: List<Process>) -> Result<Design, NoMemory
     })
 }
 
-fn objects_of(g: &Grown) -> Result<List<Object>, NoMemory> {
+fn objects_of(g: &Grown) -> Result<List<Object>, NoMemory>
+    ensures { IfOk result (λ os. storage_of os ≤ 1048576) }
+{
     let mut list = List::new(g.alloc);
     let mut number = 0;
     for thing in g.things.as_slice() {
@@ -35,7 +43,9 @@ fn next(number: u32) -> u32 {
     number.saturating_add(1)
 }
 
-fn node_of(thing: &Thing, number: u32, g: &Grown) -> Result<ObjectNode, NoMemory> {
+fn node_of(thing: &Thing, number: u32, g: &Grown) -> Result<ObjectNode, NoMemory>
+    ensures { IfOk result (λ n. node_bits n ≡ sort_bits thing.now.sort) }
+{
     Ok(match thing.sort {
         ThingSort::Module(class) => ObjectNode::Module(class),
         ThingSort::Port { kind, output, .. } => ObjectNode::Port {

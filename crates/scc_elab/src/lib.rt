@@ -15,6 +15,7 @@ mod locate;
 mod make;
 mod members;
 mod numbers;
+mod objects;
 mod processes;
 mod program;
 mod records;

@@ -68,7 +68,7 @@ pub fn put_number(g: &mut Grown, at: SpotId, value: Value) -> Result<(), NoMemor
         return g.spots.hold(at, Held::Number(value));
     }
     match g.spots.object(at)? {
-        Some(number) => g.set_thing(number, ThingSort::Variable(value)),
+        Some(number) => g.things.set(number, ThingSort::Variable(value)),
         None => Err(lost()),
     }
 }
@@ -101,7 +101,7 @@ pub fn put_pointer(
         return g.spots.hold(at, Held::Leads(to));
     }
     match g.spots.pointer(at)? {
-        Some(number) => g.set_thing(number, ThingSort::Pointer(to)),
+        Some(number) => g.things.set(number, ThingSort::Pointer(to)),
         None => Ok(()),
     }
 }

@@ -1,5 +1,5 @@
 //! A look at an answer: a design that is whole, or a refusal of construction. Another answer is never given.
-ghost use Rattle.std.specs.Prelude.{◌≡◌, true, length, IfOk, IfErr};
+ghost use Rattle.std.specs.Prelude.{◌≡◌, true, length, Ok, IfOk, IfErr};
 ghost use Rattle.scc_design.specs.Whole.{is_whole_design as is_whole};
 ghost use Rattle.scc_elab.specs.Refusals as refusals;
 
@@ -50,6 +50,7 @@ pub fn allowed(
     answer: Result<Design, Stop>,
 ) -> Result<Design, Stop>
     ensures whole { IfOk result (λ d. is_whole classes functions d ≡ true) }
+    ensures same { IfOk result (λ d. answer ≡ Ok d) }
     ensures refused { IfErr result (λ e. refusals.may_stop many e ≡ true) }
 {
     match answer {

@@ -61,7 +61,7 @@ fn turn<'t>(
             base,
             place,
         } => next_of_vector(of, next, size, base, place, p, stack, g),
-        Work::Lead { pointer, to } => Ok(g.set_thing(pointer, ThingSort::Pointer(Some(to)))?),
+        Work::Lead { pointer, to } => Ok(g.things.set(pointer, ThingSort::Pointer(Some(to)))?),
         Work::Leave => Ok(leave(g)?),
     }
 }

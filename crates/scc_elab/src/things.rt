@@ -1,7 +1,10 @@
 //! Objects while construction runs, and its limits.
+ghost use Rattle.std.specs.Prelude.{◌≡◌};
+ghost use Rattle.scc_elab.specs.Things.{sort_bits};
+
 use crate::spots::SpotId;
 use scc_base::Place;
-use scc_bits::{Kind, Value};
+use scc_bits::{Kind, Value, width};
 
 /// The most objects.
 pub const MOST_OBJECTS: usize = 65_536;
@@ -24,7 +27,9 @@ pub struct Thing {
 
 impl Thing {
     /// The object of a sort at a location.
-    pub fn new(spot: SpotId, place: Place, sort: ThingSort) -> Thing {
+    pub fn new(spot: SpotId, place: Place, sort: ThingSort) -> Thing
+        ensures { result.sort ≡ sort }
+    {
         Thing { spot, place, sort }
     }
 
@@ -50,6 +55,21 @@ pub enum ThingSort {
     Variable(Value),
     /// A pointer or reference, and where it leads; None for null.
     Pointer(Option<SpotId>),
+}
+
+impl ThingSort {
+    /// How many bits count as storage.
+    pub fn bits(self) -> u32
+        ensures { result ≡ sort_bits self }
+    {
+        match self {
+            ThingSort::Module(_) => 0,
+            ThingSort::Port { .. } => 0,
+            ThingSort::Signal(kind) => width(kind),
+            ThingSort::Variable(value) => width(value.kind()),
+            ThingSort::Pointer(_) => 0,
+        }
+    }
 }
 
 /// To what a port is bound, and where.
