@@ -36,7 +36,7 @@ timed() {
 
 program=${SCC:-crates/scc/out/scc}
 printf '%-28s %8s ms\n' 'true' "$(timed /bin/true)"
-printf '%-28s %8s ms\n' './scc compile And' "$(timed ./scc compile And examples/and.cpp)"
+[[ -n ${SCC:-} ]] || printf '%-28s %8s ms\n' './scc compile And' "$(timed ./scc compile And examples/and.cpp)"
 printf '%-28s %8s ms\n' 'the program itself' "$(timed "$program" compile And examples/and.cpp)"
 for ports in 250 500 1000; do
   thin_text "$ports" >"$work/$ports.cpp"

@@ -1,14 +1,18 @@
 #!/usr/bin/env python3
 """Runs a design by scc and by every other tool that is installed, on one stimulus, and compares the traces.
 
-    tools/agree.py TOP FILE [FILE ..] --stim S [--expect TRACE] [--scc CMD] [--keep FOLDER]
+    tools/agree.py TOP FILE [FILE ..] --stim S [--hier | --clocks | --memory]
+                   [--expect TRACE] [--scc CMD] [--keep FOLDER]
 
-One line for each tool says `same`, `differs` with the first line that does, `failed`, or `not installed`. All traces
+One line for each tool says `same`, `differs` with the first line that does, `failed`, or why it wasn't run. All traces
 are compared with TRACE where it is given, and with that of `scc sim` otherwise. The tools are `scc sim`, `scc svsim`,
-the SystemC library with g++, Icarus Verilog, Verilator, and Yosys, whose netlist Icarus runs. With --keep the texts,
-testbenches and traces are left in FOLDER. The status is 0 where all that is installed agrees, and 1 otherwise.
+the SystemC library with g++, Icarus Verilog, Verilator, and Yosys, whose netlist Icarus runs. --hier, --clocks and
+--memory are those of `scc compile`. CMD is another program in the place of `./scc`, as is the environment's SCC. With
+--keep the texts, testbenches and traces are left in FOLDER. The status is 0 where all that was run agrees, and 1
+otherwise.
 """
 import argparse
+import os
 import shlex
 import sys
 import tempfile
@@ -24,20 +28,22 @@ REPOSITORY = Path(__file__).resolve().parent.parent
 class Job:
     """A design that was compiled, with a stimulus and a folder to work in."""
 
-    def __init__(self, scc, top, sources, stimulus_file, folder):
-        self.scc, self.top, self.folder = scc, top, folder
+    def __init__(self, scc, top, sources, stimulus_file, folder, flags):
+        self.scc, self.top, self.folder, self.flags = scc, top, folder, flags
         self.sources = [Path(s).resolve() for s in sources]
         self.stimulus_file = Path(stimulus_file).resolve()
         self.emitted = folder / f"{top}.sv"
-        self.emitted.write_text(call(scc + ["compile", top, *self.sources], folder))
+        self.emitted.write_text(call(scc + ["compile", top, *self.sources, *flags], folder))
         self.module = read_module(self.emitted.read_text())
         self.stimulus = read_stimulus(self.stimulus_file.read_text())
 
     def source_trace(self):
-        return call(self.scc + ["sim", self.top, *self.sources, "--stim", self.stimulus_file], self.folder)
+        flags = [f for f in self.flags if f == "--clocks"]
+        return call(self.scc + ["sim", self.top, *self.sources, "--stim", self.stimulus_file, *flags], self.folder)
 
     def emitted_trace(self):
-        return call(self.scc + ["svsim", self.top, self.emitted, "--stim", self.stimulus_file], self.folder)
+        words = ["svsim", self.top, self.emitted, "--stim", self.stimulus_file, *self.flags]
+        return call(self.scc + words, self.folder)
 
 
 def difference(wanted, got):
@@ -53,6 +59,9 @@ def compare(job, expected):
     runs = [("scc sim", lambda: True, Job.source_trace), ("scc svsim", lambda: True, Job.emitted_trace), *TOOLS]
     all_agree = True
     for name, is_installed, trace_of in runs:
+        if trace_of == Job.emitted_trace and "--memory" in job.flags:
+            print(f"  {name:10} reads no memories", flush=True)
+            continue
         if not is_installed():
             print(f"  {name:10} not installed", flush=True)
             continue
@@ -76,8 +85,11 @@ def main():
     parser.add_argument("sources", metavar="FILE", nargs="+")
     parser.add_argument("--stim", required=True)
     parser.add_argument("--expect")
-    parser.add_argument("--scc", default=str(REPOSITORY / "scc"))
+    parser.add_argument("--scc", default=os.environ.get("SCC") or str(REPOSITORY / "scc"))
     parser.add_argument("--keep")
+    forms = parser.add_mutually_exclusive_group()
+    for flag in ("--hier", "--clocks", "--memory"):
+        forms.add_argument(flag, action="append_const", const=flag, dest="flags", default=[])
     a = parser.parse_args()
     scc = [str(Path(w).resolve()) if Path(w).exists() else w for w in shlex.split(a.scc)]
     expected = Path(a.expect).read_text() if a.expect else None
@@ -85,7 +97,7 @@ def main():
         folder = Path(a.keep or temporary).resolve()
         folder.mkdir(parents=True, exist_ok=True)
         try:
-            job = Job(scc, a.top, a.sources, a.stim, folder)
+            job = Job(scc, a.top, a.sources, a.stim, folder, a.flags)
         except Failed as fault:
             print(f"{a.top}: {fault}")
             sys.exit(1)

@@ -8,7 +8,8 @@ What is looked at:
 - a word `scc_..` in backticks is a crate of crates.txt, unless its line says `not yet` or [CHECK;
 - a word `NAME.rt` in backticks is a file of the crate of the heading, or of any crate where the heading names none;
 - below a heading of a crate, names in round brackets, as (`ok`, `err`), are clauses or public functions of it;
-- a path in backticks that begins with a folder of the repository.
+- a path in backticks that begins with a folder of the repository, but what is built, below `out`;
+- the table of docs/ARCHITECTURE.md has a row for each crate of crates.txt.
 Lines of tables and of code aren't measured. The status is 1 where something is wrong.
 """
 import functools
@@ -59,7 +60,8 @@ def faults_of_line(document, line, heading):
             yield f"no crate {word}"
         elif re.fullmatch(r"[a-z_/]+\.rt", word) and not has_file(heading or CRATES, word) and not has_file(CRATES, word):
             yield f"no file {word} in {', '.join(heading) or 'any crate'}"
-        elif word.startswith(FOLDERS) and re.fullmatch(r"[a-z0-9_./-]+", word) and not (REPOSITORY / word).exists():
+        elif word.startswith(FOLDERS) and re.fullmatch(r"[a-z0-9_./-]+", word) and "/out/" not in word \
+                and not (REPOSITORY / word).exists():
             yield f"no file {word}"
     for group in CLAUSES.findall(line) if heading else []:
         for name in CODE.findall(group):
@@ -83,11 +85,19 @@ def faults_of(document):
             yield f"{document.relative_to(REPOSITORY)}:{number}: {fault}"
 
 
+def crates_without_row():
+    page = REPOSITORY / "docs" / "ARCHITECTURE.md"
+    rows = " ".join(line.split(" | ")[0] for line in page.read_text().splitlines() if line.startswith("| `"))
+    for crate in sorted(CRATES - set(CODE.findall(rows))):
+        yield f"{page.relative_to(REPOSITORY)}: no row for {crate}"
+
+
 def main():
     names = [Path(n).resolve() for n in sys.argv[1:]]
     documents = names or [*REPOSITORY.glob("*.md"), *sorted((REPOSITORY / "docs").rglob("*.md")),
                           *sorted((REPOSITORY / "examples").rglob("*.md"))]
     faults = [fault for document in documents for fault in faults_of(document)]
+    faults += [] if names else crates_without_row()
     for fault in faults:
         print(fault)
     print(f"{len(documents)} documents, {len(faults)} faults")

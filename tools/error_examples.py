@@ -12,18 +12,19 @@ A page has, below the heading of a code, blocks of files and blocks of commands:
 
     ```console
     $ scc compile T a.cpp           a command over the files since the last command
-    a.cpp:1:3: E304 mismatch        what it says on the second output
+    a.cpp:1:3: E304 mismatch        what it says on standard error
     ```
 
 In a file `{{N*text}}` stands for the text N times, in which `{#}` is the number of the time, from 0. --write puts in the
 place of each refusal what the program says; --data prints all examples as JSON, one a line: its code, words, files and
-refusal.
+refusal. CMD is another program in the place of `./scc`, as is the environment's SCC.
 
 --table writes the examples as tables of the crate scc_error_tests, whose tests the gate runs, and --check says where the
 tables aren't what the pages say: neither needs a built program.
 """
 import argparse
 import json
+import os
 import re
 import shlex
 import subprocess
@@ -179,7 +180,7 @@ def settled(path, text, write):
 def main():
     parser = argparse.ArgumentParser(description=__doc__, formatter_class=argparse.RawDescriptionHelpFormatter)
     parser.add_argument("pages", metavar="PAGE", nargs="*", type=Path)
-    parser.add_argument("--scc", default=str(REPOSITORY / "scc"))
+    parser.add_argument("--scc", default=os.environ.get("SCC") or str(REPOSITORY / "scc"))
     parser.add_argument("--write", action="store_true")
     parser.add_argument("--data", action="store_true")
     parser.add_argument("--table", action="store_true")

@@ -3,13 +3,13 @@
 # Verilog and Yosys. An error, a latch, or a warning that isn't expected ends with status 1. The warnings that are
 # expected, and why they stay, are in docs/TOOLS.md.
 #
-#   tools/lint.sh                  all examples
-#   tools/lint.sh TOP FILE ..      a design of your own
+#   tools/lint.sh                       all examples
+#   tools/lint.sh TOP FILE .. [FLAG]    a design of your own; FLAG is --hier, --clocks or --memory
 #   SCC names another program: SCC=/usr/local/bin/scc tools/lint.sh
 set -u
 top=$(cd "$(dirname "$0")/.." && pwd)
 scc=${SCC:-$top/scc}
-expected_of_verilator='UNUSEDSIGNAL|CASEINCOMPLETE'
+expected_always='UNUSEDSIGNAL|CASEINCOMPLETE'
 expected_of_icarus='constant selects in always_|process has no sensitivities'
 folder=$(mktemp -d)
 trap 'rm -rf "$folder"' EXIT
@@ -54,11 +54,16 @@ lint_yosys() {
   fi
 }
 
-# module, files
+# module, files, a flag
 lint() {
+  echo "$*" | sed "s|$top/||g"
   module=$1
   shift
-  echo "$module"
+  case " $* " in
+  # one file has several modules
+  *' --hier '*) expected_of_verilator="$expected_always|DECLFILENAME" ;;
+  *) expected_of_verilator=$expected_always ;;
+  esac
   if ! "$scc" compile "$module" "$@" >"$folder/$module.sv" 2>"$folder/said"; then
     fail "scc: refused"
     return
@@ -71,10 +76,11 @@ lint() {
 case $# in
 0)
   { echo And and.cpp; make -s -C "$top/examples" list; } >"$folder/list"
-  while read -r top_module source; do lint "$top_module" "$top/examples/$source"; done <"$folder/list"
+  # a flag may be missing, and is one word
+  while read -r top_module source flag; do lint "$top_module" "$top/examples/$source" $flag; done <"$folder/list"
   ;;
 1)
-  echo "usage: $0 [TOP FILE ..]" >&2
+  echo "usage: $0 [TOP FILE .. [--hier | --clocks | --memory]]" >&2
   exit 2
   ;;
 *) lint "$@" ;;

@@ -3,8 +3,9 @@
 
     tools/trace_to_vcd.py TRACE [--stim S] [--module T.sv] > T.vcd
 
-With --stim the inputs are shown too. With --module, the text that `scc compile` wrote, widths are exact and the clock is
-shown; else a width is four bits for each digit. Step N begins at 10 * N: the inputs change there; the edge is at 10 * N + 5.
+With --stim the inputs are shown too. With --module, the text that `scc compile` wrote, widths are exact and the clocks
+are shown; else a width is four bits for each digit. Step N begins at 10 * N: the inputs change there; the edges are at
+10 * N + 5.
 """
 import argparse
 import itertools
@@ -45,11 +46,11 @@ def events_of(trace, stimulus, module):
     for number, step in enumerate(stimulus.steps if stimulus else []):
         for name, value in zip(stimulus.ports, step.values):
             yield number * STEP, name, value
-    if stimulus and module and module.clock:
+    for k, clock in enumerate(module.clocks_of(stimulus) if stimulus and module else []):
         for number, step in enumerate(stimulus.steps):
-            yield number * STEP, module.clock, 0 if module.rising else 1
-            if step.has_edge:
-                yield number * STEP + EDGE, module.clock, 1 if module.rising else 0
+            yield number * STEP, clock.name, int(not clock.rising)
+            if step.edges >> k & 1:
+                yield number * STEP + EDGE, clock.name, int(clock.rising)
 
 
 def widths_of(trace, stimulus, module):

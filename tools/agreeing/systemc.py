@@ -59,23 +59,25 @@ def testbench(module, stimulus, sources):
     for k, p in enumerate(module.ports):
         lines.append(f"  auto& port_{k} = wire(dut.{member(p.name)});")
     place = {p.name: k for k, p in enumerate(module.ports)}
-    clock = f"port_{place[module.clock]}" if module.clock else None
-    idle, active = ("false", "true") if module.rising else ("true", "false")
-    if clock:
-        lines.append(f"  {clock}.write({idle});")
-    lines.append(f'  std::puts("scc-trace {stimulus.version}");')
+    clocks = module.clocks_of(stimulus)
+    lines += [written(place, c, not c.rising) for c in clocks]
+    lines.append(f'  std::puts("{stimulus.trace_head}");')
     for number, step in enumerate(stimulus.steps):
         for name, value in zip(stimulus.ports, step.values):
             lines.append(f'  set(port_{place[name]}, "0x0{value:x}");')
         lines += observation(module, place, f"{number}-")
         if step.has_edge:
-            if clock:
-                lines.append(f"  {clock}.write({active});")
+            chosen = [c for k, c in enumerate(clocks) if step.edges >> k & 1]
+            lines += [written(place, c, c.rising) for c in chosen]
             lines += observation(module, place, f"{number}+")
-            if clock:
-                lines += [f"  {clock}.write({idle});", "  sc_start(1, SC_NS);"]
+            lines += [written(place, c, not c.rising) for c in chosen]
+            lines += ["  sc_start(1, SC_NS);"] if chosen else []
     lines += ["  return 0;", "}", ""]
     return "\n".join(lines)
+
+
+def written(place, clock, level):
+    return f"  port_{place[clock.name]}.write({str(level).lower()});"
 
 
 def observation(module, place, label):

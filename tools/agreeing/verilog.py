@@ -11,13 +11,11 @@ def testbench(module, stimulus, registers_are_named=True):
     lines += [f"  \\{module.name} dut ({connections});", "  initial begin"]
     if registers_are_named:
         lines += ["`ifndef VERILATOR"]
-        lines += [f"    dut.\\{name} = 0;" for name in module.registers]
+        lines += [f"    dut.{register} = 0;" for register in module.registers]
         lines += ["`endif"]
-    idle, active = ("1'b0", "1'b1") if module.rising else ("1'b1", "1'b0")
-    clock = f"\\{module.clock} " if module.clock else None
-    if clock:
-        lines.append(f"    {clock} = {idle};")
-    lines.append(f'    $display("scc-trace {stimulus.version}");')
+    clocks = module.clocks_of(stimulus)
+    lines += [assigned(c, not c.rising) for c in clocks]
+    lines.append(f'    $display("{stimulus.trace_head}");')
     widths = {p.name: p for p in module.inputs()}
     for number, step in enumerate(stimulus.steps):
         for name, value in zip(stimulus.ports, step.values):
@@ -25,13 +23,18 @@ def testbench(module, stimulus, registers_are_named=True):
             lines.append(f"    {p.spelling} = {p.width}'h{value:x};")
         lines += ["    #1;", observation(module, f"{number}-")]
         if step.has_edge:
-            if clock:
-                lines.append(f"    {clock} = {active};")
+            # edges of one step come at one time
+            chosen = [c for k, c in enumerate(clocks) if step.edges >> k & 1]
+            lines += [assigned(c, c.rising) for c in chosen]
             lines += ["    #1;", observation(module, f"{number}+")]
-            if clock:
-                lines += [f"    {clock} = {idle};", "    #1;"]
+            lines += [assigned(c, not c.rising) for c in chosen]
+            lines += ["    #1;"] if chosen else []
     lines += ["    $finish;", "  end", "endmodule", ""]
     return "\n".join(lines)
+
+
+def assigned(clock, level):
+    return f"    \\{clock.name} = 1'b{int(level)};"
 
 
 def observation(module, label):
