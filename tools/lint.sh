@@ -76,8 +76,7 @@ lint() {
 case $# in
 0)
   { echo And and.cpp; make -s -C "$top/examples" list; } >"$folder/list"
-  # a flag may be missing, and is one word
-  while read -r top_module source flag; do lint "$top_module" "$top/examples/$source" $flag; done <"$folder/list"
+  while read -r top_module source flag; do lint "$top_module" "$top/examples/$source" ${flag:+"$flag"}; done <"$folder/list"
   ;;
 1)
   echo "usage: $0 [TOP FILE .. [--hier | --clocks | --memory]]" >&2
