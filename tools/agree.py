@@ -12,17 +12,14 @@ the SystemC library with g++, Icarus Verilog, Verilator, and Yosys, whose netlis
 otherwise.
 """
 import argparse
-import os
-import shlex
 import sys
 import tempfile
 from pathlib import Path
 
+from agreeing.compiler import compiler
 from agreeing.emitted import read_module
 from agreeing.runs import TOOLS, Failed, call
 from agreeing.stimulus import read_stimulus
-
-REPOSITORY = Path(__file__).resolve().parent.parent
 
 
 class Job:
@@ -85,19 +82,18 @@ def main():
     parser.add_argument("sources", metavar="FILE", nargs="+")
     parser.add_argument("--stim", required=True)
     parser.add_argument("--expect")
-    parser.add_argument("--scc", default=os.environ.get("SCC") or str(REPOSITORY / "scc"))
+    parser.add_argument("--scc")
     parser.add_argument("--keep")
     forms = parser.add_mutually_exclusive_group()
     for flag in ("--hier", "--clocks", "--memory"):
         forms.add_argument(flag, action="append_const", const=flag, dest="flags", default=[])
     a = parser.parse_args()
-    scc = [str(Path(w).resolve()) if Path(w).exists() else w for w in shlex.split(a.scc)]
     expected = Path(a.expect).read_text() if a.expect else None
     with tempfile.TemporaryDirectory() as temporary:
         folder = Path(a.keep or temporary).resolve()
         folder.mkdir(parents=True, exist_ok=True)
         try:
-            job = Job(scc, a.top, a.sources, a.stim, folder, a.flags)
+            job = Job(compiler(a.scc), a.top, a.sources, a.stim, folder, a.flags)
         except Failed as fault:
             print(f"{a.top}: {fault}")
             sys.exit(1)

@@ -24,13 +24,14 @@ tables aren't what the pages say: neither needs a built program.
 """
 import argparse
 import json
-import os
 import re
 import shlex
 import subprocess
 import sys
 import tempfile
 from pathlib import Path
+
+from agreeing.compiler import compiler
 
 REPOSITORY = Path(__file__).resolve().parent.parent
 PAGES = sorted((REPOSITORY / "docs" / "errors").glob("[0-9]-*.md"))
@@ -180,7 +181,7 @@ def settled(path, text, write):
 def main():
     parser = argparse.ArgumentParser(description=__doc__, formatter_class=argparse.RawDescriptionHelpFormatter)
     parser.add_argument("pages", metavar="PAGE", nargs="*", type=Path)
-    parser.add_argument("--scc", default=os.environ.get("SCC") or str(REPOSITORY / "scc"))
+    parser.add_argument("--scc")
     parser.add_argument("--write", action="store_true")
     parser.add_argument("--data", action="store_true")
     parser.add_argument("--table", action="store_true")
@@ -188,7 +189,7 @@ def main():
     a = parser.parse_args()
     if a.table or a.check:
         sys.exit(any([settled(*table(page), a.table) for page in PAGES]))
-    scc = [str(Path(w).resolve()) if Path(w).exists() else w for w in shlex.split(a.scc)]
+    scc = None if a.data else compiler(a.scc)
     passed = failed = 0
     for page in a.pages or PAGES:
         if a.write:

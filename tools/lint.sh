@@ -9,6 +9,10 @@
 set -u
 top=$(cd "$(dirname "$0")/.." && pwd)
 scc=${SCC:-$top/scc}
+if [ -z "${SCC:-}" ] && [ ! -x "$top/crates/scc/out/scc" ]; then
+  echo "the compiler isn't built: run ./scc first, which takes more than an hour, or name one by SCC" >&2
+  exit 2
+fi
 expected_always='UNUSEDSIGNAL|CASEINCOMPLETE'
 expected_of_icarus='constant selects in always_|process has no sensitivities'
 folder=$(mktemp -d)

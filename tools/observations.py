@@ -3,8 +3,8 @@
 
 Both sides are computed from the definitions in docs/DEFINITIONS.md, step by step: a function below has the name of
 its definition in crates/*/specs, and does what it says. Both texts are read here, and nothing is shared with the
-program but `./scc compile`, which gives the emitted texts. One line is printed for each text. The first difference
-is named, and the status is 1.
+program but `scc compile`, which gives the emitted texts; SCC in the environment is another program in the place of
+`./scc`. One line is printed for each text. The first difference is named, and the status is 1.
 
     python3 tools/observations.py
 """
@@ -15,6 +15,7 @@ import tempfile
 from itertools import product
 from pathlib import Path
 
+from agreeing.compiler import compiler
 from observing.design import design_step, member, read_thin, source_of, start_of, within
 from observing.module import module_step, outputs, read_module, settles_once
 from observing.texts import Different
@@ -129,7 +130,7 @@ WRONG = {
 
 def compiled(top, file):
     """The text that the program emits."""
-    done = subprocess.run([str(REPOSITORY / "scc"), "compile", top, str(file)], stdout=subprocess.PIPE, text=True)
+    done = subprocess.run([*compiler(), "compile", top, str(file)], stdout=subprocess.PIPE, text=True)
     if done.returncode != 0:
         raise Different(f"the program ended with status {done.returncode}")
     return done.stdout
