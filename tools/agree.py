@@ -32,6 +32,8 @@ class Job:
         self.emitted = folder / f"{top}.sv"
         self.emitted.write_text(call(scc + ["compile", top, *self.sources, *flags], folder))
         self.module = read_module(self.emitted.read_text())
+        # scc says what is wrong with a stimulus
+        self.source_trace()
         self.stimulus = read_stimulus(self.stimulus_file.read_text())
 
     def source_trace(self):

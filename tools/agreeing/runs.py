@@ -46,7 +46,8 @@ def verilator(job):
 def yosys(job):
     """What Yosys synthesises, run by Icarus."""
     netlist, bench = job.folder / "netlist.v", job.folder / "netlist_testbench.v"
-    call(["yosys", "-q", "-p", f"read_verilog -sv {job.emitted}; proc; setundef -zero -init; "
+    # memories go first: Yosys 0.23 fails where setundef has set the enables of their ports
+    call(["yosys", "-q", "-p", f"read_verilog -sv {job.emitted}; proc; memory; setundef -zero -init; "
           f"synth -top \\{job.module.name}; check -assert; write_verilog -noattr {netlist}"], job.folder)
     bench.write_text(verilog.testbench(job.module, job.stimulus, registers_are_named=False))
     call(["iverilog", "-g2012", "-o", "netlist.vvp", bench, netlist], job.folder)
