@@ -68,7 +68,10 @@ impl Grown {
 
     /// What a variable holds, by its object's number; None where the object is no variable.
     pub fn number(&self, number: u32) -> Result<Option<Value>, NoMemory> {
-        Ok(self.thing(number)?.number())
+        match self.thing(number)?.sort {
+            ThingSort::Variable(value) => Ok(Some(value)),
+            _ => Ok(None),
+        }
     }
 
     // Makes an object within the limits; its number.

@@ -1,7 +1,8 @@
 //! A look at an answer: a design that is whole, or a refusal of construction. Another answer is never given.
-ghost use Rattle.std.specs.Prelude.{◌≡◌, true, length, Ok, IfOk, IfErr};
+ghost use Rattle.std.specs.Prelude.{◌≡◌, ◌≤◌, true, length, IfOk, IfErr};
 ghost use Rattle.scc_design.specs.Whole.{is_whole_design as is_whole};
 ghost use Rattle.scc_elab.specs.Refusals as refusals;
+ghost use Rattle.scc_elab.specs.Storage.{storage_of};
 
 use crate::whole::is_whole_design;
 use scc_base::{Code, Refusal, Stop, lost};
@@ -49,8 +50,9 @@ pub fn allowed(
     functions: usize,
     answer: Result<Design, Stop>,
 ) -> Result<Design, Stop>
+    requires { IfOk answer (λ d. storage_of d.objects ≤ 1048576) }
     ensures whole { IfOk result (λ d. is_whole classes functions d ≡ true) }
-    ensures same { IfOk result (λ d. answer ≡ Ok d) }
+    ensures bits { IfOk result (λ d. storage_of d.objects ≤ 1048576) }
     ensures refused { IfErr result (λ e. refusals.may_stop many e ≡ true) }
 {
     match answer {

@@ -32,14 +32,6 @@ impl Thing {
     {
         Thing { spot, place, sort }
     }
-
-    /// What a variable holds; None where the object is none.
-    pub fn number(&self) -> Option<Value> {
-        match &self.sort {
-            ThingSort::Variable(value) => Some(*value),
-            _ => None,
-        }
-    }
 }
 
 #[derive(Clone, Copy)]
