@@ -1,12 +1,12 @@
 -- One walk forward with sets of cells, those that some path to here hasn't written whole; and the loops through whose bodies a path
 -- goes without a wait. What they tell of paths is said by `TellsMisses`, `TellsEarly` and `TellsIdle`.
-use Rattle.std.specs.Prelude.{◌≡◌, ℕ, suc, Bool, true, false, ◌||◌, ◌&&◌, not, nat_eq, List, [], ◌∷◌, ◌++◌, filter, map}
+use Rattle.std.specs.Prelude.{◌≡◌, ℕ, suc, Bool, true, false, ◌||◌, ◌&&◌, not, nat_eq, List, [], ◌∷◌, ◌++◌, filter, map, Some, slice_get}
 use Rattle.std.specs.List.{list_any}
 use Rattle.scc_base.specs.declared.refusal.Place.{Place}
 use Rattle.scc_meaning_core.specs.Code.{Code, End, Put, Aim, If, Block, Loop, Exit, Wait}
 use Rattle.scc_meaning_core.specs.Static.{Cells}
 use Rattle.scc_meaning_core.specs.Uses.{Use, loads, inside, picked, cells_of, whole_writes, among}
-use Rattle.scc_meaning_core.specs.Paths.{Misses, MayNotWait}
+use Rattle.scc_meaning_core.specs.Paths.{Misses, Early, MayNotWait}
 
 abbrev pub CellSet : Type 0
 CellSet = ℕ → Bool
@@ -91,6 +91,12 @@ idle_loops (Wait p l n r) = idle_loops r
 pub record TellsMisses (cs : Cells) (c : Code) (x : ℕ) : Type 0 where
   pub seen : Misses cs c x → (flow cs c every).fall x ≡ true
   pub only : (flow cs c every).fall x ≡ true → Misses cs c x
+
+-- with the cells that are watched, of which x is one
+pub record TellsEarly (cs : Cells) (c : Code) (watched : CellSet) (x : ℕ) : Type 0 where
+  pub seen : (at : Place) → watched x ≡ true → Early cs c x at
+      → (k : ℕ) × (ns : List ℕ) × (slice_get (flow cs c watched).early k ≡ Some (at, ns)) × (among x ns ≡ true)
+  pub only : (at : Place) (k : ℕ) (ns : List ℕ) → slice_get (flow cs c watched).early k ≡ Some (at, ns) → among x ns ≡ true → Early cs c x at
 
 pub record TellsIdle (cs : Cells) (b : Code) : Type 0 where
   pub seen : MayNotWait cs b → (idle b).ends ≡ true

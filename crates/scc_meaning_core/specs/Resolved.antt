@@ -86,6 +86,8 @@ abbrev mutual
   resolved s (Unary p k o a) = made_map (Unary p k o) (resolved s a)
   resolved s (Binary p k o a b) = and_made (resolved s a) (λ x. made_map (Binary p k o x) (resolved s b))
   resolved s (Choose p k t a b) = and_made (resolved s t) (λ n. and_made (resolved s a) (λ x. made_map (Choose p k n x) (resolved s b)))
+  -- the index of a variable's bit is looked at before the object in which the variable is
+  resolved s (Bit p (Load q k l) e) = and_made (walked s false l) (λ o. sure (place_at l) o (λ m. and_made (resolved s e) (λ i. made_map (λ n. Bit p (Load q k n) i) (looked s m))))
   resolved s (Bit p a e) = and_made (resolved s a) (λ x. made_map (Bit p x) (resolved s e))
   resolved s (Range p k a h l) = made_map (λ x. Range p k x h l) (resolved s a)
   resolved s (Join p k a b) = and_made (resolved s a) (λ x. made_map (Join p k x) (resolved s b))

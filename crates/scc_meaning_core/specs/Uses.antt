@@ -1,5 +1,5 @@
 -- What a statement reads and writes, in the order of the walk: operands before operators, left before right, the indices of a
--- location before it. This project's own order of refusals.
+-- location before it, that of a bit of a variable too. This project's own order of refusals.
 use Rattle.std.specs.Prelude.{ℕ, Bool, true, false, ◌&&◌, ◌||◌, not, nat_eq, List, [], ◌∷◌, ◌++◌, ◌+◌, map, flat_map, Option, Some, None, option_map, slice_get, unwrap_or, if◌then◌else◌}
 use Rattle.std.specs.List.{list_any}
 use Rattle.scc_base.specs.declared.refusal.Place.{Place}
@@ -24,6 +24,7 @@ abbrev mutual
   loads (Unary p k o a) = loads a
   loads (Binary p k o a b) = loads a ++ loads b
   loads (Choose p k t a b) = loads t ++ (loads a ++ loads b)
+  loads (Bit p (Load q k l) e) = inside l ++ (loads e ++ record { place = q; left = l } ∷ [])
   loads (Bit p a e) = loads a ++ loads e
   loads (Range p k a h l) = loads a
   loads (Join p k a b) = loads a ++ loads b

@@ -1,4 +1,5 @@
--- Bodies worked by hand: the counting thread, a thread with three states of which one stands in a branch, a kept and an unkept local.
+-- Bodies worked by hand: the counting thread, a thread with three states of which one stands in a branch, kept and unkept locals, a tail that is copied, a loop
+-- that runs once, a counted loop, pointers.
 use Rattle.std.specs.Prelude.{ℕ, suc, Bool, true, false, List, [], ◌∷◌, Some, None}
 use Rattle.scc_base.specs.declared.refusal.Place.{Place}
 use Rattle.scc_kinds.specs.declared.kind.Kind.{Kind}
@@ -63,6 +64,22 @@ local_cells = cell 1 kind.Bool Input ∷ cell 2 (kind.Uint 8) Output ∷ cell 3 
 abbrev pub local_body : Code
 local_body = Block here (put 1 (byte 0) (Wait here 0 1 (forever (put 3 (load 2) (put 1 (load 3) (Wait here 0 1 End))) End))) End
 
+-- `q.write(0); wait(); while (true) { sc_uint<8> t = n; wait(); q.write(t); wait(); }`: here t lives across the first wait of the loop
+abbrev pub kept_body : Code
+kept_body = Block here (put 1 (byte 0) (Wait here 0 1 (forever (put 3 (load 2) (Wait here 0 1 (put 1 (load 3) (Wait here 0 1 End)))) End))) End
+
+-- `n = 0; while (true) { if (rst) wait(); q.write(n); n++; wait(); }`: the tail stands in the reset segment and behind both waits
+abbrev pub tail_body : Code
+tail_body = Block here (put 3 (byte 0) (forever (If here (Read here kind.Bool (term.Cell here 1)) (Wait here 0 1 End) End (put 2 (load 3) (put 3 one_more (Wait here 0 1 End)))) End)) End
+
+-- `while (rst) { if (0) wait(); n = 0; break; } wait(); n = 0;`: no path comes to the end of the loop's body, nor to its wait
+abbrev pub once_body : Code
+once_body = Block here (Block here (Loop here None (If here (Read here kind.Bool (term.Cell here 1)) End (Exit here 0 End)
+    (Block here (If here (Literal here kind.Bool 0) (Wait here 0 1 End) End (put 3 (byte 0) (Exit here 1 End))) End)) End) (Wait here 0 1 (put 3 (byte 0) End))) End
+
+abbrev pub once_live : Code
+once_live = Block here (Block here (If here (Read here kind.Bool (term.Cell here 1)) End (Exit here 0 End) (Block here (put 3 (byte 0) (Exit here 1 End)) End)) (Wait here 0 1 (put 3 (byte 0) End))) End
+
 -- `for (int i = 0; i <= 7; i++) { if (a.read()[i]) break; n = n + 1; }` with i in cell 4, in a body of its own
 abbrev pub int : Kind
 int = kind.Native 32 true
@@ -91,6 +108,14 @@ turn_written w rest = Block here (leaves_at (number w)) (put 4 (number (suc w)) 
 abbrev pub pointer_cells : List Cell
 pointer_cells = cell 5 kind.Bool (Pointer (Some (location.Member 5 ∷ []))) ∷ cell 6 kind.Bool (Pointer None)
     ∷ record { name = record { path = location.Member 5 ∷ location.Member 7 ∷ []; own = None; indices = [] }; kind = int; sort = Variable 0 false; place = here } ∷ []
+
+-- the bit of a variable of an object that an index chooses, at 1, under an index that follows null, at 2: `p[i].n[d->n]` for an i in cell 2
+abbrev pub spot : ℕ → Place
+spot n = record { file = 0; at = n }
+
+abbrev pub bit_behind_null : Term
+bit_behind_null = term.Bit (spot 1) (Load (spot 1) int (term.Member (term.Index (term.Prefix (spot 1) (named 8)) 4 (Load here int (term.Cell here 2))) 7))
+    (Load (spot 2) int (term.Member (term.Follow (spot 2) false (term.Cell (spot 2) 1)) 7))
 
 abbrev pub through : ℕ → Code
 through c = Put here (term.Member (term.Follow here false (term.Cell here c)) 7) Whole (number 1) End

@@ -1,7 +1,7 @@
 //! Laws that cite the definitions.
 ghost use Rattle.std.specs.Prelude.{◌≡◌, ℕ, List, [], ◌∷◌, length, drop, Option, Some, None, true, false};
 ghost use Rattle.scc_base.specs.declared.refusal.Refusal.{Refusal};
-ghost use Rattle.scc_meaning_core.specs.Term.{Cell, Read, Term};
+ghost use Rattle.scc_meaning_core.specs.Term.{Cell, Read, Load, Bit, Term};
 ghost use Rattle.scc_kinds.specs.declared.kind.Kind.TheVariants as kind;
 ghost use Rattle.scc_meaning_core.specs.WorkedRules.{at, keeping, latching, may_not_wait, sharing};
 ghost use Rattle.scc_meaning_core.specs.Code.{Code, End, If, Block, numbered, size};
@@ -11,18 +11,20 @@ ghost use Rattle.scc_meaning_core.specs.Segments.{Plain, Test, Halt, Finish, seg
 ghost use Rattle.scc_meaning_core.specs.Sizes.{bound, loops_deep, states, thread_statements, live_body, measure, bits_in};
 ghost use Rattle.scc_meaning_core.specs.First.{first_of, refused, refused_beside, TellsFirst};
 ghost use Rattle.scc_meaning_core.specs.Paths.{Misses};
-ghost use Rattle.scc_meaning_core.specs.Flow.{TellsMisses, TellsIdle};
+ghost use Rattle.scc_meaning_core.specs.Flow.{TellsMisses, TellsEarly, TellsIdle};
 ghost use Rattle.scc_meaning_core.specs.Kept.{kept, is_kept, TellsKept};
 ghost use Rattle.scc_meaning_core.specs.Feeding.{IsOrder};
 ghost use Rattle.scc_meaning_core.specs.Rules.{first_rule};
 ghost use Rattle.scc_meaning_core.specs.Split.{first_after_passes, first_split};
 ghost use Rattle.scc_meaning_core.specs.Unrolled.{unrolled, run_turns, first_unrolled};
 ghost use Rattle.scc_base.specs.declared.code.Code.TheVariants as reason;
-ghost use Rattle.scc_meaning_core.specs.Resolved.{Made, Stopped};
+ghost use Rattle.scc_meaning_core.specs.Resolved.{Made, Stopped, resolved};
+ghost use Rattle.scc_meaning_core.specs.Uses.{loads};
+ghost use Rattle.scc_meaning_core.specs.Live.{live};
 ghost use Rattle.scc_meaning_core.specs.Unpointed.{unpointed};
 ghost use Rattle.scc_meaning_core.specs.Renumbered.{resolved_program};
 ghost use Rattle.scc_meaning_core.specs.WorkedRun.{counts, counting};
-ghost use Rattle.scc_meaning_core.specs.Worked.{here, count_cells, count_body, branch_body, put, byte, load, one_more, local_cells, local_body, process, turn_cells, turn_body, turn_written, leaves_at, counter, number, pointer_cells, through};
+ghost use Rattle.scc_meaning_core.specs.Worked.{here, count_cells, count_body, branch_body, put, byte, load, one_more, local_cells, local_body, kept_body, tail_body, once_body, once_live, process, turn_cells, turn_body, turn_written, leaves_at, counter, number, pointer_cells, through, spot, bit_behind_null};
 
 /// The counting thread: 12 statements, one loop that waits, at most 72 steps, two states, 9 statements in its segments.
 pub fn the_counting_thread_is_measured()
@@ -44,10 +46,33 @@ pub fn the_counting_thread_is_cut()
         ∷ Plain (put 3 one_more End) (Plain (put 2 (load 3) End) (Halt here 1 1)) ∷ [] }
 {}
 
-/// A local that is written before it is read between two waits isn't kept, a counter is.
+/// A local that is written before it is read between two waits isn't kept, one that is read behind another wait is, and a counter is.
 pub fn what_lives_across_a_wait_is_kept()
     ensures local { kept local_cells 0 (process true [] local_body) ≡ [] }
+    ensures across { kept local_cells 0 (process true [] kept_body) ≡ 3 ∷ [] }
     ensures counter { kept count_cells 0 (process true [] count_body) ≡ 3 ∷ [] }
+{}
+
+/// A thread with an unkept local: 11 statements, at most 66 steps, 8 statements in its segments.
+pub fn a_thread_with_a_local_is_measured()
+    ensures statements { size local_body ≡ 11 }
+    ensures steps { bound local_body ≡ 66 }
+    ensures waits { states local_cells local_body ≡ 2 }
+    ensures written { thread_statements local_cells local_body ≡ 8 }
+{}
+
+/// A tail behind a wait in one branch stands in the reset segment and behind both waits.
+pub fn a_tail_is_copied()
+    ensures { all_segments (live_body count_cells tail_body) ≡
+        Plain (put 3 (byte 0) End) (Test here (Read here kind.Bool (Cell here 1)) (Halt here 0 1) (Plain (put 2 (load 3) End) (Plain (put 3 one_more End) (Halt here 1 1))))
+        ∷ Plain (put 2 (load 3) End) (Plain (put 3 one_more End) (Halt here 1 1))
+        ∷ Test here (Read here kind.Bool (Cell here 1)) (Halt here 0 1) (Plain (put 2 (load 3) End) (Plain (put 3 one_more End) (Halt here 1 1))) ∷ [] }
+{}
+
+/// Of a loop whose body's end no path comes to the body stands alone, without what no path comes to.
+pub fn a_loop_that_runs_once_is_its_body()
+    ensures lives { live count_cells once_body ≡ once_live }
+    ensures waits { states count_cells once_body ≡ 1 }
 {}
 
 /// The counting thread breaks no rule.
@@ -71,6 +96,12 @@ pub fn counted_loops_are_written_out()
 pub fn pointers_give_way_to_objects()
     ensures object { unpointed (record { cells = pointer_cells; vectors = []; local = λ n. None }) (through 0) ≡ Made (put 2 (number 1) End) }
     ensures null { unpointed (record { cells = pointer_cells; vectors = []; local = λ n. None }) (through 1) ≡ Stopped (refused reason.EmptyPointer here) }
+    ensures bit { resolved (record { cells = pointer_cells; vectors = []; local = λ n. None }) bit_behind_null ≡ Stopped (refused reason.EmptyPointer (spot 2)) }
+{}
+
+/// The index of a variable's bit is read before the variable.
+pub fn an_index_is_read_before_its_variable()
+    ensures { loads (Bit here (Load (spot 1) (kind.Uint 8) (Cell here 3)) (Load (spot 2) (kind.Uint 8) (Cell here 2))) ≡ record { place = spot 2; left = Cell here 2 } ∷ record { place = spot 1; left = Cell here 3 } ∷ [] }
 {}
 
 /// No processes, no pointers.
