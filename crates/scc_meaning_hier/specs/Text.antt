@@ -11,6 +11,7 @@ use Rattle.scc_hiertext.specs.declared.tree.Hier.{Hier}
 use Rattle.scc_hiertext.specs.declared.tree.HierModule.{HierModule}
 use Rattle.scc_hiertext.specs.declared.tree.Instance.{Instance}
 use Rattle.scc_meaning_hier.specs.Flattened.{IsWhole, IsFlattening, ports_of}
+use Rattle.scc_meaning_hier.specs.Sound.{AreSound}
 
 abbrev pub comma_if : List ℕ → List ℕ
 comma_if [] = []
@@ -39,8 +40,10 @@ hier_module_text h m = fixed_text piece.Module ++ (spelled m.name ++ (fixed_text
 abbrev pub hier_text : Hier → List ℕ
 hier_text h = flat_map (hier_module_text h) h.modules
 
--- The bytes are the text of modules that can be flattened, whose flattening has no wrong sizes, names, drivers or cycles.
+-- The bytes are the text of modules that are right by themselves, each with a name of its own, and that can be flattened; and their flattening has no wrong sizes,
+-- names, drivers or cycles.
 pub record HierReads (many : Bool) (bytes : List ℕ) (h : Hier) : Type 0 where
+  pub modules : AreSound h
   pub whole : IsWhole h
   pub flat : SvModule
   pub flattens : IsFlattening h flat

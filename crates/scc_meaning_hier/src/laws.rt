@@ -6,6 +6,7 @@ ghost use Rattle.scc_svtree.specs.declared.module.SvModule.{SvModule};
 ghost use Rattle.scc_hiertext.specs.declared.tree.Hier.{Hier};
 ghost use Rattle.scc_meaning_text.specs.Matches.{Matches};
 ghost use Rattle.scc_meaning_hier.specs.Flattened.{HierShows, of_top};
+ghost use Rattle.scc_meaning_hier.specs.Sound.{AreModulesNamed};
 ghost use Rattle.scc_meaning_hier.specs.Text.{HierReads, hier_text};
 ghost use Rattle.scc_meaning_hier.specs.Homes.{IsSplitUp};
 ghost use Rattle.scc_meaning_hier.specs.Worked.{two, outer, inverts, written};
@@ -21,6 +22,7 @@ pub fn two_inverters_are_flattened()
 /// The text of modules is read as one list of modules that can be flattened, and what they show is what their flattening shows.
 pub fn modules_show_what_their_flattening_shows()
     ensures text { (many : Bool) (bytes : List ℕ) (h : Hier) → HierReads many bytes h → bytes ≡ hier_text h }
+    ensures modules { (many : Bool) (bytes : List ℕ) (h : Hier) → HierReads many bytes h → AreModulesNamed h.modules }
     ensures name { (text : Location → List ℕ) (own : List ℕ → Bool) (kept : Location → Bool) (d : Design) (top : List ℕ) (h : Hier) → HierShows text own kept d top h → (m : SvModule) × Matches text own kept d m top }
     ensures objects { (m : SvModule) (paths : List (List ℕ)) (homes : List ℕ) (h : Hier) (s : IsSplitUp m paths homes h) → length (of_top h s.top).instances ≡ length (drop 1 paths) }
 {}

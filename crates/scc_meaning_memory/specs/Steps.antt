@@ -120,9 +120,17 @@ AllSame [] [] = Unit {0}
 AllSame (a ∷ more) (b ∷ rest) = SameShot a.before b.before × SameAfter a.after b.after × AllSame more rest
 AllSame _ _ = ⊥
 
--- A module with its taken arrays as memories, and no other: from valuations that agree in registers and elements both show the same.
-pub record HasMemories (text : Location → List ℕ) (m : SvModule) (n : MemModule) : Type 0 where
+-- Valuations agree in all registers: word i of a memory is that of its element i, and every other register has one word, whatever the names of locations are, so
+-- that those of threads' states and counters are among them.
+abbrev pub Agree : SvModule → MemModule → (ℕ → ℕ) → Valuation → Type 0
+Agree m n x y = (text : Location → List ℕ) (l : Location) (w : ℕ) → plain.register text m x l ≡ Some w → register text n y l ≡ Some w
+
+-- A module with its taken arrays as memories, and no other: from valuations that agree both go through the same steps and show the same, in outputs and in all
+-- registers.
+pub record HasMemories (m : SvModule) (n : MemModule) : Type 0 where
   pub only : (k : ℕ) (b : Memory) → slice_get n.memories k ≡ Some b → (a : Array) × StandsFor m b a
   pub all : (a : Array) → IsTaken m a → (k : ℕ) × (b : Memory) × (slice_get n.memories k ≡ Some b) × StandsFor m b a
-  pub same : (x : ℕ → ℕ) (y : Valuation) → ((l : Location) (w : ℕ) → plain.register text m x l ≡ Some w → register text n y l ≡ Some w)
-      → (steps : List run.Step) (a b : List Seen) → plain.Runs text m x steps a → Runs text n y steps b → AllSame a b
+  pub runs : (x : ℕ → ℕ) (y : Valuation) → Agree m n x y → (text : Location → List ℕ) (steps : List run.Step) (a : List Seen) → plain.Runs text m x steps a
+      → (b : List Seen) × Runs text n y steps b
+  pub same : (x : ℕ → ℕ) (y : Valuation) → Agree m n x y → (text : Location → List ℕ) (steps : List run.Step) (a b : List Seen) → plain.Runs text m x steps a → Runs text n y steps b
+      → AllSame a b

@@ -33,5 +33,5 @@ pub fn a_memory_is_read_and_written()
 /// What a module with memories shows, and whose memories it has.
 pub fn modules_with_memories_show_designs()
     ensures shows { (text : Location → List ℕ) (d : Design) (m : MemModule) → MemoryShows text d m → MemoryShows text d m }
-    ensures memories { (text : Location → List ℕ) (m : SvModule) (n : MemModule) (k : ℕ) (b : Memory) → HasMemories text m n → slice_get n.memories k ≡ Some b → (a : Array) × StandsFor m b a }
+    ensures memories { (m : SvModule) (n : MemModule) (k : ℕ) (b : Memory) → HasMemories m n → slice_get n.memories k ≡ Some b → (a : Array) × StandsFor m b a }
 {}
