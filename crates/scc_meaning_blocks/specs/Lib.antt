@@ -9,4 +9,6 @@ pub mod Passed
 pub mod Rounds
 pub mod Names
 pub mod Listed
+pub mod Built
+pub mod Traced
 pub mod Worked

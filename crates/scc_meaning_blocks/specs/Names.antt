@@ -2,7 +2,7 @@
 use Rattle.std.specs.Prelude.{ℕ, suc, Bool, true, false, not, ◌&&◌, ◌||◌, List, [], ◌∷◌, ◌++◌, filter, length, Option, Some, None, option_map, option_and_then, slice_get, unwrap_or, is_some, bytes_eq, codes, if◌then◌else◌}
 use Rattle.std.specs.List.{list_any, range_with_len}
 use Rattle.scc_meaning.specs.Location.{Location, same}
-use Rattle.scc_meaning_core.specs.Program.{Program, Process, Cell, is_root, is_local, is_pointer}
+use Rattle.scc_meaning_core.specs.Program.{Program, Process, Cell, is_root, is_variable, is_pointer}
 use Rattle.scc_meaning_core.specs.Static.{Cells}
 use Rattle.scc_meaning_core.specs.Kept.{written_by, is_kept}
 use Rattle.scc_meaning_core.specs.Uses.{has_sort, among}
@@ -11,9 +11,11 @@ use Rattle.scc_meaning_core.specs.Constants.{name_text}
 use Rattle.scc_meaning_core.specs.Segments.{counts}
 use Rattle.scc_meaning_core.specs.Sizes.{live_body, states}
 
--- A clocked process keeps the roots that it writes; as a method also its variables, as a thread what lives across a wait.
+-- A clocked process keeps the roots that it writes; a method also the variables that it writes, a thread what lives across a wait, be it a local that only
+-- statements write to which no path comes.
 abbrev pub keeps : Cells → ℕ → Process → ℕ → Bool
-keeps cs i q c = is_some q.edge && among c (written_by cs q) && (has_sort is_root cs c || (if q.is_thread then is_kept cs i q c else not (has_sort is_local cs c)))
+keeps cs i q c = is_some q.edge && ((has_sort is_root cs c && among c (written_by cs q))
+    || (if q.is_thread then is_kept cs i q c else has_sort is_variable cs c && among c (written_by cs q)))
 
 abbrev pub kept_from : Cells → ℕ → List Process → ℕ → Bool
 kept_from cs i [] c = false

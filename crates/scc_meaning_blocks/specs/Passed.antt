@@ -1,5 +1,5 @@
 -- What passes over cores keep, what a core is that the rules accept, and how a thread is cut. This project's own.
-use Rattle.std.specs.Prelude.{◌≡◌, ℕ, Bool, true, false, not, List, [], ◌∷◌, ◌++◌, map, filter, flat_map, Option, Some, None, slice_get}
+use Rattle.std.specs.Prelude.{◌≡◌, ℕ, Bool, true, false, not, List, [], ◌∷◌, ◌++◌, map, filter, flat_map, Option, Some, None, option_map, slice_get}
 use Rattle.scc_base.specs.declared.refusal.Place.{Place}
 use Rattle.scc_meaning.specs.Location.{Location}
 use Rattle.scc_running.specs.Body as machine
@@ -9,6 +9,7 @@ use Rattle.scc_running.specs.Process.{first_frames}
 use Rattle.scc_running.specs.Value.{Held}
 use Rattle.scc_running.specs.Start.{IsProper}
 use Rattle.scc_running.specs.Same.{SameDesign}
+use Rattle.scc_meaning_core.specs.Term.{CellName}
 use Rattle.scc_meaning_core.specs.Code.{Code, End, Put, Aim, If, Block, Loop, Exit, Wait, waits_in}
 use Rattle.scc_meaning_core.specs.Program.{Program, Process, Cell, is_pointer, is_combinational, is_root, is_variable}
 use Rattle.scc_meaning_core.specs.Static.{Cells}
@@ -53,16 +54,37 @@ pub record Keeps (d : running.Design) : Type 0 where
   pub pointers : (i : ℕ) (p : running.Process) (signals : Location → ℕ) (f : Frames) (h : Held)
       → slice_get d.processes i ≡ Some p → IsProper d signals → Comes d i p signals f h → next_points f ≡ false
 
--- the cells that are no pointers, and the processes by their names
+-- the cells that are no pointers
 abbrev pub plain_cells : Program → List Cell
 plain_cells p = filter (λ c. not (is_pointer c.sort)) p.cells
+
+-- a process but for its body; its sensitivity, edge and reset by the names of their cells
+pub record Heading : Type 0 where
+  pub is_thread : Bool
+  pub name : CellName
+  pub place : Place
+  pub senses : List (Option CellName)
+  pub edge : Option (Option CellName × Bool)
+  pub reset : Option (Option CellName × Bool × Bool)
+
+abbrev pub name_at : Cells → ℕ → Option CellName
+name_at cs n = option_map (λ c. c.name) (slice_get cs n)
+
+abbrev pub heading : Cells → Process → Heading
+heading cs q = record {
+  is_thread = q.is_thread;
+  name = q.name;
+  place = q.place;
+  senses = map (name_at cs) q.senses;
+  edge = option_map (λ e. (name_at cs e.cell, e.rising)) q.edge;
+  reset = option_map (λ r. (name_at cs r.cell, r.level, r.asynchronous)) q.reset;
+}
 
 pub record SameShape (c m : Program) : Type 0 where
   pub top : c.top ≡ m.top
   pub cells : plain_cells c ≡ plain_cells m
   pub vectors : c.vectors ≡ m.vectors
-  pub names : map (λ q. q.name) c.processes ≡ map (λ q. q.name) m.processes
-  pub sorts : map (λ q. q.is_thread) c.processes ≡ map (λ q. q.is_thread) m.processes
+  pub processes : map (heading c.cells) c.processes ≡ map (heading m.cells) m.processes
 
 abbrev pub IsInjective : Home → Type 0
 IsInjective home = (i j m n : ℕ) → home i m ≡ home j n → (i ≡ j) × (m ≡ n)

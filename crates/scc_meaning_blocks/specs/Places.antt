@@ -1,9 +1,9 @@
 -- The frames of a suspended thread by its place: the statements behind a wait of its live part, with what stands behind the statements around it. This
 -- project's own.
-use Rattle.std.specs.Prelude.{ℕ, zero, suc, Bool, true, false, List, [], ◌∷◌, ◌++◌, Option, Some, None, option_map, slice_get}
+use Rattle.std.specs.Prelude.{ℕ, Bool, true, false, List, [], ◌∷◌, ◌++◌, Option, Some, None, option_map, slice_get}
 use Rattle.scc_meaning.specs.Value.{Names}
 use Rattle.scc_running.specs.Body as machine
-use Rattle.scc_running.specs.Machine.{Frames, Stop, Go, Inner, BehindBlock}
+use Rattle.scc_running.specs.Machine.{Frames, Stop, Go, Inner, BehindBlock, waiting}
 use Rattle.scc_meaning_core.specs.Code.{Code, End, Put, Aim, If, Block, Loop, Exit, Wait}
 use Rattle.scc_meaning_core.specs.Static.{Cells, goes}
 use Rattle.scc_meaning_core.specs.Live.{alive}
@@ -27,8 +27,8 @@ module _ (home : Home) (cs : Cells) (i : ℕ) (names : Names) where
   abbrev pub rest_of : Code → Frames → Frames
   rest_of r outer = Go Inner names (body_of home cs i r) outer
 
-  -- the frames behind each wait that some path comes to, in text order
-  abbrev pub behind_waits : Code → Frames → List Frames
+  -- the frames behind each wait that some path comes to, in text order, with the number that the body gives the wait
+  abbrev pub behind_waits : Code → Frames → List (ℕ × Frames)
   behind_waits End outer = []
   behind_waits (Put p l k e r) outer = behind_waits r outer
   behind_waits (Aim p to t r) outer = behind_waits r outer
@@ -36,13 +36,8 @@ module _ (home : Home) (cs : Cells) (i : ℕ) (names : Names) where
   behind_waits (Block p b r) outer = behind_waits b (Go BehindBlock names (body_of home cs i r) outer) ++ if_ends (ends_of cs (Block p b End)) (behind_waits r outer)
   behind_waits (Loop p n b r) outer = behind_waits b (Go Inner names (machine.Loop (body_of home cs i b) (body_of home cs i r)) outer) ++ if_ends (ends_of cs (Loop p n b End)) (behind_waits r outer)
   behind_waits (Exit p n r) outer = []
-  behind_waits (Wait p l n r) outer = rest_of r outer ∷ behind_waits r outer
+  behind_waits (Wait p l n r) outer = (l, rest_of r outer) ∷ behind_waits r outer
 
   -- with so many more edges to wait for, a wait for them stands first
-  abbrev pub waiting : ℕ → Frames → Frames
-  waiting zero f = f
-  waiting (suc n) Stop = Stop
-  waiting (suc n) (Go mark m b outer) = Go mark m (machine.Wait zero (suc n) b) outer
-
   abbrev pub frames_at : Code → Place → Option Frames
-  frames_at body place = option_map (waiting place.left) (slice_get (behind_waits body Stop) place.number)
+  frames_at body place = option_map (λ w. waiting w.0 place.left w.1) (slice_get (behind_waits body Stop) place.number)

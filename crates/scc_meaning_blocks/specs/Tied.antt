@@ -1,11 +1,13 @@
 -- What ties the registers to the source's state on one side, and to a valuation of the module on the other. This project's own.
-use Rattle.std.specs.Prelude.{◌≡◌, ℕ, true, [], Option, Some, None, slice_get}
+use Rattle.std.specs.Prelude.{◌≡◌, ◌<◌, ◌^◌, ℕ, true, [], Option, Some, None, slice_get}
+use Rattle.scc_kinds.specs.Kinds.{width_of}
 use Rattle.scc_meaning.specs.Location.{Location}
 use Rattle.scc_meaning.specs.Value.{Names}
+use Rattle.scc_running.specs.Machine.{Frames, Stop, Go, Inner}
 use Rattle.scc_running.specs.Process.{State}
 use Rattle.scc_running.specs.Start.{HoldsConstant}
 use Rattle.scc_meaning_core.specs.Program.{Program, Process, Cell}
-use Rattle.scc_meaning_core.specs.Source.{Home, at_top, cell_location}
+use Rattle.scc_meaning_core.specs.Source.{Home, at_top, cell_location, body_of}
 use Rattle.scc_meaning_core.specs.Constants.{constants_of}
 use Rattle.scc_meaning_blocks.specs.Turns.{Regs}
 use Rattle.scc_meaning_blocks.specs.Effect.{Place}
@@ -16,11 +18,18 @@ use Rattle.scc_meaning_blocks.specs.Names.{holds_word}
 abbrev pub own_names : ℕ → Names
 own_names i = record { process = i; calls = []; object = Some (at_top []) }
 
--- Roots and registers hold the same words; what no process writes holds its constant; and the frames of a thread are those of its place.
+-- a process whose calls are copied before its first statement
+abbrev pub first_frames : Home → Program → ℕ → Process → Frames
+first_frames home p i q = Go Inner (own_names i) (body_of home p.cells i q.body) Stop
+
+-- Words fit; roots and registers hold the same words; what no process writes holds its constant; the frames of a thread are those of its place, and one that has
+-- none stands before its first statement.
 pub record Tied (home : Home) (p : Program) (s : State) (g : Regs) : Type 0 where
+  pub fits : (c : ℕ) (x : Cell) → slice_get p.cells c ≡ Some x → holds_word p c ≡ true → g.word c < 2 ^ width_of x.kind
   pub words : (c : ℕ) (x : Cell) → slice_get p.cells c ≡ Some x → holds_word p c ≡ true → s.store.words (cell_location home p x) ≡ g.word c
   pub constants : (l : Location) → HoldsConstant (constants_of home p l) (s.store.words l)
   pub places : (i : ℕ) (q : Process) (place : Place) → slice_get p.processes i ≡ Some q → g.place i ≡ Some place → frames_at home p.cells i (own_names i) q.body place ≡ Some (s.frames i)
+  pub begins : (i : ℕ) (q : Process) → slice_get p.processes i ≡ Some q → q.is_thread ≡ true → g.place i ≡ None → s.frames i ≡ first_frames home p i q
 
 -- Where a thread's state and counter stand among the variables; one without any is always in state 0, and waits for no further edge.
 pub record Registers : Type 0 where

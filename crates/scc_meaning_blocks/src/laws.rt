@@ -25,7 +25,11 @@ ghost use Rattle.scc_meaning_blocks.specs.Tied.{Tied, Mirrors, Registers, own_na
 ghost use Rattle.scc_meaning_blocks.specs.Passed.{Law, SameShape, TellsAccepted, thread_of};
 ghost use Rattle.scc_meaning_blocks.specs.Names.{registers, is_own, location_text, is_kept_at};
 ghost use Rattle.scc_meaning_blocks.specs.Listed.{process_line};
-ghost use Rattle.scc_meaning_blocks.specs.Worked.{first_edge, second_edge, first_frames_in, reader_first, some_cells, early_code};
+ghost use Rattle.scc_trace.specs.Text.{hex_text};
+ghost use Rattle.scc_meaning_blocks.specs.Traced.{trace_from, IsTrace, IsClockedTrace, generated_line};
+ghost use Rattle.scc_meaning_blocks.specs.Built.{Acts, AtEdge, owners, constant_outputs, InOrder, HasRegisters, IsBounded};
+ghost use Rattle.scc_svtree.specs.declared.module.SvModule.{SvModule};
+ghost use Rattle.scc_meaning_blocks.specs.Worked.{anything, first_edge, second_edge, first_frames_in, registers_after, words_after, waiting_thread, waiting_body, count_first, two_outputs, unwritten_local, reader_first, some_cells, early_code};
 ghost use Rattle.scc_meaning_core.specs.Source.{Home};
 
 /// The counting thread on registers: 0 at its reset, 1 behind the next edge; it stands behind wait 0, then behind wait 1.
@@ -35,6 +39,18 @@ pub fn registers_count()
     ensures one { second_edge.word 2 ≡ 1 }
     ensures next { second_edge.place 0 ≡ Some (record { number = 1; left = 0 }) }
     ensures kept { registers counting ≡ 2 ∷ 3 ∷ [] }
+{}
+
+/// Threads on registers: a wait for five edges that a reset ends, at which the thread stands behind wait 1 with two edges to wait for; an output that is read
+/// shows what was written before; a local that is read and that nothing writes is a register.
+pub fn registers_wait_and_are_reset()
+    ensures waits { words_after 2 waiting_thread (1 ∷ 0 ∷ 0 ∷ 0 ∷ 1 ∷ 0 ∷ 0 ∷ 0 ∷ 0 ∷ 0 ∷ 0 ∷ []) ≡ 0 ∷ 1 ∷ 1 ∷ 1 ∷ 0 ∷ 1 ∷ 1 ∷ 1 ∷ 1 ∷ 1 ∷ 0 ∷ [] }
+    ensures place { map (λ g. g.place 0) (registers_after waiting_thread (1 ∷ 0 ∷ 0 ∷ 0 ∷ []) anything) ≡
+        Some (record { number = 0; left = 0 }) ∷ Some (record { number = 1; left = 4 }) ∷ Some (record { number = 1; left = 3 }) ∷ Some (record { number = 1; left = 2 }) ∷ [] }
+    ensures frames { count_first (frames_at home count_cells 0 (own_names 0) waiting_body (record { number = 1; left = 2 })) ≡ Some 2 }
+    ensures written { words_after 2 two_outputs (1 ∷ 0 ∷ 0 ∷ []) ≡ 0 ∷ 3 ∷ 3 ∷ [] }
+    ensures read { words_after 3 two_outputs (1 ∷ 0 ∷ 0 ∷ []) ≡ 0 ∷ 0 ∷ 3 ∷ [] }
+    ensures unwritten { registers unwritten_local ≡ 1 ∷ 3 ∷ [] }
 {}
 
 /// The frames of its first suspension are those of its place; the registers are tied to a state, and mirrored by a valuation.
@@ -60,6 +76,16 @@ pub fn passes_keep_shapes()
     ensures waits { (thread_of count_cells 0 (record { is_thread = true; name = record { path = []; own = None; indices = [] }; place = at 0; senses = []; edge = None; reset = None; body = count_body })).waits ≡ 1 ∷ 1 ∷ [] }
 {}
 
+/// A module of a core has the blocks of its processes, its registers, and no more statements than its measure allows.
+pub fn modules_are_built_of_processes()
+    ensures blocks { owners counting [] ≡ Acts 0 ∷ AtEdge 0 ∷ [] }
+    ensures order { owners reader_first (1 ∷ 0 ∷ []) ≡ Acts 1 ∷ Acts 0 ∷ [] }
+    ensures constants { constant_outputs counting ≡ [] }
+    ensures mentions { (text : ℕ → List ℕ) (p : Program) (m : SvModule) → InOrder text p m → (order : List ℕ) × IsOrder p order }
+    ensures state { (text : ℕ → List ℕ) (p : Program) (m : SvModule) → HasRegisters text p m → HasRegisters text p m }
+    ensures bounded { (p : Program) (m : SvModule) → IsBounded p m → IsBounded p m }
+{}
+
 /// The writer of a signal comes first.
 pub fn a_reader_stands_behind_its_writer()
     ensures { IsOrder reader_first (1 ∷ 0 ∷ []) }
@@ -68,6 +94,15 @@ pub fn a_reader_stands_behind_its_writer()
 /// Of an array of which one element may not have been written, that element is read too early.
 pub fn an_element_is_read_early()
     ensures { map (λ e. e.1) (flow some_cells early_code (λ x. true)).early ≡ (0 ∷ []) ∷ (0 ∷ []) ∷ (2 ∷ []) ∷ [] }
+{}
+
+/// The trace of a design, with one clock and with several, and the line of a generated design.
+pub fn the_trace_of_a_design()
+    ensures none { (text : Location → List ℕ) (d : Design) → trace_from text d 0 [] ≡ [] }
+    ensures trace { (text : Location → List ℕ) (d : Design) (file : ℕ) (stimulus trace : List ℕ) → IsTrace text d file stimulus trace → IsTrace text d file stimulus trace }
+    ensures clocked { (text : Location → List ℕ) (d : Design) (file : ℕ) (stimulus trace : List ℕ) → IsClockedTrace text d file stimulus trace → IsClockedTrace text d file stimulus trace }
+    ensures line { generated_line 1 counting (record { name = []; vars = []; blocks = [] }) 7 ≡ codes "stages " ++ (decimal 1 ++ (codes " processes " ++ (decimal 1 ++ (codes " registers " ++ (decimal 0
+        ++ (codes " states " ++ (decimal 2 ++ (codes " q " ++ (hex_text 4 7 ++ codes "\n"))))))))) }
 {}
 
 /// The line of the counting thread, and which names are a thread's own.

@@ -5,6 +5,8 @@
 mod laws;
 
 pub use laws::{
-    a_reader_stands_behind_its_writer, an_element_is_read_early, passes_keep_shapes,
-    registers_count, the_list_of_the_counting_thread, valuations_show_stores, waits_have_frames,
+    a_reader_stands_behind_its_writer, an_element_is_read_early, modules_are_built_of_processes,
+    passes_keep_shapes, registers_count, registers_wait_and_are_reset,
+    the_list_of_the_counting_thread, the_trace_of_a_design, valuations_show_stores,
+    waits_have_frames,
 };
