@@ -4,8 +4,8 @@ use Rattle.scc_base.specs.declared.refusal.Place.{Place}
 use Rattle.scc_base.specs.declared.code.Code.TheVariants as reason
 use Rattle.scc_kinds.specs.declared.kind.Kind.TheVariants as kind
 use Rattle.scc_meaning_static.specs.Walk.{Args, Nil, Cons, Value}
-use Rattle.scc_meaning_static.specs.Walked.{Walked, pure, fault}
-use Rattle.scc_meaning_static.specs.World.{Key, Constant, Owner, File, In, Link, World, world}
+use Rattle.scc_meaning_static.specs.Walked.{Walked, pure, fault, and_walk}
+use Rattle.scc_meaning_static.specs.World.{Key, Constant, Special, Owner, File, In, Link, World, world}
 
 abbrev pub here : Place
 here = record { file = 0; at = 0 }
@@ -37,3 +37,48 @@ meant chain w k = fault reason.UnknownName here
 
 abbrev pub asked : ℕ → Walked ℕ
 asked n = world ℕ meant 100 [] (constant_of n) here
+
+-- `template<int N> struct G { static const int w = 1; }; template<> struct G<F<40>::v + 5> {};`, with H like F but `H<0>::u = G<2>::w`; and `template<int N> struct C
+-- { static const int v = N; }; template<> struct C<E<2>::v> {};`, where E<N>::v is C<1>::v. F, G, H, C and E are the classes 0 to 4. A use of a class asks for
+-- its specialisations first.
+abbrev pub constant_in : ℕ → ℕ → Key
+constant_in c n = Constant (In c (number n)) 0 0
+
+abbrev pub used : World ℕ → ℕ → ℕ → Walked ℕ
+used w c n = and_walk (w (Special c) there) (λ x. w (constant_in c n) there)
+
+abbrev pub of_h : World ℕ → ℕ → Walked ℕ
+of_h w zero = used w 1 2
+of_h w (suc n) = w (constant_in 2 (suc n - 1)) there
+
+abbrev pub of_number : World ℕ → ℕ → ℕ → Walked ℕ
+of_number w zero n = by_number w n
+of_number w (suc zero) n = pure 1
+of_number w (suc (suc zero)) n = of_h w n
+of_number w (suc (suc (suc zero))) n = pure n
+of_number w (suc (suc (suc (suc c)))) n = used w 3 1
+
+abbrev pub of_class : World ℕ → ℕ → Args → Walked ℕ
+of_class w c (Cons (Value k n) Nil) = of_number w c n
+of_class w c args = fault reason.Arguments here
+
+abbrev pub of_owner : World ℕ → Owner → Walked ℕ
+of_owner w File = fault reason.UnknownName here
+of_owner w (In c args) = of_class w c args
+
+-- what the arguments of a class's specialisations ask for
+abbrev pub of_special : World ℕ → ℕ → Walked ℕ
+of_special w (suc zero) = w (constant_in 0 40) there
+of_special w (suc (suc (suc zero))) = w (constant_in 4 2) here
+of_special w c = pure 0
+
+abbrev pub special_meant : List Link → World ℕ → Key → Walked ℕ
+special_meant chain w (Constant o i e) = of_owner w o
+special_meant chain w (Special c) = of_special w c
+special_meant chain w k = fault reason.UnknownName here
+
+abbrev pub asked_beside : ℕ → ℕ → Walked ℕ
+asked_beside c n = world ℕ special_meant 200 [] (constant_in c n) here
+
+abbrev pub used_beside : ℕ → ℕ → Walked ℕ
+used_beside c n = used (world ℕ special_meant 200 []) c n

@@ -4,12 +4,19 @@ ghost use Rattle.scc_base.specs.declared.code.Code.TheVariants as reason;
 ghost use Rattle.scc_meaning_static.specs.Walk.{Event, Fault, Need, Late, Free, Tally, Went, empty, go};
 ghost use Rattle.scc_meaning_static.specs.Walked.{pure, fault};
 ghost use Rattle.scc_meaning_static.specs.Stage.{judged, stage, IsReached};
-ghost use Rattle.scc_meaning_static.specs.Worked.{asked, here, there};
+ghost use Rattle.scc_meaning_static.specs.Worked.{asked, asked_beside, used_beside, here, there};
 
 /// A chain of 64 classes whose constants ask for one another has a value, one of 65 is refused where the last is asked for.
 pub fn chains_of_constants_are_bounded()
     ensures value { asked 63 ≡ pure 1 }
     ensures refused { asked 64 ≡ fault reason.TemplateDepth there }
+{}
+
+/// Specialisations are worked out in a chain of their own: 31 classes that ask for a class whose specialisations ask for 41 others have a value. A class that is
+/// used while its own are worked out is refused at that use.
+pub fn specialisations_begin_a_chain()
+    ensures own { asked_beside 2 30 ≡ pure 1 }
+    ensures again { used_beside 3 3 ≡ fault reason.TemplateDepth there }
 {}
 
 /// What is needed is noted once, in order; a late call is refused before what is refused behind it, but for a smaller number at its own place.

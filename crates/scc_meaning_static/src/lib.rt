@@ -3,4 +3,6 @@
 
 mod laws;
 
-pub use laws::{chains_of_constants_are_bounded, the_first_of_a_walk_stops_it};
+pub use laws::{
+    chains_of_constants_are_bounded, specialisations_begin_a_chain, the_first_of_a_walk_stops_it,
+};
