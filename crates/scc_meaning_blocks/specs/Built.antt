@@ -74,11 +74,15 @@ pub record IsNameOf (text : ℕ → List ℕ) (cs : Cells) (cells : List ℕ) (n
   pub among_them : among cell cells ≡ true
   pub is_name : name ≡ name_text text here.name
 
+-- a variable of a process: a location's that it names, or one of its own
+pub data IsOfProcess (text : ℕ → List ℕ) (cs : Cells) (q : Process) : List ℕ → Type 0 where
+  named : {name : List ℕ} → IsNameOf text cs (cells_named cs q) name → IsOfProcess text cs q name
+  own : {name : List ℕ} → IsOwn text q name → IsOfProcess text cs q name
+
 -- what a process's blocks may mention beside ports
 pub data MayMention (text : ℕ → List ℕ) (cs : Cells) (q : Process) : List ℕ → Type 0 where
-  named : {name : List ℕ} → IsNameOf text cs (cells_named cs q) name → MayMention text cs q name
-  own : {name : List ℕ} → IsOwn text q name → MayMention text cs q name
-  next : {name : List ℕ} → MayMention text cs q name → MayMention text cs q (next_name name)
+  itself : {name : List ℕ} → IsOfProcess text cs q name → MayMention text cs q name
+  next : {name : List ℕ} → IsOfProcess text cs q name → MayMention text cs q (next_name name)
 
 abbrev pub MayStand : (ℕ → List ℕ) → Program → SvVar → Owner → Type 0
 MayStand text p x Constants = IsNameOf text p.cells (constant_outputs p) x.name
