@@ -68,10 +68,7 @@ impl Grown {
 
     /// What a variable holds, by its object's number; None where the object is no variable.
     pub fn number(&self, number: u32) -> Result<Option<Value>, NoMemory> {
-        match self.thing(number)?.sort {
-            ThingSort::Variable(value) => Ok(Some(value)),
-            _ => Ok(None),
-        }
+        Ok(held(self.thing(number)?.sort))
     }
 
     // Makes an object within the limits; its number.
@@ -129,5 +126,13 @@ impl Grown {
             return Ok(false);
         };
         Ok(matches!(self.thing(number)?.sort, ThingSort::Module(_)))
+    }
+}
+
+// What a variable holds.
+fn held(sort: ThingSort) -> Option<Value> {
+    match sort {
+        ThingSort::Variable(value) => Some(value),
+        _ => None,
     }
 }
