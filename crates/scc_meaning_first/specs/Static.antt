@@ -1,11 +1,11 @@
 -- The first refusal of the static stage, by the walks over a source: declarations first, then what the top needs, then calls by a class's name, then what comes
 -- back to itself. This project's own.
-use Rattle.std.specs.Prelude.{ℕ, List, [], ◌∷◌, ◌++◌, Option}
+use Rattle.std.specs.Prelude.{List, [], ◌∷◌, ◌++◌, Option}
 use Rattle.scc_base.specs.declared.refusal.Refusal.{Refusal}
 use Rattle.scc_meaning_core.specs.First.{first_some}
 use Rattle.scc_meaning_static.specs.Walk.{Event, Needed, Went, go, empty}
 use Rattle.scc_meaning_static.specs.Stage.{staged_from, judged, all_of}
-use Rattle.scc_meaning_first.specs.Recursion.{Named, by_class, recursive}
+use Rattle.scc_meaning_first.specs.Recursion.{Body, Named, by_class, recursive}
 
 -- The walks over a source and its top.
 pub record Walks : Type 0 where
@@ -15,9 +15,8 @@ pub record Walks : Type 0 where
   pub top : List Event
   -- over a class with arguments, its members and then its functions; over a function of no class
   pub needed : Needed → List Event
-  -- over the body of each function by its number, so many in all
-  pub body : ℕ → List Event
-  pub functions : ℕ
+  -- the bodies, given what is needed in order
+  pub bodies : List Needed → List Body
   -- what is walked by name, given what is needed in order
   pub named : List Needed → List Named
 
@@ -29,4 +28,4 @@ abbrev pub walked : Walks → List Event
 walked w = w.top ++ all_of w.needed (staged w).tally.queue
 
 abbrev pub refusal_of : Walks → Option Refusal
-refusal_of w = first_some ((go w.declarations empty).stop ∷ judged (staged w) ∷ by_class w.body w.functions (walked w) ∷ recursive (w.named (staged w).tally.queue) ∷ [])
+refusal_of w = first_some ((go w.declarations empty).stop ∷ judged (staged w) ∷ by_class (w.bodies (staged w).tally.queue) (walked w) ∷ recursive (w.named (staged w).tally.queue) ∷ [])

@@ -63,6 +63,18 @@ pub data How : Type 0 where
   ByClass : How
   OnOther : How
 
+-- what is called: a function of no class by its name, a function of a class with arguments, its constructor
+pub data Callee : Type 0 where
+  OfFile : (name : ℕ) → Callee
+  OfClass : (class : ℕ) (args : Args) (name : ℕ) → Callee
+  Constructs : (class : ℕ) (args : Args) → Callee
+
+abbrev pub same_callee : Callee → Callee → Bool
+same_callee (OfFile x) (OfFile y) = nat_eq x y
+same_callee (OfClass c xs x) (OfClass d ys y) = nat_eq c d && (same_args xs ys && nat_eq x y)
+same_callee (Constructs c xs) (Constructs d ys) = nat_eq c d && same_args xs ys
+same_callee _ _ = false
+
 pub data Event : Type 0 where
   -- a predicate of the refusals holds here; the second place that it speaks of
   Fault : (code : Reason) (place : Place) (other : Option Place) → Event
@@ -71,7 +83,7 @@ pub data Event : Type 0 where
   Late : (place : Place) → Event
   -- `this`, or a member by itself, is named
   Uses : Event
-  Calls : (function : ℕ) (how : How) (place : Place) → Event
+  Calls : (callee : Callee) (how : How) (place : Place) → Event
 
 -- what is needed so far, in order, and the first late place
 pub record Tally : Type 0 where

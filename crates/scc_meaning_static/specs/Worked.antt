@@ -5,7 +5,7 @@ use Rattle.scc_base.specs.declared.code.Code.TheVariants as reason
 use Rattle.scc_kinds.specs.declared.kind.Kind.TheVariants as kind
 use Rattle.scc_meaning_static.specs.Walk.{Args, Nil, Cons, Value}
 use Rattle.scc_meaning_static.specs.Walked.{Walked, pure, fault, and_walk}
-use Rattle.scc_meaning_static.specs.World.{Key, Constant, Special, Owner, File, In, Link, World, world}
+use Rattle.scc_meaning_static.specs.World.{Key, Constant, Special, Owner, File, In, World, world}
 
 abbrev pub here : Place
 here = record { file = 0; at = 0 }
@@ -31,9 +31,9 @@ abbrev pub by_owner : World ℕ → Owner → Walked ℕ
 by_owner w File = fault reason.UnknownName here
 by_owner w (In c args) = by_args w args
 
-abbrev pub meant : List Link → World ℕ → Key → Walked ℕ
-meant chain w (Constant o i e) = by_owner w o
-meant chain w k = fault reason.UnknownName here
+abbrev pub meant : World ℕ → Key → Place → Walked ℕ
+meant w (Constant o i e) p = by_owner w o
+meant w k p = fault reason.UnknownName here
 
 abbrev pub asked : ℕ → Walked ℕ
 asked n = world ℕ meant 100 [] (constant_of n) here
@@ -72,10 +72,10 @@ of_special w (suc zero) = w (constant_in 0 40) there
 of_special w (suc (suc (suc zero))) = w (constant_in 4 2) here
 of_special w c = pure 0
 
-abbrev pub special_meant : List Link → World ℕ → Key → Walked ℕ
-special_meant chain w (Constant o i e) = of_owner w o
-special_meant chain w (Special c) = of_special w c
-special_meant chain w k = fault reason.UnknownName here
+abbrev pub special_meant : World ℕ → Key → Place → Walked ℕ
+special_meant w (Constant o i e) p = of_owner w o
+special_meant w (Special c) p = of_special w c
+special_meant w k p = fault reason.UnknownName here
 
 abbrev pub asked_beside : ℕ → ℕ → Walked ℕ
 asked_beside c n = world ℕ special_meant 200 [] (constant_in c n) here

@@ -4,7 +4,7 @@ use Rattle.std.specs.Prelude.{ℕ, zero, suc, ◌+◌, nat_eq, nat_lt, Bool, tru
 use Rattle.std.specs.List.{list_any}
 use Rattle.scc_base.specs.declared.refusal.Place.{Place}
 use Rattle.scc_base.specs.declared.code.Code.TheVariants as reason
-use Rattle.scc_meaning_static.specs.Walk.{Args, same_args}
+use Rattle.scc_meaning_static.specs.Walk.{Args, same_args, same_bool}
 use Rattle.scc_meaning_static.specs.Walked.{Walked, fault}
 
 -- whose constant or alias it is
@@ -18,11 +18,10 @@ pub data Key : Type 0 where
   Alias : (owner : Owner) (item : ℕ) → Key
   -- the arguments of a class's specialisations
   Special : (class : ℕ) → Key
-
--- what is being worked out: a key, or the defaults of a class's arguments
-pub data Link : Type 0 where
-  Asked : (key : Key) → Link
-  Filling : (class : ℕ) (args : Args) → Link
+  -- the bodies outside a class of one of its functions: those for given arguments alone, or all
+  Bodies : (class name : ℕ) (constructor all : Bool) → Key
+  -- the default of the argument behind these
+  Default : (class : ℕ) (args : Args) → Key
 
 abbrev pub same_owner : Owner → Owner → Bool
 same_owner File File = true
@@ -33,14 +32,11 @@ abbrev pub same_key : Key → Key → Bool
 same_key (Constant o i e) (Constant p j f) = same_owner o p && (nat_eq i j && nat_eq e f)
 same_key (Alias o i) (Alias p j) = same_owner o p && nat_eq i j
 same_key (Special c) (Special d) = nat_eq c d
+same_key (Bodies c x k a) (Bodies d y j b) = nat_eq c d && (nat_eq x y && (same_bool k j && same_bool a b))
 same_key _ _ = false
 
-abbrev pub is_asked : Key → Link → Bool
-is_asked k (Asked j) = same_key k j
-is_asked k (Filling c args) = false
-
--- The members of a chain, newest first, back to where specialisations are worked out, which begin a chain of their own: each class with arguments whose constants
--- or defaults are worked out. Constants of files and aliases are none.
+-- The members of a chain of what is being worked out, newest first, back to where specialisations are, which begin a chain of their own: each class with arguments
+-- whose constants or defaults are worked out. Constants of files, aliases and bodies are none.
 pub data Member : Type 0 where
   Owned : (class : ℕ) (args : Args) → Member
   Filled : (class : ℕ) (args : Args) → Member
@@ -49,12 +45,13 @@ abbrev pub member_of : Owner → List Member → List Member
 member_of File ms = ms
 member_of (In c args) ms = Owned c args ∷ ms
 
-abbrev pub members : List Link → List Member
+abbrev pub members : List Key → List Member
 members [] = []
-members (Asked (Constant o i e) ∷ c) = member_of o (members c)
-members (Asked (Alias o i) ∷ c) = members c
-members (Asked (Special k) ∷ c) = []
-members (Filling k args ∷ c) = Filled k args ∷ members c
+members (Constant o i e ∷ c) = member_of o (members c)
+members (Alias o i ∷ c) = members c
+members (Special k ∷ c) = []
+members (Bodies k x o a ∷ c) = members c
+members (Default k args ∷ c) = Filled k args ∷ members c
 
 abbrev pub same_member : Member → Member → Bool
 same_member (Owned c xs) (Owned d ys) = nat_eq c d && same_args xs ys
@@ -66,7 +63,7 @@ count [] = 0
 count (m ∷ []) = 1
 count (m ∷ n ∷ ms) = if same_member m n then count (n ∷ ms) else 1 + count (n ∷ ms)
 
-abbrev pub is_deep : List Link → Bool
+abbrev pub is_deep : List Key → Bool
 is_deep c = nat_lt 64 (count (members c))
 
 -- what a key means in the world behind it, and, for a number of each kind that is asked for, what it is
@@ -77,11 +74,11 @@ abbrev pub unless : {A : Type 0} → Bool → Place → Walked A → Walked A
 unless true p w = fault reason.TemplateDepth p
 unless false p w = w
 
--- `meant` is what a key means by substitution, in a world for what it asks, given the chain with it. The world has so many steps; the outermost one so many that no chain is longer.
-module _ (A : Type 0) (meant : List Link → World A → Key → Walked A) where
-  abbrev pub world : ℕ → List Link → World A
+-- `meant` is what a key means by substitution, in a world for what it asks, at the place of the asker. The world has so many steps; the outermost one so many that no chain is longer.
+module _ (A : Type 0) (meant : World A → Key → Place → Walked A) where
+  abbrev pub world : ℕ → List Key → World A
   world zero c k p = fault reason.TemplateDepth p
-  world (suc n) c k p = unless (list_any (is_asked k) c || is_deep (Asked k ∷ c)) p (meant (Asked k ∷ c) (world n (Asked k ∷ c)) k)
+  world (suc n) c k p = unless (list_any (same_key k) c || is_deep (k ∷ c)) p (meant (world n (k ∷ c)) k p)
 
   unfoldable pub outermost : World A
   outermost k p = world 18446744073709551615 [] k p
