@@ -1,5 +1,5 @@
 -- `template<int N> struct F { static const int v = F<N - 1>::v; };` with `F<0>::v = 1`: a chain of 64 has a value, one of 65 is refused.
-use Rattle.std.specs.Prelude.{ℕ, zero, suc, ◌-◌, true, List, []}
+use Rattle.std.specs.Prelude.{ℕ, zero, suc, ◌-◌, true, []}
 use Rattle.scc_base.specs.declared.refusal.Place.{Place}
 use Rattle.scc_base.specs.declared.code.Code.TheVariants as reason
 use Rattle.scc_kinds.specs.declared.kind.Kind.TheVariants as kind

@@ -1,0 +1,10 @@
+pub mod Tree
+pub mod Replace
+pub mod Statements
+pub mod ReplaceBody
+pub mod Source
+pub mod View
+pub mod StatementView
+pub mod SourceView
+pub mod Twice
+pub mod Worked

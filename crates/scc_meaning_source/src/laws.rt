@@ -1,0 +1,26 @@
+//! Laws that cite the definitions.
+ghost use Rattle.std.specs.Prelude.{◌≡◌, [], ◌∷◌, map, Some};
+ghost use Rattle.scc_base.specs.declared.code.Code.TheVariants as reason;
+ghost use Rattle.scc_tree.specs.declared.item.FileTree.{FileTree};
+ghost use Rattle.scc_meaning_static.specs.Walk.{Fault};
+ghost use Rattle.scc_meaning_source.specs.Tree.{Name, Given};
+ghost use Rattle.scc_meaning_source.specs.ReplaceBody.{replace_stmts};
+ghost use Rattle.scc_meaning_source.specs.SourceView.{source_of, top_of};
+ghost use Rattle.scc_meaning_source.specs.Twice.{twice};
+ghost use Rattle.scc_meaning_source.specs.Worked.{at, both, bound, eight, body};
+
+/// A source has the declarations of its tree.
+pub fn a_source_is_its_tree()
+    ensures { (t : FileTree) → (source_of t).items ≡ map top_of t.items }
+{}
+
+/// A local variable hides a parameter of its name, in its own value too.
+pub fn parameters_are_replaced()
+    ensures hidden { replace_stmts bound (body (Name (at 2) 22) (Name (at 4) 22)) ≡ body (Name (at 2) 22) (Name (at 4) 22) }
+    ensures other { replace_stmts (λ x. Some eight) (body (Name (at 2) 23) (Name (at 4) 22)) ≡ body (Given (at 2) eight) (Name (at 4) 22) }
+{}
+
+/// A class that is declared again is refused there; the other place is the first.
+pub fn names_are_declared_once()
+    ensures { twice both ≡ Fault reason.DuplicateName (at 4) (Some (at 2)) ∷ [] }
+{}
