@@ -20,7 +20,8 @@ use Rattle.scc_meaning_program.specs.Calls.{constant}
 use Rattle.scc_meaning_program.specs.Drafts.{Draft, kind_in, converted}
 use Rattle.scc_meaning_program.specs.Room.{Around, Known, Writes, nothing, then_write, Step, done, found, and_step, in_room, declare, written}
 use Rattle.scc_meaning_program.specs.Expressions.{value, condition}
-use Rattle.scc_meaning_program.specs.Single.{local, simple, give, wait, process, senses, reset}
+use Rattle.scc_meaning_program.specs.Single.{local, simple, give, wait}
+use Rattle.scc_meaning_program.specs.Processes.{process, senses, reset}
 use Rattle.scc_meaning_program.specs.Loops.{loop_test, turn, looped, for_loop}
 use Rattle.scc_meaning_program.specs.Switch.{Flow, in_turn, in_cases, Cases, no_cases, unless_met, test, at_case, at_default, behind_stmts, switched}
 

@@ -22,6 +22,7 @@ pub mod Making
 pub mod Simple
 pub mod Loops
 pub mod Single
+pub mod Processes
 pub mod Switch
 pub mod Bodies
 pub mod Inits
@@ -35,3 +36,4 @@ pub mod WorkedProgram
 pub mod WorkedTemplates
 pub mod WorkedBodies
 pub mod WorkedConstructors
+pub mod WorkedScopes

@@ -42,14 +42,14 @@ method x b = record { place = here; name = x; constructor = false; result = None
 abbrev pub body : Stmts
 body = declare 26 (Sized here family.Uint (named 22)) (named 22) (declare 22 int_type (named 22) (Simply (Assign here (named 23) None here (Operate here here op.Add (named 26) (named 22))) End))
 
-abbrev pub template : Class
-template = record { params = parameter 22 ∷ []; special = None; is_module = false; members = Variable 0 (field 23 int_type) ∷ Variable 1 (field 24 int_type) ∷ Declares 0 (record { place = here; name = Some 25; said = Declared (method 25 body) }) ∷ [] }
+abbrev pub template : Stmts → Class
+template b = record { params = parameter 22 ∷ []; special = None; is_module = false; members = Variable 0 (field 23 int_type) ∷ Variable 1 (field 24 int_type) ∷ Declares 0 (record { place = here; name = Some 25; said = Declared (method 25 b) }) ∷ [] }
 
 abbrev pub user : Class
 user = record { params = []; special = None; is_module = false; members = Variable 0 (field 27 (Named here 20 true (ByValue (literal 8) NoArgs))) ∷ [] }
 
-abbrev pub hiding : Source
-hiding = record { items = OfClass here (Some 20) template ∷ OfClass here (Some 21) user ∷ []; end = here }
+abbrev pub templated : Stmts → Source
+templated b = record { items = OfClass here (Some 20) (template b) ∷ OfClass here (Some 21) user ∷ []; end = here }
 
 abbrev pub member : ℕ → code.Base → code.Member
 member x b = record { name = x; place = here; shape = record { base = b; reach = code.Direct; vector = false; sizes = [] } }

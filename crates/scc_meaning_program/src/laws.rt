@@ -22,8 +22,9 @@ ghost use Rattle.scc_running.specs.Design.{Design};
 ghost use Rattle.scc_base.specs.declared.refusal.Refusal.{Refusal};
 ghost use Rattle.scc_meaning_program.specs.Scope.{Number_};
 ghost use Rattle.scc_meaning_program.specs.WorkedProgram.{program_by, body_by, bare, bare_program, second};
-ghost use Rattle.scc_meaning_program.specs.WorkedTemplates.{hiding, hidden, counting, args, literal as literal_tree};
+ghost use Rattle.scc_meaning_program.specs.WorkedTemplates.{templated, body as hiding_body, hidden, counting, args, literal as literal_tree};
 ghost use Rattle.scc_meaning_program.specs.WorkedBodies.{with_body, for_body, for_code, switch_body, switch_code, late_body, call_body, call_code, endless_body, twice_body, wait_body, width_body, break_body};
+ghost use Rattle.scc_meaning_program.specs.WorkedScopes.{scoped_body, scoped_code, asking};
 ghost use Rattle.scc_meaning_program.specs.WorkedConstructors.{constructing, constructed};
 ghost use Rattle.scc_meaning_source.specs.Worked.{at, both};
 ghost use Rattle.scc_meaning_program.specs.Worked.{here, loaded, sum, nowhere, unasked, around};
@@ -79,7 +80,7 @@ pub fn a_top_is_a_program()
 #[tactic(auto, unfolding(scc_meaning_static::specs::Stage::staged_from))]
 pub fn templates_are_substituted()
     ensures constant { (behind_chain counting 12 [] (Constant (In 0 (args 2)) 0 0) here).value ≡ Some (Number_ (number int 1)) }
-    ensures hides { program_by hiding 21 ≡ Made hidden }
+    ensures hides { program_by (templated hiding_body) 21 ≡ Made hidden }
 {}
 
 /// A loop that counts, a `switch` with a label behind `default`, a call before its statement; and a call in a loop's head, which is refused before what stands behind it.
@@ -118,4 +119,11 @@ pub fn wrong_bodies_are_refused()
     ensures count { program_by (with_body wait_body) 20 ≡ Stopped (refused reason.ConstRange (at 7)) }
     ensures constant { program_by (with_body width_body) 20 ≡ Stopped (refused reason.NotConstant (at 7)) }
     ensures leaves { program_by (with_body break_body) 20 ≡ Stopped (refused reason.Mismatch (at 7)) }
+{}
+
+/// A reference in the braces of a `switch` is known up to the next label; a class isn't asked for while its own specialisations are worked out.
+#[tactic(auto, unfolding(scc_meaning_static::specs::Stage::staged_from))]
+pub fn names_are_known_in_their_scopes()
+    ensures label { body_by (program_by (templated scoped_body) 21) 0 ≡ Some scoped_code }
+    ensures special { program_by asking 33 ≡ Stopped (refused reason.TemplateDepth (at 5)) }
 {}
