@@ -16,7 +16,7 @@ after_static None later = later
 abbrev pub staged : (many : Bool) → Walks → Plain → Option (Tried core.Program)
 staged many w plain = after_static (refusal_of w) (compiled many plain)
 
-abbrev pub refusal_in : Tried core.Program → Option Refusal
+abbrev pub refusal_in : {A : Type 0} → Tried A → Option Refusal
 refusal_in (Made p) = None
 refusal_in (Stopped r) = Some r
 

@@ -1,6 +1,6 @@
 -- What a source and the name of a top come to over all stages (IEEE 1666-2011, 4.2, 5.2): a design, or the first refusal. What no process writes is constant, which is
 -- read off the core behind all stages.
-use Rattle.std.specs.Prelude.{◌≡◌, ℕ, Bool, [], Option, Some, None, option_map, option_and_then}
+use Rattle.std.specs.Prelude.{◌≡◌, ℕ, Bool, [], Option, Some, option_map, option_and_then}
 use Rattle.scc_base.specs.declared.refusal.Refusal.{Refusal}
 use Rattle.scc_meaning.specs.Location.{Answer}
 use Rattle.scc_running.specs.Design.{Design}
@@ -14,6 +14,7 @@ use Rattle.scc_meaning_plain.specs.Elaborated.{elaborated}
 use Rattle.scc_meaning_plain.specs.Static.{inlined}
 use Rattle.scc_meaning_plain.specs.Stages.{accepted}
 use Rattle.scc_meaning_plain.specs.Meant.{design_of}
+use Rattle.scc_meaning_first.specs.Stages.{refusal_in}
 use Rattle.scc_tree.specs.declared.item.FileTree.{FileTree}
 use Rattle.scc_meaning_source.specs.SourceView.{source_of}
 use Rattle.scc_meaning_program.specs.Program.{program_of}
@@ -46,10 +47,6 @@ design_in c = design_of c.plain c.built (constants_of any_home c.core)
 -- the design of a source, and what is refused of it first
 abbrev pub IsDesignOf : (many : Bool) → FileTree → ℕ → Design → Type 0
 IsDesignOf many tree top d = option_map (made_map design_in) (compiled many tree top) ≡ Some (Made d)
-
-abbrev pub refusal_in : {A : Type 0} → Tried A → Option Refusal
-refusal_in (Made a) = None
-refusal_in (Stopped r) = Some r
 
 abbrev pub first_refusal : (many : Bool) → FileTree → ℕ → Option Refusal
 first_refusal many tree top = option_and_then refusal_in (compiled many tree top)
