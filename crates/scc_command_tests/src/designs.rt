@@ -1,17 +1,18 @@
-//! Worked designs: what both sides show of them, what is listed of them, and the generated ones.
-use crate::command::{Answer, answered};
-use scc_base::Text;
-use std::alloc::Global;
+//! Worked designs: what both sides show of them, and what is listed of them.
+use crate::command::{answered, is_whole, shows, trace};
+use crate::counter::COUNT;
 use std::test::Fail;
 
-// a counter of 8 bits goes round
-const COUNT: &str = "#include <systemc.h>
-SC_MODULE(Count) {
-  sc_in<bool> clk, rst;
-  sc_out<sc_uint<8> > q;
-  sc_uint<8> n;
-  void run() { n = 0; q.write(0); wait(); while (true) { n++; q.write(n); wait(); } }
-  SC_CTOR(Count) { SC_CTHREAD(run, clk.pos()); reset_signal_is(rst, true); }
+// one input, and no process
+const INPUT: &str = "SC_MODULE(A) { sc_in<bool> x; SC_CTOR(A) {} };";
+
+// a method without registers
+const AND: &str = "#include <systemc.h>
+SC_MODULE(And) {
+  sc_in<sc_uint<8> > a, b;
+  sc_out<sc_uint<8> > y;
+  void f() { y.write(a.read() & b.read()); }
+  SC_CTOR(And) { SC_METHOD(f); sensitive << a << b; }
 };
 ";
 
@@ -203,81 +204,6 @@ SC_MODULE(D) {
 };
 ";
 
-const FIFO_HEADER: &str = "#ifndef FIFO_H
-#define FIFO_H
-#include <systemc.h>
-#define DEPTH 16
-SC_MODULE(Fifo) {
-  sc_in<bool> clk, rst_n, put, get;
-  sc_in<sc_uint<8> > din;
-  sc_out<sc_uint<8> > dout;
-  sc_out<bool> full, empty;
-  sc_signal<sc_uint<5> > count;
-  sc_uint<8> mem[DEPTH];
-  sc_uint<4> rd, wr;
-  void flags();
-  void run();
-  SC_CTOR(Fifo) {
-    SC_METHOD(flags); sensitive << count;
-    SC_CTHREAD(run, clk.pos());
-    reset_signal_is(rst_n, false);
-  }
-};
-#endif // FIFO_H
-";
-
-const FIFO: &str = "#include \"fifo.h\"
-void Fifo::flags() {
-  full.write(count.read() == DEPTH);
-  empty.write(count.read() == 0);
-}
-void Fifo::run() {
-  rd = 0; wr = 0; count.write(0); dout.write(0);
-  wait();
-  while (true) {
-    sc_uint<5> c = count.read();
-    if (put.read() && c != DEPTH) { mem[wr] = din.read(); wr++; c++; }
-    if (get.read() && count.read() != 0) { dout.write(mem[rd]); rd++; c--; }
-    count.write(c);
-    wait();
-  }
-}
-";
-
-fn has(text: &[u8], line: &str) -> bool {
-    text.split(|b| *b == b'\n').any(|l| l == line.as_bytes())
-}
-
-/// The trace of the source, where it is that of the emitted text and nothing is said; else None. The files hold the stimulus too.
-fn trace(
-    alloc: Global,
-    top: &str,
-    held: &[(&str, &[u8])],
-    stimulus: &[u8],
-) -> Result<Option<Answer>, Fail> {
-    let compiled = answered(alloc, &["compile", top, "a.cpp"], held)?;
-    let source = answered(alloc, &["sim", top, "a.cpp", "--stim", "s"], held)?;
-    let steps = Text::from_bytes(alloc, stimulus)?;
-    let emitted = answered(
-        alloc,
-        &["svsim", top, "a.sv", "--stim", "s"],
-        &[("a.sv", compiled.out.bytes()), ("s", steps.bytes())],
-    )?;
-    let is_silent = compiled.is_silent() && source.is_silent() && emitted.is_silent();
-    if !is_silent || emitted.out.bytes() != source.out.bytes() {
-        return Ok(None);
-    }
-    Ok(Some(source))
-}
-
-/// Whether a trace has a line.
-fn shows(trace: &Option<Answer>, line: &str) -> bool {
-    match trace {
-        Some(answer) => has(answer.out.bytes(), line),
-        None => false,
-    }
-}
-
 #[test]
 fn runs_both_sides(rt: HostRuntime) -> Result<(), Fail> {
     for (top, source, stimulus, lines) in [
@@ -359,12 +285,6 @@ fn runs_both_sides(rt: HostRuntime) -> Result<(), Fail> {
             "scc-stim 1\nports a b q p\nstep 3 5 ff ff\n",
             "0- x=fe r=00fe",
         ),
-        (
-            "R",
-            ASYNCHRONOUS,
-            "scc-stim 2\nports rst\nstep 1\nstep 0\nhold 1\nhold 0\nstep 0\n",
-            "0- q=05\n0+ q=05\n1- q=05\n1+ q=06\n2- q=05\n3- q=05\n4- q=05\n4+ q=06",
-        ),
     ] {
         let held = [("a.cpp", source.as_bytes()), ("s", stimulus.as_bytes())];
         let found = trace(rt.alloc(), top, &held, stimulus.as_bytes())?;
@@ -375,67 +295,22 @@ fn runs_both_sides(rt: HostRuntime) -> Result<(), Fail> {
     Ok(())
 }
 
+/// Each trace is exactly this: of a module without outputs, on no steps, and of steps with edges and without.
 #[test]
-fn counts_round(rt: HostRuntime) -> Result<(), Fail> {
-    let mut stimulus = String::new(rt.alloc());
-    stimulus.push_str("scc-stim 1\nports rst\nstep 1\n")?;
-    for _ in 1..257 {
-        stimulus.push_str("step 0\n")?;
-    }
-    let held = [("a.cpp", COUNT.as_bytes()), ("s", stimulus.as_bytes())];
-    let found = trace(rt.alloc(), "Count", &held, stimulus.as_bytes())?;
-    assert!(rt; shows(&found, "255+ q=ff"));
-    assert!(rt; shows(&found, "256+ q=00"));
-    Ok(())
-}
-
-/// A source in two files, filled and emptied again.
-#[test]
-fn runs_a_fifo(rt: HostRuntime) -> Result<(), Fail> {
-    let mut stimulus = String::new(rt.alloc());
-    stimulus.push_str("scc-stim 1\nports rst_n put get din\nstep 0 0 0 0\n")?;
-    for k in 1..40 {
-        let step = if k <= 17 {
-            "step 1 1 0 "
-        } else {
-            "step 1 0 1 "
-        };
-        stimulus.push_str(step)?;
-        let digits = format!(in rt.alloc(); "{k:x}")?;
-        stimulus.push_str(digits.as_str())?;
-        stimulus.push_str("\n")?;
-    }
-    let held = [
-        ("a.cpp", FIFO.as_bytes()),
-        ("fifo.h", FIFO_HEADER.as_bytes()),
-        ("s", stimulus.as_bytes()),
-    ];
-    let found = trace(rt.alloc(), "Fifo", &held, stimulus.as_bytes())?;
-    for line in [
-        "0- dout=00 full=0 empty=1",
-        "16+ dout=00 full=1 empty=0",
-        "17+ dout=00 full=1 empty=0",
-        "18+ dout=01 full=0 empty=0",
-        "33+ dout=10 full=0 empty=1",
-        "39+ dout=10 full=0 empty=1",
+fn writes_whole_traces(rt: HostRuntime) -> Result<(), Fail> {
+    for (top, source, stimulus, text) in [
+        ("A", INPUT, "scc-stim 1\nports x\n", "scc-trace 1\n"),
+        (
+            "R",
+            ASYNCHRONOUS,
+            "scc-stim 2\nports rst\nstep 1\nstep 0\nhold 1\nhold 0\nstep 0\n",
+            "scc-trace 2\n0- q=05\n0+ q=05\n1- q=05\n1+ q=06\n2- q=05\n3- q=05\n4- q=05\n4+ q=06\n",
+        ),
     ] {
-        assert!(rt; shows(&found, line), "{line}");
+        let held = [("a.cpp", source.as_bytes()), ("s", stimulus.as_bytes())];
+        let found = trace(rt.alloc(), top, &held, stimulus.as_bytes())?;
+        assert!(rt; is_whole(&found, text), "of {source}");
     }
-    Ok(())
-}
-
-/// Without a reset at the first edge the two sides may begin differently: the source in its constructor's state, the module at 0.
-#[test]
-fn begins_without_reset(rt: HostRuntime) -> Result<(), Fail> {
-    let stimulus = "scc-stim 1\nports rst\nstep 0\nstep 0\n";
-    let alloc = rt.alloc();
-    let held = [("a.cpp", COUNT.as_bytes()), ("s", stimulus.as_bytes())];
-    let source = answered(alloc, &["sim", "Count", "a.cpp", "--stim", "s"], &held)?;
-    assert!(rt; has(source.out.bytes(), "0+ q=00") && has(source.out.bytes(), "1+ q=01"));
-    let compiled = answered(alloc, &["compile", "Count", "a.cpp"], &held)?;
-    let held = [("a.sv", compiled.out.bytes()), ("s", stimulus.as_bytes())];
-    let emitted = answered(alloc, &["svsim", "Count", "a.sv", "--stim", "s"], &held)?;
-    assert!(rt; has(emitted.out.bytes(), "0+ q=01") && has(emitted.out.bytes(), "1+ q=02"));
     Ok(())
 }
 
@@ -452,6 +327,7 @@ fn lists(rt: HostRuntime) -> Result<(), Fail> {
             UNKEPT,
             "register q 8\nregister run$$state 1\nthread run states 2 steps 66 statements 8\n",
         ),
+        ("And", AND, "method f steps 6\n"),
     ] {
         let answer = answered(
             rt.alloc(),
@@ -460,44 +336,6 @@ fn lists(rt: HostRuntime) -> Result<(), Fail> {
         )?;
         assert_eq!(rt; answer.out.bytes(), text.as_bytes());
         assert_eq!(rt; answer.err.bytes().len(), 0);
-    }
-    Ok(())
-}
-
-/// The text of the counter with one constant in another base, and a stimulus with a word that is too wide.
-#[test]
-fn refuses_texts_and_stimuli(rt: HostRuntime) -> Result<(), Fail> {
-    let alloc = rt.alloc();
-    let emitted =
-        "module And (\n  input logic a,\n  output logic y\n);\n  always_comb begin\n    y = 1'h0;\n    y = a;\n  end\nendmodule\n";
-    let decimal =
-        "module And (\n  input logic a,\n  output logic y\n);\n  always_comb begin\n    y = 1'd0;\n    y = a;\n  end\nendmodule\n";
-    let undriven = "module And (\n  input logic a,\n  output logic y\n);\nendmodule\n";
-    for (text, stimulus, status, said) in [
-        (emitted, "scc-stim 1\nports a\nstep 1\n", 0, ""),
-        (
-            decimal,
-            "scc-stim 1\nports a\n",
-            1,
-            "a.sv:6:11: E701 sv unexpected\n",
-        ),
-        (
-            undriven,
-            "scc-stim 1\nports a\n",
-            1,
-            "a.sv:3:16: E704 sv driver\n",
-        ),
-        (
-            emitted,
-            "scc-stim 1\nports a\nstep 2\n",
-            1,
-            "s.txt:3:6: E803 stim value\n",
-        ),
-    ] {
-        let held = [("a.sv", text.as_bytes()), ("s.txt", stimulus.as_bytes())];
-        let answer = answered(alloc, &["svsim", "And", "a.sv", "--stim", "s.txt"], &held)?;
-        assert_eq!(rt; answer.err.bytes(), said.as_bytes());
-        assert_eq!(rt; answer.status, status);
     }
     Ok(())
 }
@@ -517,31 +355,5 @@ fn migrates(rt: HostRuntime) -> Result<(), Fail> {
         answer.out.bytes(),
         b"scc-stim 2\nports rst\nstep 1\n".as_slice()
     );
-    Ok(())
-}
-
-#[test]
-fn generates(rt: HostRuntime) -> Result<(), Fail> {
-    let alloc = rt.alloc();
-    for (words, status, text) in [
-        (["gen", "0"], 2, ""),
-        (["gen", "1001"], 2, ""),
-        (
-            ["gen", "2"],
-            0,
-            "stages 2 processes 4 registers 4 states 4 q 0004\n",
-        ),
-    ] {
-        let answer = answered(alloc, &words, &[])?;
-        assert_eq!(rt; answer.status, status);
-        assert_eq!(rt; answer.out.bytes(), text.as_bytes());
-    }
-    let source = answered(alloc, &["gen", "2", "--source"], &[])?;
-    let stimulus = "scc-stim 1\nports rst d\nstep 1 1\nstep 0 1\nstep 0 1\n";
-    let held = [("a.cpp", source.out.bytes()), ("s", stimulus.as_bytes())];
-    let answer = answered(alloc, &["sim", "Gen", "a.cpp", "--stim", "s"], &held)?;
-    for line in ["0+ q=0000", "1+ q=0002", "2+ q=0004"] {
-        assert!(rt; has(answer.out.bytes(), line), "{line}");
-    }
     Ok(())
 }
