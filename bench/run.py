@@ -8,7 +8,8 @@ The designs are generated ones of 100 and 1,000 stages and `bench/wide.cpp` with
 number that changes with each step, the same in all four; each program prints all outputs twice a step. What a program takes to
 start, and to read its text, is left out: the time of few steps is taken off that of many. A tool that isn't installed is
 left out. The status is 1 where `scc` makes fewer steps a second than the other tool on one of the two larger designs; the
-small one is printed for comparison.
+small one is printed for comparison. It is 1 too where a program fails, where the times of few and of many steps tell nothing,
+and where `gen 1000` writes another line than it should, which takes too long for a test.
 """
 import shutil
 import subprocess
@@ -24,6 +25,7 @@ from agreeing.runs import has_systemc  # noqa: E402
 
 FACTOR, ADDEND = 6364136223846793005, 1442695040888963407
 REPEATS = 3
+LARGEST = "stages 1000 processes 1002 registers 2000 states 2000 q a315\n"
 
 
 def made(words, folder):
@@ -43,7 +45,10 @@ def seconds(words, folder):
 
 def rate(words_of, folder, few, many):
     """Steps a second, between a run of few steps and one of many."""
-    return (many - few) / max(seconds(words_of(many), folder) - seconds(words_of(few), folder), 1e-9)
+    took = seconds(words_of(many), folder) - seconds(words_of(few), folder)
+    if took <= 0:
+        sys.exit(f"{words_of(many)[0]}: {many} steps took no longer than {few}")
+    return (many - few) / took
 
 
 def is_reset(port):
@@ -133,6 +138,9 @@ def main():
     well = True
     with tempfile.TemporaryDirectory() as temporary:
         folder = Path(temporary)
+        line = made([program, "gen", "1000"], folder)
+        if line != LARGEST:
+            sys.exit(f"gen 1000: {line!r}")
         for stages, steps, counts in ((100, 20000, False), (1000, 1000, True)):
             source = folder / f"gen{stages}.cpp"
             source.write_text(made([program, "gen", str(stages), "--source"], folder))
