@@ -204,6 +204,17 @@ SC_MODULE(D) {
 };
 ";
 
+// a member whose old value the reset part reads
+const KEPT: &str = "#include <systemc.h>
+SC_MODULE(D) {
+  sc_in<bool> clk, rst;
+  sc_out<sc_uint<8> > q;
+  sc_uint<8> m;
+  void run() { m = m + 1; q.write(m); wait(); while (true) wait(); }
+  SC_CTOR(D) { SC_CTHREAD(run, clk.pos()); reset_signal_is(rst, true); }
+};
+";
+
 #[test]
 fn runs_both_sides(rt: HostRuntime) -> Result<(), Fail> {
     for (top, source, stimulus, lines) in [
@@ -326,6 +337,11 @@ fn lists(rt: HostRuntime) -> Result<(), Fail> {
             "D",
             UNKEPT,
             "register q 8\nregister run$$state 1\nthread run states 2 steps 66 statements 8\n",
+        ),
+        (
+            "D",
+            KEPT,
+            "register q 8\nregister m 8\nregister run$$state 1\nthread run states 2 steps 60 statements 5\n",
         ),
         ("And", AND, "method f steps 6\n"),
     ] {
