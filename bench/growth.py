@@ -14,7 +14,7 @@ import sys
 import tempfile
 
 TOP = pathlib.Path(__file__).resolve().parent.parent
-PROGRAM = os.environ.get("SCC", str(TOP / "crates/scc/out/scc"))
+PROGRAM = os.path.abspath(os.environ.get("SCC", TOP / "crates/scc/out/scc"))
 HEAD = "#include <systemc.h>\n"
 
 
@@ -138,6 +138,8 @@ def clocks(n):
 FLAGS = {"hierarchy": "--hier", "memory": "--memory", "clocks": "--clocks"}
 # printed only: each clock's part of a design has all its cells, so the time grows with clocks times cells
 PRINTED = {"clocks"}
+# measured at a quarter of the size, too
+QUARTERED = {"generated stages"}
 
 # for each stage: name, the source of a size, the size, the module's name, the code of the refusal or None
 SHAPES = {
@@ -156,21 +158,34 @@ SHAPES = {
 }
 
 
-def run(words, folder):
+# Starts a command without its output, and writes its status, its seconds and its kilobytes. Linux counts to the memory of a
+# process what its parent had when it was started, so this parent has no more than Python needs.
+STARTER = """
+import posix, sys
+pid = posix.fork()
+if pid == 0:
+    posix.dup2(posix.open("/dev/null", posix.O_WRONLY), 1)
+    posix.execv(sys.argv[1], sys.argv[1:])
+_, status, usage = posix.wait4(pid, 0)
+print(posix.waitstatus_to_exitcode(status), usage.ru_utime + usage.ru_stime, usage.ru_maxrss)
+"""
+
+
+def run(words, folder, program=PROGRAM):
     """Status, what was said, seconds of the processor, and kilobytes of memory."""
-    with open(os.devnull, "wb") as out:
-        p = subprocess.Popen([PROGRAM] + words, cwd=folder, stdout=out, stderr=subprocess.PIPE,
-                             preexec_fn=lambda: resource.setrlimit(resource.RLIMIT_STACK, (8 << 20, 8 << 20)))
-        said = p.stderr.read()
-        _, status, usage = os.wait4(p.pid, 0)
-    return os.waitstatus_to_exitcode(status), said.decode(errors="replace"), usage.ru_utime + usage.ru_stime, usage.ru_maxrss
+    p = subprocess.run([sys.executable, "-I", "-S", "-c", STARTER, program] + words, cwd=folder, capture_output=True,
+                       check=True, preexec_fn=lambda: resource.setrlimit(resource.RLIMIT_STACK, (8 << 20, 8 << 20)))
+    status, seconds, kilobytes = p.stdout.split()
+    return int(status), p.stderr.decode(errors="replace"), float(seconds), int(kilobytes)
 
 
-def measured(words, folder):
-    """The fastest of some runs."""
-    best = run(words, folder)
+def measured(words, folder, program=PROGRAM):
+    """The fastest of some runs, which all answer the same."""
+    best = run(words, folder, program)
     for _ in range(9 if best[2] < 0.2 else 2):
-        again = run(words, folder)
+        again = run(words, folder, program)
+        if again[:2] != best[:2]:
+            sys.exit(f"{program} {' '.join(words)}: one run answers {best[:2]}, another {again[:2]}")
         best = again if again[2] < best[2] else best
     return best
 
@@ -183,7 +198,7 @@ def main():
             if wanted and name not in wanted:
                 continue
             half, flag = None, [FLAGS[name]] if stage == "forms" else []
-            for n in (size // 2, size):
+            for n in (size // 4, size // 2, size) if name in QUARTERED else (size // 2, size):
                 pathlib.Path(folder, "a.cpp").write_text(source(n))
                 status, said, took, memory = measured(["compile", top, "a.cpp"] + flag, folder)
                 print(f"{name:<20} {n:>7} {took * 1000:>9.1f} ms {memory:>8} KB", flush=True)
