@@ -158,8 +158,8 @@ SHAPES = {
 }
 
 
-# Starts a command without its output, and writes its status, its seconds and its kilobytes. Linux counts to the memory of a
-# process what its parent had when it was started, so this parent has no more than Python needs.
+# Starts a command without its output, and writes its status, its seconds and its kilobytes. Linux begins the greatest memory
+# of a process with what its parent has: here with the 5 MB of a fresh Python, whatever sources were made before.
 STARTER = """
 import posix, sys
 pid = posix.fork()
