@@ -3,6 +3,8 @@
 #![tactic(auto)]
 
 #[cfg(test)]
+mod causes;
+#[cfg(test)]
 mod command;
 #[cfg(test)]
 mod construction;
@@ -12,5 +14,9 @@ mod designs;
 mod processes;
 #[cfg(test)]
 mod program;
+#[cfg(test)]
+mod sizes;
+#[cfg(test)]
+mod states;
 #[cfg(test)]
 mod thin;
