@@ -137,13 +137,6 @@ fn refuses_for_each_cause(rt: HostRuntime) -> Result<(), Fail> {
             "8:9: E509 loop may not wait",
             Form::Thread,
             "",
-            "wait(); while (a.read()) { if (r.read()) wait(); } while (true) wait();",
-            "",
-        ),
-        (
-            "8:9: E509 loop may not wait",
-            Form::Thread,
-            "",
             "wait(); while (a.read()) { if (0) wait(); n = 1; } while (true) wait();",
             "",
         ),

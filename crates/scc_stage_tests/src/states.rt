@@ -1,4 +1,5 @@
 //! Waits in branches: the states of a thread, and what its segments hold.
+use crate::command::{line, said};
 use scc_base::{CalmFiles, CalmSink};
 use scc_drive::run;
 use std::alloc::Global;
@@ -22,6 +23,21 @@ SC_MODULE(T) {
   sc_in<bool> a; sc_out<sc_uint<8> > q;
   sc_uint<8> x;
   void run() { x = 0; while (true) { if (a.read()) wait(); q.write(x); x = x + 1; wait(); } }
+  SC_CTOR(T) { SC_CTHREAD(run, clk.pos()); reset_signal_is(rst, true); }
+};
+";
+
+// a loop with a wait in a branch, which a path passes without one
+const BUSY: &str = "#include <systemc.h>
+SC_MODULE(T) {
+  sc_in<bool> clk, rst, busy, a;
+  sc_out<bool> q;
+  void run() {
+    q.write(0);
+    wait();
+    while (busy.read()) { if (a.read()) wait(); }
+    while (true) wait();
+  }
   SC_CTOR(T) { SC_CTHREAD(run, clk.pos()); reset_signal_is(rst, true); }
 };
 ";
@@ -164,5 +180,13 @@ fn waits_in_branches_have_states(rt: HostRuntime) -> Result<(), Fail> {
             "{command} of {source}"
         );
     }
+    Ok(())
+}
+
+#[test]
+fn refuses_a_loop_that_may_not_wait(rt: HostRuntime) -> Result<(), Fail> {
+    let text = said(rt.alloc(), BUSY.as_bytes())?;
+    let wanted = line(rt.alloc(), "8:5: E509 loop may not wait")?;
+    assert_eq!(rt; text.bytes(), wanted.bytes());
     Ok(())
 }
