@@ -1,5 +1,5 @@
 #!/usr/bin/env python3
-"""Prints how long `scc compile` takes on sources at half of a limit and at the limit, and its greatest memory.
+"""Prints how long `scc compile` takes on sources at half of a size and at the size, and its greatest memory.
 
   growth.py STAGE [SHAPE ..]    STAGE: static, construction, middle, compile, forms (what the flags of `compile` write)
 
@@ -100,14 +100,24 @@ def elements(n):
     return clocked(f"  bool m[{n}];\n  sc_uint<16> i;", "q.write(m[i]); m[i] = 1; i = i + 1;")
 
 
-def sensitive(n):
-    return (f"{HEAD}SC_MODULE(T) {{\n  sc_in<bool> a[{n}];\n  sc_out<bool> q;\n  void f() {{ q.write(a[0].read()); }}\n"
-            f"  SC_CTOR(T) {{ SC_METHOD(f); for (int i = 0; i < {n}; i++) sensitive << a[i]; }}\n}};\n")
+def increments(n):
+    return clocked("  int n;", "n++;\n" * n)
 
 
 def listed(n):
-    return (f"{HEAD}SC_MODULE(T) {{\n" + repeated(n, "  sc_signal<bool> s#;\n") + "  sc_out<bool> q;\n  void f() { q.write(s0.read()); }\n"
+    names = ",".join(f"s{i}" for i in range(n))
+    return (f"{HEAD}SC_MODULE(T) {{\n  sc_signal<bool> {names};\n  sc_out<bool> q;\n  void f() {{ q.write(s0.read()); }}\n"
             "  SC_CTOR(T) { SC_METHOD(f); sensitive" + repeated(n, " << s#") + "; }\n};\n")
+
+
+def rows(n):
+    """Elements and indices together: a text would grow with their product."""
+    return thread(f"  bool m[{n}];\n  sc_uint<16> i;", "i = 0;\nwait();\nwhile (true) {\n" + "m[i] = 1;\n" * n + "i = i + 1;\nwait();\n}")
+
+
+def idle(n):
+    """Loops without turns, in many turns of the loop around them."""
+    return clocked("  int n;", "n = 1;\nfor (int i = 0; i < 4000; i++) {\n" + "for (int j = 0; j < 0; j++) { }\n" * n + "}")
 
 
 def ports(n):
@@ -149,9 +159,10 @@ SHAPES = {
                ("functions", functions, 12000, "T", None)],
     "construction": [("signals", signals, 60000, "T", None), ("bindings", bindings, 20000, "T", None),
                      ("modules", modules, 1000, "T", None), ("turns", turns, 65000, "T", None)],
-    "middle": [("statements", assignments, 40000, "T", None), ("processes", processes, 1000, "T", None),
+    "middle": [("statements", increments, 60000, "T", None), ("processes", processes, 1000, "T", None),
                ("waits", waits, 16000, "T", None), ("turns", counted, 4000, "T", None),
-               ("elements", elements, 60000, "T", None), ("listed", listed, 24000, "T", None)],
+               ("elements", elements, 60000, "T", None), ("listed", listed, 30000, "T", None),
+               ("rows", rows, 30000, "T", "E605"), ("idle turns", idle, 200, "T", "E602")],
     "compile": [("generated stages", generated, 1000, "Gen", None), ("states", states, 16000, "T", None),
                 ("ports", ports, 30000, "T", None)],
     "forms": [("hierarchy", modules, 10000, "T", None), ("memory", memory, 65000, "T", None), ("clocks", clocks, 128, "T", None)],
