@@ -159,7 +159,7 @@ SHAPES = {
                ("functions", functions, 12000, "T", None)],
     "construction": [("signals", signals, 60000, "T", None), ("bindings", bindings, 20000, "T", None),
                      ("modules", modules, 1000, "T", None), ("turns", turns, 65000, "T", None)],
-    "middle": [("statements", increments, 60000, "T", None), ("processes", processes, 1000, "T", None),
+    "middle": [("statements", increments, 60000, "T", None), ("processes", processes, 8000, "T", None),
                ("waits", waits, 16000, "T", None), ("turns", counted, 4000, "T", None),
                ("elements", elements, 60000, "T", None), ("listed", listed, 30000, "T", None),
                ("rows", rows, 30000, "T", "E605"), ("idle turns", idle, 200, "T", "E602")],
