@@ -1,7 +1,7 @@
 #!/usr/bin/env python3
 """Prints how long `scc compile` takes on sources at half of a size and at the size, and its greatest memory.
 
-  growth.py STAGE [SHAPE ..]    STAGE: static, construction, middle, compile, forms (what the flags of `compile` write)
+  growth.py STAGE [SHAPE ..]    STAGE: construction, middle, compile, forms (what the flags of `compile` write)
 
 The program is that of SCC, else crates/scc/out/scc. Fails where an answer is another than the shape's, or where
 twice the source takes more than 2.2 times as long (times under 20 milliseconds aren't compared).
@@ -34,33 +34,8 @@ def thread(members, body):
             f"  void f() {{\n{body}\n  }}\n  SC_CTOR(T) {{ SC_CTHREAD(f, clk.pos()); reset_signal_is(rst, true); }}\n}};\n")
 
 
-def members(n):
-    return clocked(repeated(n, "  bool m#;\n"), "m0 = 1;")
-
-
-def instances(n):
-    return f"{HEAD}template<int N> struct A {{ bool x; }};\n" + clocked(repeated(n, "  A<#> a#;\n"), "a0.x = 1;")[len(HEAD):]
-
-
-def operators(n):
-    return clocked("  int x;", "x = 1" + " + 1" * n + ";")
-
-
-def labels(n):
-    return clocked("  int x;", "switch (x) {\n" + repeated(n, "case #: x = #; break;\n") + "}")
-
-
 def assignments(n):
     return clocked("  int x, y;", "x = y + 1;\n" * n)
-
-
-def constants(n):
-    return clocked("  static const int c0 = 0;\n" + "".join(f"  static const int c{i} = c{i - 1};\n" for i in range(1, n)),
-                   f"q.write(c{n - 1});")
-
-
-def functions(n):
-    return clocked("  int x;\n  void f0() { x = 1; }\n" + "".join(f"  void f{i}() {{ f{i - 1}(); }}\n" for i in range(1, n)), "f0();")
 
 
 def signals(n):
@@ -153,12 +128,8 @@ QUARTERED = {"generated stages"}
 
 # for each stage: name, the source of a size, the size, the module's name, the code of the refusal or None
 SHAPES = {
-    "static": [("members", members, 20000, "T", None), ("instances", instances, 4000, "T", None),
-               ("operators", operators, 100000, "T", None), ("labels", labels, 10000, "T", "E601"),
-               ("assignments", assignments, 40000, "T", None), ("constants", constants, 20000, "T", None),
-               ("functions", functions, 12000, "T", None)],
     "construction": [("signals", signals, 60000, "T", None), ("bindings", bindings, 20000, "T", None),
-                     ("modules", modules, 1000, "T", None), ("turns", turns, 65000, "T", None)],
+                     ("modules", modules, 16000, "T", None), ("turns", turns, 65000, "T", None)],
     "middle": [("statements", increments, 60000, "T", None), ("processes", processes, 8000, "T", None),
                ("waits", waits, 16000, "T", None), ("turns", counted, 4000, "T", None),
                ("elements", elements, 60000, "T", None), ("listed", listed, 30000, "T", None),

@@ -1,7 +1,7 @@
 //! Small sources that are taken, beside those that are refused for one thing more.
 use crate::program::rows::Row;
 
-/// Of each a form that is refused stands in another table.
+/// Each has a form that is refused, in another table.
 pub const TAKEN: [Row; 10] = [
     (
         "struct C { void f(); }; void C::f() {} void C::f() {} struct T { C c; };",
