@@ -2,8 +2,8 @@
 # Prints how long `scc compile` takes on sources of about half the most tokens and of nearly the most that are refused behind the static
 # stage, since the top's constructor has a parameter, so that everything up to the plain program is done and nothing behind it: members,
 # initialisers, labels of a `switch`, local variables, statements, loops, calls, functions, classes, instances and specialised bodies, and
-# chains of constants, types and arrows, each of which needs the one before it. A stack of 8 MiB has to do. Fails where one is not refused so,
-# or where twice the source takes more than 2.2 times the processor time.
+# chains of constants, types and arrows, each of which needs the one before it. A stack of 8 MiB has to do. Fails where one is not refused
+# so, or where twice the source takes more than 2.2 times the processor time.
 set -euo pipefail
 cd "$(dirname "$0")/.."
 ulimit -s 8192

@@ -5,8 +5,8 @@ program=${SCC:-crates/scc/out/scc}
 work=$(mktemp -d)
 trap 'rm -rf "$work"' EXIT
 
-# microseconds of processor time of the fastest of so many runs, which other work on the machine disturbs least: runs, top, file; fails where
-# a run ends otherwise than with an answer or a refusal
+# microseconds of processor time of the fastest of so many runs, which other work on the machine disturbs least: runs, top, file; fails
+# where a run ends otherwise than with an answer or a refusal
 timed() {
   local best=1000000000 user system took status TIMEFORMAT='%3U %3S'
   for ((run = 0; run < $1; run++)); do
