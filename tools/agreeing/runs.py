@@ -46,8 +46,11 @@ def verilator(job):
 def yosys(job):
     """What Yosys synthesises, run by Icarus."""
     netlist, bench = job.folder / "netlist.v", job.folder / "netlist_testbench.v"
+    # a memory of the text has to be one for Yosys too: as registers it would give the same trace
+    has_memory = "--memory" in job.flags and "[0:" in job.emitted.read_text()
+    seen = "memory -nomap; select -assert-min 1 t:$mem*; " if has_memory else ""
     # memories go first: Yosys 0.23 fails where setundef has set the enables of their ports
-    call(["yosys", "-q", "-p", f"read_verilog -sv {job.emitted}; proc; memory; setundef -zero -init; "
+    call(["yosys", "-q", "-p", f"read_verilog -sv {job.emitted}; proc; {seen}memory; setundef -zero -init; "
           f"synth -top \\{job.module.name}; check -assert; write_verilog -noattr {netlist}"], job.folder)
     bench.write_text(verilog.testbench(job.module, job.stimulus, registers_are_named=False))
     call(["iverilog", "-g2012", "-o", "netlist.vvp", bench, netlist], job.folder)
