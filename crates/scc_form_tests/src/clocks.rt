@@ -91,6 +91,50 @@ fn refuses_clocks(rt: HostRuntime) -> Result<(), Fail> {
     Ok(())
 }
 
+// three methods, of which the last is at the other edge of the first one's clock
+const EDGES: &str = "#include <systemc.h>
+SC_MODULE(E) {
+  sc_in<bool> ca, cb; sc_out<bool> x, y, z;
+  void f() { x.write(!x.read()); }
+  void g() { y.write(!y.read()); }
+  void h() { z.write(!z.read()); }
+  SC_CTOR(E) {
+    SC_METHOD(f); sensitive << ca.pos();
+    SC_METHOD(g); sensitive << cb.neg();
+    SC_METHOD(h); sensitive << ca.neg();
+  }
+};
+";
+
+// a thread whose asynchronous reset is a signal, and no input
+const SIGNAL: &str = "#include <systemc.h>
+SC_MODULE(A) {
+  sc_in<bool> ca, cb, rst; sc_signal<bool> late; sc_out<bool> x, y;
+  void f() { late.write(rst.read()); x.write(!x.read()); }
+  void g() { y.write(0); wait(); while (true) { y.write(!y.read()); wait(); } }
+  SC_CTOR(A) {
+    SC_METHOD(f); sensitive << ca.pos();
+    SC_CTHREAD(g, cb.pos()); async_reset_signal_is(late, true);
+  }
+};
+";
+
+/// A clock has one edge, and an asynchronous reset is an input of the top.
+#[test]
+fn refuses_edges_and_resets(rt: HostRuntime) -> Result<(), Fail> {
+    for (top, source, said) in [
+        ("E", EDGES, "a.cpp:10:5: E407 clock port (see a.cpp:8:5)\n"),
+        ("A", SIGNAL, "a.cpp:8:5: E407 clock port\n"),
+    ] {
+        let held = [("a.cpp", source.as_bytes())];
+        let words = ["compile", top, "a.cpp", "--clocks"];
+        let found = answered(rt.alloc(), &words, &held)?;
+        assert!(rt; found.status == 1 && found.out.bytes().is_empty(), "{said}");
+        assert!(rt; found.err.bytes() == said.as_bytes(), "{said}");
+    }
+    Ok(())
+}
+
 /// A process at each of 129 clocks: the last is refused.
 #[test]
 fn refuses_too_many_clocks(rt: HostRuntime) -> Result<(), Fail> {

@@ -111,6 +111,50 @@ fn shows_the_same(rt: HostRuntime) -> Result<(), Fail> {
     Ok(())
 }
 
+// of two stages that add 1 and 2, one behind the other
+const GENERATED_STIMULUS: &str = "scc-stim 1\nports rst d\nstep 1 1\nstep 0 1\nstep 0 1\n";
+
+const GENERATED_TRACE: &str = "scc-trace 1
+0- q=0000
+0+ q=0000
+1- q=0000
+1+ q=0002
+2- q=0002
+2+ q=0004
+";
+
+/// A generated design, whose stages stand in an array of pointers: its modules show what its one module shows.
+#[test]
+fn shows_generated_stages(rt: HostRuntime) -> Result<(), Fail> {
+    let alloc = rt.alloc();
+    let source = answered(alloc, &["gen", "2", "--source"], &[])?;
+    let held = [("a.cpp", source.out.bytes())];
+    let plain = answered(alloc, &["compile", "Gen", "a.cpp"], &held)?;
+    let modules = answered(alloc, &["compile", "Gen", "a.cpp", "--hier"], &held)?;
+    assert!(rt; modules.is_silent());
+    assert!(rt; modules.out.bytes() != plain.out.bytes());
+    let one = answered(
+        alloc,
+        &["svsim", "Gen", "a.sv", "--stim", "s"],
+        &[
+            ("a.sv", plain.out.bytes()),
+            ("s", GENERATED_STIMULUS.as_bytes()),
+        ],
+    )?;
+    assert!(rt; one.out.bytes() == GENERATED_TRACE.as_bytes());
+    let several = answered(
+        alloc,
+        &["svsim", "Gen", "a.sv", "--stim", "s", "--hier"],
+        &[
+            ("a.sv", modules.out.bytes()),
+            ("s", GENERATED_STIMULUS.as_bytes()),
+        ],
+    )?;
+    assert!(rt; several.is_silent());
+    assert!(rt; several.out.bytes() == GENERATED_TRACE.as_bytes());
+    Ok(())
+}
+
 #[test]
 fn refuses_texts(rt: HostRuntime) -> Result<(), Fail> {
     for (top, text, stimulus, said) in [
