@@ -34,10 +34,6 @@ def thread(members, body):
             f"  void f() {{\n{body}\n  }}\n  SC_CTOR(T) {{ SC_CTHREAD(f, clk.pos()); reset_signal_is(rst, true); }}\n}};\n")
 
 
-def assignments(n):
-    return clocked("  int x, y;", "x = y + 1;\n" * n)
-
-
 def signals(n):
     return (f"{HEAD}SC_MODULE(T) {{\n  sc_in<bool> a;\n  sc_vector<sc_signal<bool> > s;\n  void f() {{ s[0].write(a.read()); }}\n"
             f"  SC_CTOR(T) : s(\"s\", {n}) {{ SC_METHOD(f); sensitive << a; }}\n}};\n")
