@@ -6,9 +6,10 @@ set -euo pipefail
 top=$(cd "$(dirname "$0")/.." && pwd)
 work=$(mktemp -d)
 trap 'rm -rf "$work"' EXIT
-mkdir -p "$work/crates/scc_bits" "$work/crates/bench/src"
-cp -r "$top/crates/scc_bits/src" "$top/crates/scc_bits/specs" "$top/crates/scc_bits/proofs" "$work/crates/scc_bits"
-printf 'scc_bits:\nbench: scc_bits\n' >"$work/crates.txt"
+source "$top/bench/copied.sh"
+mkdir -p "$work/crates/bench/src"
+copied "$work" scc_bits
+echo 'bench: scc_bits' >>"$work/crates.txt"
 cat >"$work/crates/bench/src/main.rt" <<'PROGRAM'
 //! Times a million calls of `apply` for each operator.
 #![tactic(auto)]

@@ -1,7 +1,7 @@
 #!/usr/bin/env python3
 """Prints how long `scc compile` takes on sources at half of a size and at the size, and its greatest memory.
 
-  growth.py STAGE [SHAPE ..]    STAGE: construction, middle, compile, forms (what the flags of `compile` write)
+  growth.py STAGE [SHAPE ..]    STAGE: construction, middle, compile, forms (what the flags do)
 
 The program is that of SCC, else crates/scc/out/scc. Fails where an answer is another than the shape's, or where
 twice the source takes more than 2.2 times as long (times under 20 milliseconds aren't compared).
@@ -115,9 +115,33 @@ def clocks(n):
             "  SC_CTOR(T) {\n" + repeated(n, "    SC_METHOD(f#); sensitive << c#.pos();\n") + "  }\n};\n")
 
 
-# the flag of `compile` for each shape of the forms
-FLAGS = {"hierarchy": "--hier", "memory": "--memory", "clocks": "--clocks"}
-# printed only: each clock's part of a design has all its cells, so the time grows with clocks times cells
+CLOCKS = 128
+
+
+def cells(n):
+    """So many variables, shared out among all clocks that a design may have."""
+    each = range(n // CLOCKS)
+    return (f"{HEAD}SC_MODULE(T) {{\n" + "".join(
+        f"  sc_in<bool> c{i};\n  bool " + ", ".join(f"m{i}_{k}" for k in each) +
+        f";\n  void f{i}() {{ " + " ".join(f"m{i}_{k} = !m{i}_{k};" for k in each) + " }\n" for i in range(CLOCKS)) +
+        "  SC_CTOR(T) {\n" + repeated(CLOCKS, "    SC_METHOD(f#); sensitive << c#.pos();\n") + "  }\n};\n")
+
+
+def all_clocks():
+    """A stimulus of two steps with an edge of each clock."""
+    return "scc-stim 3\nclocks" + repeated(CLOCKS, " c#") + "\nports\n" + f"step {(1 << CLOCKS) - 1:x}\n" * 2
+
+
+# what is run for each shape of the forms behind the name of its top
+FORMS = {
+    "hierarchy": ["compile", "a.cpp", "--hier"], "memory": ["compile", "a.cpp", "--memory"],
+    "clocks": ["compile", "a.cpp", "--clocks"], "cells": ["compile", "a.cpp", "--clocks"],
+    "hierarchy, svsim": ["svsim", "a.sv", "--stim", "s", "--hier"],
+    "cells, sim": ["sim", "a.cpp", "--stim", "s", "--clocks"], "cells, svsim": ["svsim", "a.sv", "--stim", "s", "--clocks"],
+}
+# the stimulus of those that want one
+STIMULI = {"hierarchy, svsim": "scc-stim 1\nports a\nstep 1\nstep 0\n", "cells, sim": all_clocks(), "cells, svsim": all_clocks()}
+# printed only: each clock's part of a design has all its cells, so the time grows with clocks times cells, which both grow here
 PRINTED = {"clocks"}
 # measured at a quarter of the size, too
 QUARTERED = {"generated stages"}
@@ -132,7 +156,9 @@ SHAPES = {
                ("rows", rows, 30000, "T", "E605"), ("idle turns", idle, 200, "T", "E602")],
     "compile": [("generated stages", generated, 1000, "Gen", None), ("states", states, 16000, "T", None),
                 ("ports", ports, 30000, "T", None)],
-    "forms": [("hierarchy", modules, 10000, "T", None), ("memory", memory, 65000, "T", None), ("clocks", clocks, 128, "T", None)],
+    "forms": [("hierarchy", modules, 10000, "T", None), ("hierarchy, svsim", modules, 10000, "T", None),
+              ("memory", memory, 65000, "T", None), ("clocks", clocks, CLOCKS, "T", None), ("cells", cells, 4096, "T", None),
+              ("cells, sim", cells, 4096, "T", None), ("cells, svsim", cells, 4096, "T", None)],
 }
 
 
@@ -168,6 +194,20 @@ def measured(words, folder, program=PROGRAM):
     return best
 
 
+def prepared(stage, name, top, source, folder):
+    """The words to be measured, with the files that they read."""
+    pathlib.Path(folder, "a.cpp").write_text(source)
+    if stage != "forms":
+        return ["compile", top, "a.cpp"]
+    action, *words = FORMS[name]
+    if action == "svsim":
+        made = subprocess.run([PROGRAM, "compile", top, "a.cpp", words[-1]], cwd=folder, capture_output=True, check=True)
+        pathlib.Path(folder, "a.sv").write_bytes(made.stdout)
+    if name in STIMULI:
+        pathlib.Path(folder, "s").write_text(STIMULI[name])
+    return [action, top, *words]
+
+
 def main():
     stage, wanted = sys.argv[1], sys.argv[2:]
     failed = False
@@ -175,10 +215,10 @@ def main():
         for name, source, size, top, code in SHAPES[stage]:
             if wanted and name not in wanted:
                 continue
-            half, flag = None, [FLAGS[name]] if stage == "forms" else []
+            half = None
             for n in (size // 4, size // 2, size) if name in QUARTERED else (size // 2, size):
-                pathlib.Path(folder, "a.cpp").write_text(source(n))
-                status, said, took, memory = measured(["compile", top, "a.cpp"] + flag, folder)
+                words = prepared(stage, name, top, source(n), folder)
+                status, said, took, memory = measured(words, folder)
                 print(f"{name:<20} {n:>7} {took * 1000:>9.1f} ms {memory:>8} KB", flush=True)
                 right = status == 0 if code is None else status == 1 and f" {code} " in said
                 if not right:

@@ -22,24 +22,24 @@ thin_text() {
   echo '};'
 }
 
-# milliseconds of the fastest of 100 runs, which other work on the machine disturbs least
+# a line with a name and the milliseconds of the fastest of 100 runs, which other work on the machine disturbs least
 timed() {
-  local best=1000000 start took
+  local name=$1 best=1000000 start took
+  shift
   for _ in {1..100}; do
     start=${EPOCHREALTIME/[.,]/}
-    "$@" >/dev/null
+    "$@" >/dev/null || { echo "bench: $name: status $?" >&2; exit 1; }
     took=$((${EPOCHREALTIME/[.,]/} - start))
-    ((took < best)) && best=$took
+    ((took >= best)) || best=$took
   done
-  printf '%d.%02d' $((best / 1000)) $((best % 1000 / 10))
+  printf '%-28s %5d.%02d ms\n' "$name" $((best / 1000)) $((best % 1000 / 10))
 }
 
 program=${SCC:-crates/scc/out/scc}
-printf '%-28s %8s ms\n' 'true' "$(timed /bin/true)"
-[[ -n ${SCC:-} ]] || printf '%-28s %8s ms\n' './scc compile And' "$(timed ./scc compile And examples/and.cpp)"
-printf '%-28s %8s ms\n' 'the program itself' "$(timed "$program" compile And examples/and.cpp)"
+timed 'true' /bin/true
+[[ -n ${SCC:-} ]] || timed './scc compile And' ./scc compile And examples/and.cpp
+timed 'the program itself' "$program" compile And examples/and.cpp
 for ports in 250 500 1000; do
   thin_text "$ports" >"$work/$ports.cpp"
-  "$program" compile Wide "$work/$ports.cpp" >/dev/null
-  printf '%-28s %8s ms\n' "thin text of $ports ports" "$(timed "$program" compile Wide "$work/$ports.cpp")"
+  timed "thin text of $ports ports" "$program" compile Wide "$work/$ports.cpp"
 done

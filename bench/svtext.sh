@@ -7,12 +7,9 @@ set -euo pipefail
 top=$(cd "$(dirname "$0")/.." && pwd)
 work=$(mktemp -d)
 trap 'rm -rf "$work"' EXIT
+source "$top/bench/copied.sh"
 mkdir -p "$work/crates/bench/src"
-for crate in scc_base scc_bits scc_reading scc_svtree scc_svtext scc_svgrammar scc_svraw scc_svorder scc_svcheck \
-  scc_svwritten scc_svsizes scc_svdrivers scc_svread; do
-  cp -r "$top/crates/$crate" "$work/crates"
-  grep "^$crate:" "$top/crates.txt" >>"$work/crates.txt"
-done
+copied "$work" scc_base scc_svtext scc_svread
 echo 'bench: scc_base scc_svtext scc_svread' >>"$work/crates.txt"
 cat >"$work/crates/bench/src/main.rt" <<'PROGRAM'
 //! Times an emitted text: read, and printed again.
@@ -80,7 +77,7 @@ rt run <"$work/1000.sv" >/dev/null 2>"$work/log" || { cat "$work/log"; exit 1; }
 # the least of nine runs, in microseconds
 least() {
   for _ in 1 2 3 4 5 6 7 8 9; do
-    out/bench <"$1"
+    out/bench <"$1" || echo "bench: ended with $?"
   done | awk '{ if ($1 !~ /^[0-9]+$/) { print; exit } if (NR == 1 || $1 < a) a = $1; if (NR == 1 || $2 < b) b = $2 } END { print a, b }'
 }
 
