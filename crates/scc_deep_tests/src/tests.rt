@@ -2,6 +2,7 @@
 use scc_base::{Boxed, List, NoMemory, Place};
 use scc_bits::{Kind, Op, Word};
 use scc_core::{CoreBase, CoreExpr, CoreExprNode, CoreLeft};
+use scc_memory::{MemExpr, MemExprNode};
 use scc_plaintree::{PlainBase, PlainExpr, PlainExprNode, PlainLeft, PlainNode, PlainStmt};
 use scc_svtree::{SvBinary, SvExpr, SvExprNode, SvLiteral, SvUnary};
 use std::alloc::Global;
@@ -124,6 +125,45 @@ fn emitted_chain(alloc: Global, levels: u32) -> Result<SvExpr, NoMemory> {
     Ok(e)
 }
 
+fn memory_node(alloc: Global, node: MemExprNode) -> Result<MemExpr, NoMemory> {
+    Ok(MemExpr {
+        node: Boxed::new(alloc, node)?,
+    })
+}
+
+fn memory_literal(alloc: Global) -> Result<MemExpr, NoMemory> {
+    let literal = SvLiteral {
+        width: 8,
+        value: ONE,
+    };
+    memory_node(alloc, MemExprNode::Literal(literal))
+}
+
+/// A chain of elements, additions, casts, signs, complements and choices.
+fn memory_chain(alloc: Global, levels: u32) -> Result<MemExpr, NoMemory> {
+    let mut e = memory_literal(alloc)?;
+    for _ in 0..levels {
+        e = memory_node(alloc, MemExprNode::Element { memory: 0, at: e })?;
+        let right = memory_literal(alloc)?;
+        let op = SvBinary::Add;
+        e = memory_node(alloc, MemExprNode::Binary { op, left: e, right })?;
+        e = memory_node(alloc, MemExprNode::Cast { width: 8, of: e })?;
+        e = memory_node(
+            alloc,
+            MemExprNode::Sign {
+                signed: true,
+                of: e,
+            },
+        )?;
+        let op = SvUnary::Not;
+        e = memory_node(alloc, MemExprNode::Unary { op, of: e })?;
+        let yes = memory_literal(alloc)?;
+        let no = memory_literal(alloc)?;
+        e = memory_node(alloc, MemExprNode::Cond { test: e, yes, no })?;
+    }
+    Ok(e)
+}
+
 #[test]
 fn plain_trees_are_let_go(rt: HostRuntime) -> Result<(), Fail> {
     let alloc = rt.alloc();
@@ -156,6 +196,15 @@ fn emitted_trees_are_let_go(rt: HostRuntime) -> Result<(), Fail> {
     let alloc = rt.alloc();
     let chain = emitted_chain(alloc, LEVELS)?;
     assert!(rt; matches!(chain.node.get(), SvExprNode::Cond { .. }));
+    drop(chain);
+    Ok(())
+}
+
+#[test]
+fn trees_with_memories_are_let_go(rt: HostRuntime) -> Result<(), Fail> {
+    let alloc = rt.alloc();
+    let chain = memory_chain(alloc, LEVELS)?;
+    assert!(rt; matches!(chain.node.get(), MemExprNode::Cond { .. }));
     drop(chain);
     Ok(())
 }
