@@ -5,13 +5,19 @@ use scc_base::{Code, NoMemory, Stop, Text};
 use scc_hierread::read_flattened;
 use std::alloc::Global;
 
+// Adds a text with a number in it.
+fn numbered(out: &mut Text, front: &str, behind: &str, k: usize) -> Result<(), NoMemory> {
+    let mut buffer = Buffer::new();
+    out.push_bytes(front.as_bytes())?;
+    out.push_bytes(buffer.format(k).as_bytes())?;
+    out.push_bytes(behind.as_bytes())?;
+    Ok(())
+}
+
 // Adds so many lines with a number in each.
 fn lines(out: &mut Text, front: &str, behind: &str, count: usize) -> Result<(), NoMemory> {
     for k in 0..count {
-        let mut buffer = Buffer::new();
-        out.push_bytes(front.as_bytes())?;
-        out.push_bytes(buffer.format(k).as_bytes())?;
-        out.push_bytes(behind.as_bytes())?;
+        numbered(out, front, behind, k)?;
     }
     Ok(())
 }
@@ -23,6 +29,19 @@ fn nested(alloc: Global, outer: usize, inner: usize) -> Result<Text, NoMemory> {
     t.push_bytes(b"endmodule\nmodule M (\n);\n")?;
     lines(&mut t, "  N n", " ();\n", inner)?;
     t.push_bytes(b"endmodule\nmodule N (\n);\nendmodule\n")?;
+    Ok(t)
+}
+
+// Modules of which each has two instances of the next, but for the last one.
+fn doubled(alloc: Global, levels: usize) -> Result<Text, NoMemory> {
+    let mut t = text(alloc, &[""])?;
+    for k in 0..levels {
+        let next = k.saturating_add(1);
+        numbered(&mut t, "module M", " (\n);\n", k)?;
+        numbered(&mut t, "  M", " a ();\n", next)?;
+        numbered(&mut t, "  M", " b ();\nendmodule\n", next)?;
+    }
+    numbered(&mut t, "module M", " (\n);\nendmodule\n", levels)?;
     Ok(t)
 }
 
@@ -41,6 +60,16 @@ fn at_most_65536_instances(rt: HostRuntime) -> Result<(), NoMemory> {
     let most = nested(rt.alloc(), 256, 255)?;
     assert!(rt; refused(rt.alloc(), most.bytes())?.is_none());
     let more = nested(rt.alloc(), 257, 255)?;
+    assert!(rt; refused(rt.alloc(), more.bytes())? == at_byte(Code::HierTooLarge, 0));
+    Ok(())
+}
+
+// Instances in instances are counted before any is made: 2^16 - 2 of them, and 2^201 - 2, which fits no integer.
+#[test]
+fn instances_double(rt: HostRuntime) -> Result<(), NoMemory> {
+    let most = doubled(rt.alloc(), 15)?;
+    assert!(rt; refused(rt.alloc(), most.bytes())?.is_none());
+    let more = doubled(rt.alloc(), 200)?;
     assert!(rt; refused(rt.alloc(), more.bytes())? == at_byte(Code::HierTooLarge, 0));
     Ok(())
 }

@@ -62,7 +62,7 @@ const LINES: [Row; 22] = [
 ];
 
 // Whole texts.
-const WHOLE: [Row; 13] = [
+const WHOLE: [Row; 14] = [
     ("", "", Code::SvUnexpected),
     ("module M (\n);\nendmodule", "", Code::SvUnexpected),
     ("module M (\n);\nendmodule\n", "\n", Code::SvUnexpected),
@@ -114,6 +114,12 @@ const WHOLE: [Row; 13] = [
     (
         "",
         "module M (\n  output logic q\n);\nendmodule\n",
+        Code::SvDriver,
+    ),
+    // both edges of one clock
+    (
+        "",
+        "module M (\n  input logic c,\n  output logic q,\n  output logic r\n);\n  A a (.c(c), .q(q));\n  B b (.c(c), .q(r));\nendmodule\nmodule A (\n  input logic c,\n  output logic q\n);\n  always_ff @(posedge c) begin\n    q <= 1'h1;\n  end\nendmodule\nmodule B (\n  input logic c,\n  output logic q\n);\n  always_ff @(negedge c) begin\n    q <= 1'h1;\n  end\nendmodule\n",
         Code::SvDriver,
     ),
     // a module that no instance is of is right by itself, but for its drivers
