@@ -1,11 +1,11 @@
 // A debouncer for a button, with an asynchronous reset.
 //
-// `button` comes from outside the clock's domain: it goes through two registers first. `level` follows it when it has
-// stood still for LIMIT cycles; `pressed` and `released` are 1 for one cycle then. `rst_n` is an asynchronous reset,
-// active low: it takes effect without an edge of the clock.
+// `button` is 0 while it is pressed, as with a pull-up resistor. It comes from outside the clock's domain, so it goes
+// through two registers first. `level` follows it when it has not changed for LIMIT cycles; `pressed` and `released` are
+// 1 for one cycle then. `rst_n` is an asynchronous reset, active low: it takes effect without an edge of the clock.
 //
-// It shows: `async_reset_signal_is`, whose reset region may only assign constants, and a stimulus with steps that
-// have no clock edge.
+// It shows: `async_reset_signal_is`, whose reset region may only assign constants, reset values other than 0, and a
+// stimulus with steps that have no clock edge.
 #include <systemc.h>
 
 const int LIMIT = 5;
@@ -19,8 +19,8 @@ SC_MODULE(Debouncer) {
   sc_uint<3> stable;
 
   void synchronise() {
-    first.write(false);
-    second.write(false);
+    first.write(true);
+    second.write(true);
     wait();
     while (true) {
       first.write(button.read());
@@ -31,7 +31,7 @@ SC_MODULE(Debouncer) {
 
   void debounce() {
     stable = 0;
-    level.write(false);
+    level.write(true);
     pressed.write(false);
     released.write(false);
     wait();
@@ -47,8 +47,8 @@ SC_MODULE(Debouncer) {
         level.write(second.read());
         stable = 0;
       }
-      pressed.write(changes && second.read());
-      released.write(changes && !second.read());
+      pressed.write(changes && !second.read());
+      released.write(changes && second.read());
       wait();
     }
   }

@@ -1,4 +1,4 @@
-"""What the other tools need to know of an emitted text: the ports of its first module, its clocks and its registers.
+"""What the other tools need to know of an emitted text: the ports of its first module, its clocks, resets and registers.
 
 The text has one form, line by line, so a few patterns are enough.
 """
@@ -11,7 +11,7 @@ PORT = re.compile(r"  (input|output) logic (?:\[(\d+):0\] )?(.*?),?$")
 INSTANCE = re.compile(rf"  ({NAME}) ({NAME}) ?\((.*)\);$")
 WIRE = re.compile(rf"\.({NAME})\(({NAME})\)")
 MEMORY = re.compile(rf"  logic (?:\[\d+:0\] )?({NAME}) \[0:(\d+)\];$")
-EDGE = re.compile(r"  always_ff @\((posedge|negedge) (\S+?) ?(?:\)| or )")
+EDGE = re.compile(r"  always_ff @\((posedge|negedge) (\S+?) ?(?:\)| or (posedge|negedge) (\S+?) ?\))")
 SET = re.compile(r" +(\S+ ?) <= ")
 
 
@@ -39,10 +39,17 @@ class Clock:
 
 
 @dataclass
+class Reset:
+    name: str
+    active: bool  # the level at which it resets
+
+
+@dataclass
 class Module:
     name: str
     ports: list
     clocks: list = field(default_factory=list)  # in the order of the ports; none in a module of combinational blocks alone
+    resets: list = field(default_factory=list)  # the asynchronous ones
     registers: list = field(default_factory=list)  # as SystemVerilog names them from outside: elements and instances too
 
     @property
@@ -74,7 +81,7 @@ class Part:
     """One `module` of a text."""
 
     def __init__(self, lines):
-        self.name, self.ports, self.edges, self.registers, self.instances = "", [], {}, [], []
+        self.name, self.ports, self.edges, self.resets, self.registers, self.instances = "", [], {}, {}, [], []
         memories = {}
         for line in lines:
             if found := MODULE.match(line):
@@ -86,6 +93,8 @@ class Part:
                 memories[plain(found.group(1))] = int(found.group(2)) + 1
             elif found := EDGE.match(line):
                 self.edges[plain(found.group(2))] = found.group(1) == "posedge"
+                if found.group(3):
+                    self.resets[plain(found.group(4))] = found.group(3) == "posedge"
             elif found := INSTANCE.match(line):
                 wires = {plain(port): plain(wire) for port, wire in WIRE.findall(found.group(3))}
                 self.instances.append((plain(found.group(1)), plain(found.group(2)), wires))
@@ -98,18 +107,20 @@ class Part:
 
 def gathered(parts, part):
     """The edges and registers of a module with all that stands in its instances."""
-    edges, registers = dict(part.edges), list(part.registers)
+    edges, resets, registers = dict(part.edges), dict(part.resets), list(part.registers)
     for module, name, wires in part.instances:
-        inner_edges, inner_registers = gathered(parts, parts[module])
+        inner_edges, inner_resets, inner_registers = gathered(parts, parts[module])
         edges.update((wires[clock], rising) for clock, rising in inner_edges.items())
+        resets.update((wires[reset], active) for reset, active in inner_resets.items())
         registers += [f"{spelled(name)}.{r}" for r in inner_registers]
-    return edges, registers
+    return edges, resets, registers
 
 
 def read_module(text):
     """The first module of an emitted text, with what stands in its instances."""
     parts = [Part(lines.splitlines()) for lines in re.split(r"^(?=module )", text, flags=re.M) if lines]
     top = parts[0]
-    edges, registers = gathered({p.name: p for p in parts}, top)
+    edges, resets, registers = gathered({p.name: p for p in parts}, top)
     clocks = [Clock(p.name, edges[p.name]) for p in top.ports if p.name in edges]
-    return Module(top.name, top.ports, clocks, registers)
+    asynchronous = [Reset(p.name, resets[p.name]) for p in top.ports if p.name in resets]
+    return Module(top.name, top.ports, clocks, asynchronous, registers)

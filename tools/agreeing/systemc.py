@@ -61,6 +61,9 @@ def testbench(module, stimulus, sources):
     place = {p.name: k for k, p in enumerate(module.ports)}
     clocks = module.clocks_of(stimulus)
     lines += [written(place, c, not c.rising) for c in clocks]
+    # a reset that is active from the start has no edge, so it is inactive for a moment first
+    lines += [written(place, r, not r.active) for r in module.resets]
+    lines += ["  sc_start(1, SC_NS);"] if module.resets else []
     lines.append(f'  std::puts("{stimulus.trace_head}");')
     for number, step in enumerate(stimulus.steps):
         for name, value in zip(stimulus.ports, step.values):
@@ -76,8 +79,8 @@ def testbench(module, stimulus, sources):
     return "\n".join(lines)
 
 
-def written(place, clock, level):
-    return f"  port_{place[clock.name]}.write({str(level).lower()});"
+def written(place, port, level):
+    return f"  port_{place[port.name]}.write({str(level).lower()});"
 
 
 def observation(module, place, label):

@@ -15,6 +15,9 @@ def testbench(module, stimulus, registers_are_named=True):
         lines += ["`endif"]
     clocks = module.clocks_of(stimulus)
     lines += [assigned(c, not c.rising) for c in clocks]
+    # a reset that is active from the start has no edge, so it is inactive for a moment first
+    lines += [assigned(r, not r.active) for r in module.resets]
+    lines += ["    #1;"] if module.resets else []
     lines.append(f'    $display("{stimulus.trace_head}");')
     widths = {p.name: p for p in module.inputs()}
     for number, step in enumerate(stimulus.steps):
@@ -33,8 +36,8 @@ def testbench(module, stimulus, registers_are_named=True):
     return "\n".join(lines)
 
 
-def assigned(clock, level):
-    return f"    \\{clock.name} = 1'b{int(level)};"
+def assigned(port, level):
+    return f"    \\{port.name} = 1'b{int(level)};"
 
 
 def observation(module, label):
