@@ -1,26 +1,26 @@
 #!/usr/bin/env python3
-"""Runs the examples of docs/errors, and says where a refusal isn't the one that stands there.
+"""Runs the examples of docs/errors, and prints where a refusal isn't the one on the page.
 
     tools/error_examples.py [PAGE ..] [--scc CMD] [--write] [--data]
     tools/error_examples.py --table | --check
 
 A page has, below the heading of a code, blocks of files and blocks of commands:
 
-    ```cpp                          the file a.cpp; another name may stand behind the language
+    ```cpp                          the file a.cpp; another name may follow the language
     SC_MODULE(T) { .. };
     ```
 
     ```console
     $ scc compile T a.cpp           a command over the files since the last command
-    a.cpp:1:3: E304 mismatch        what it says on standard error
+    a.cpp:1:3: E304 mismatch        what it prints on standard error
     ```
 
-In a file `{{N*text}}` stands for the text N times, in which `{#}` is the number of the time, from 0. --write puts in the
-place of each refusal what the program says; --data prints all examples as JSON, one a line: its code, words, files and
+In a file `{{N*text}}` is N times the text, in which `{#}` is the number of the time, from 0. --write puts in the
+place of each refusal what the program prints; --data prints all examples as JSON, one a line: its code, words, files and
 refusal. CMD is another program in the place of `./scc`, as is the environment's SCC.
 
---table writes the examples as tables of the crate scc_error_tests, whose tests the gate runs, and --check says where the
-tables aren't what the pages say: neither needs a built program.
+--table writes the examples as tables of the crate scc_error_tests, whose tests the gate runs, and --check prints where the
+tables aren't those of the pages: neither needs a built program.
 """
 import argparse
 import json
@@ -99,7 +99,7 @@ def wrong(example, scc):
 
 
 def pieces(text):
-    """The parts of a file, each with how many times it stands."""
+    """The parts of a file, each with how many times it is there."""
     place = 0
     for match in REPEAT.finditer(text):
         if place < match.start():

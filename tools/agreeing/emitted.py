@@ -28,7 +28,7 @@ class Port:
 
     @property
     def spelling(self):
-        """The name as it stands in SystemVerilog: all ports are escaped where they are connected."""
+        """The name as SystemVerilog writes it: all ports are escaped where they are connected."""
         return spelled(self.name)
 
 
@@ -106,7 +106,7 @@ class Part:
 
 
 def gathered(parts, part):
-    """The edges and registers of a module with all that stands in its instances."""
+    """The edges, resets and registers of a module with those of its instances."""
     edges, resets, registers = dict(part.edges), dict(part.resets), list(part.registers)
     for module, name, wires in part.instances:
         inner_edges, inner_resets, inner_registers = gathered(parts, parts[module])
@@ -117,7 +117,7 @@ def gathered(parts, part):
 
 
 def read_module(text):
-    """The first module of an emitted text, with what stands in its instances."""
+    """The first module of an emitted text, with what is in its instances."""
     parts = [Part(lines.splitlines()) for lines in re.split(r"^(?=module )", text, flags=re.M) if lines]
     top = parts[0]
     edges, resets, registers = gathered({p.name: p for p in parts}, top)

@@ -7,7 +7,7 @@ from agreeing import systemc, verilog
 
 
 class Failed(Exception):
-    """A tool ended with a fault; the text is the first line that speaks of an error, or the first that it said."""
+    """A tool ended with a fault; the text is the first line that speaks of an error, or the first that it printed."""
 
 
 def call(words, folder, text=None):
@@ -20,7 +20,7 @@ def call(words, folder, text=None):
 
 
 def trace_of(output):
-    """The trace's lines; simulators may say more, before or behind."""
+    """The trace's lines; simulators may print more, before or after."""
     lines = output.splitlines()
     start = next((k for k, line in enumerate(lines) if line.startswith("scc-trace ")), len(lines))
     kept = [line for line in lines[start:] if line.startswith("scc-trace ") or line[:1].isdigit()]
