@@ -203,7 +203,7 @@ def main():
             if fault:
                 print(f"{page.name}: E{e.code}: {fault}")
     if not a.data:
-        print(f"{passed} as they stand, {failed} not")
+        print(f"{passed} as on their pages, {failed} not")
     sys.exit(failed > 0)
 
 
