@@ -1,8 +1,8 @@
 // A debouncer for a button, with an asynchronous reset.
 //
 // `button` is 0 while it is pressed, as with a pull-up resistor. It comes from outside the clock's domain, so it goes
-// through two registers first. `level` follows it when it has not changed for LIMIT cycles; `pressed` and `released` are
-// 1 for one cycle then. `rst_n` is an asynchronous reset, active low: it takes effect without an edge of the clock.
+// through two registers first. `level` follows it when it has not changed for LIMIT cycles; `pressed` and `released`
+// are 1 for one cycle then. `rst_n` is an asynchronous reset, active low: it takes effect without an edge of the clock.
 //
 // It shows: `async_reset_signal_is`, whose reset region may only assign constants, reset values other than 0, and a
 // stimulus with steps that have no clock edge.
