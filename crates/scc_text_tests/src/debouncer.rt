@@ -9,12 +9,12 @@ pub const DESIGNS: &[Design] = &[Design {
         parts: &[
             "// A debouncer for a button, with an asynchronous reset.
 //
-// `button` comes from outside the clock's domain: it goes through two registers first. `level` follows it when it has
-// stood still for LIMIT cycles; `pressed` and `released` are 1 for one cycle then. `rst_n` is an asynchronous reset,
-// active low: it takes effect without an edge of the clock.
+// `button` is 0 while it is pressed, as with a pull-up resistor. It comes from outside the clock's domain, so it goes
+// through two registers first. `level` follows it when it has not changed for LIMIT cycles; `pressed` and `released`
+// are 1 for one cycle then. `rst_n` is an asynchronous reset, active low: it takes effect without an edge of the clock.
 //
-// It shows: `async_reset_signal_is`, whose reset region may only assign constants, and a stimulus with steps that
-// have no clock edge.
+// It shows: `async_reset_signal_is`, whose reset region may only assign constants, reset values other than 0, and a
+// stimulus with steps that have no clock edge.
 #include <systemc.h>
 
 const int LIMIT = 5;
@@ -28,8 +28,8 @@ SC_MODULE(Debouncer) {
   sc_uint<3> stable;
 
   void synchronise() {
-    first.write(false);
-    second.write(false);
+    first.write(true);
+    second.write(true);
     wait();
     while (true) {
       first.write(button.read());
@@ -41,7 +41,7 @@ SC_MODULE(Debouncer) {
 ",
             "  void debounce() {
     stable = 0;
-    level.write(false);
+    level.write(true);
     pressed.write(false);
     released.write(false);
     wait();
@@ -57,8 +57,8 @@ SC_MODULE(Debouncer) {
         level.write(second.read());
         stable = 0;
       }
-      pressed.write(changes && second.read());
-      released.write(changes && !second.read());
+      pressed.write(changes && !second.read());
+      released.write(changes && second.read());
       wait();
     }
   }
@@ -116,8 +116,8 @@ SC_MODULE(Debouncer) {
 ",
         "  always_ff @(posedge clk or negedge rst_n) begin
     if ((!rst_n)) begin
-      first <= 1'h0;
-      second <= 1'h0;
+      first <= 1'h1;
+      second <= 1'h1;
       synchronise$$state <= 1'h0;
     end else begin
       first <= first$$n;
@@ -146,8 +146,8 @@ SC_MODULE(Debouncer) {
           level$$n = second;
           stable$$n = 3'h0;
         end
-        pressed$$n = (debounce$0$changes && second);
-        released$$n = (debounce$0$changes && (!second));
+        pressed$$n = (debounce$0$changes && (!second));
+        released$$n = (debounce$0$changes && second);
         debounce$$state$$n = 1'h1;
       end
       1'h1: begin
@@ -163,15 +163,15 @@ SC_MODULE(Debouncer) {
           level$$n = second;
           stable$$n = 3'h0;
         end
-        pressed$$n = (debounce$0$changes && second);
-        released$$n = (debounce$0$changes && (!second));
+        pressed$$n = (debounce$0$changes && (!second));
+        released$$n = (debounce$0$changes && second);
         debounce$$state$$n = 1'h1;
       end
     endcase
   end
   always_ff @(posedge clk or negedge rst_n) begin
     if ((!rst_n)) begin
-      level <= 1'h0;
+      level <= 1'h1;
       pressed <= 1'h0;
       released <= 1'h0;
       stable <= 3'h0;
