@@ -1,5 +1,5 @@
 -- Look-ups by place in a list whose elements have texts.
-use Rattle.std.proofs.Common.{◌≡◌, ℕ, zero, suc, ◌+◌, Bool, true, false, cond, not, List, [], ◌∷◌, map, length, position, Option, Some, None, option_map, bytes_eq, nat_lt, refl, sym, ap, ◌∙◌, arith}
+use Rattle.std.proofs.Common.{◌≡◌, ℕ, suc, ◌+◌, Bool, true, false, cond, not, List, [], ◌∷◌, map, length, position, Option, Some, None, option_map, bytes_eq, nat_lt, refl, sym, ap, ◌∙◌, arith}
 use Rattle.std.specs.List.{find, prefix_len, zip}
 use Rattle.std.proofs.lemmas.Bool.Decides.{nat_tests}
 use Rattle.std.proofs.lemmas.Slice.Eq.{bytes_eq-Decides}

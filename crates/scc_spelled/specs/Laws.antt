@@ -1,13 +1,17 @@
 -- What is said of every text that is a word or a mark.
-use Rattle.std.specs.Prelude.{◌≡◌, ℕ, List, [], ◌∷◌, map, Some, option_map, bytes_eq, codes, ◌||◌, if◌then◌else◌}
+use Rattle.std.specs.Prelude.{◌≡◌, ℕ, ◌+◌, List, [], ◌∷◌, map, Some, option_map, bytes_eq, codes, ◌==◌, ◌&&◌, ◌||◌, if◌then◌else◌}
 use Rattle.scc_lexer.specs.Words.{word_index, mark_index}
+use Rattle.scc_lexer.specs.declared.token.Token.{Token}
 use Rattle.scc_lexer.specs.declared.token.TokenKind.TheVariants as kind
 use Rattle.scc_terminals.specs.View.{word_of, mark_of}
 use Rattle.scc_thin.specs.declared.thin.numbers.TheConstants.{VOID, SC_MODULE, SC_CTOR, SC_METHOD, SC_IN, SC_OUT, SC_UINT, SENSITIVE, BRACE_OPEN, BRACE_CLOSE, PAREN_OPEN, PAREN_CLOSE, LESS, GREATER, SEMICOLON, COMMA, DOT, AND, OR, XOR, SHIFT_LEFT, SHIFT_RIGHT}
 use Rattle.scc_directives.specs.declared.directive.Words.{Words}
 use Rattle.scc_directives.specs.declared.directive.Directive.TheVariants as directive
 use Rattle.scc_directives.specs.Directive.{directive_of}
-use Rattle.scc_directives.specs.Out.{is_word_kind, is_mark_kind}
+use Rattle.scc_directives.specs.declared.included.Operand.TheVariants.{Own, Other}
+use Rattle.scc_directives.specs.Out.{is_scope_word, is_scope_mark}
+use Rattle.scc_directives.specs.Define.{adjoins}
+use Rattle.scc_directives.specs.Included.{is_ident, operand_of}
 use Rattle.scc_spelled.specs.declared.thin.TheConstants.{THIN_WORDS, THIN_MARKS}
 use Rattle.scc_spelled.specs.Spelling.{words, marks, terminal_of, word_text, mark_text}
 
@@ -39,10 +43,29 @@ abbrev pub ElseIsSpelled : Type 0
 ElseIsSpelled = (w : Words) (text : List ℕ) (i : ℕ) → word_index text ≡ Some i
     → directive_of w (kind.Word i) ≡ (if bytes_eq text (codes "else") then directive.Else else directive.Unknown)
 
-abbrev pub ScopesAreSpelled : Type 0
-ScopesAreSpelled = (text : List ℕ) (i : ℕ) → word_index text ≡ Some i
-    → (is_word_kind (kind.Word i) 61 || is_word_kind (kind.Word i) 62) ≡ (bytes_eq text (codes "sc_core") || bytes_eq text (codes "sc_dt"))
+-- a token as the word, or as the mark, of this number
+abbrev pub as_word : Token → ℕ → Token
+as_word t i = record t { kind = kind.Word i }
 
-abbrev pub MarksOfDirectivesAreSpelled : Type 0
-MarksOfDirectivesAreSpelled = (text : List ℕ) (i : ℕ) → mark_index text ≡ Some i
-    → (is_mark_kind (kind.Mark i) 11 ≡ bytes_eq text (codes "::")) × (is_mark_kind (kind.Mark i) 2 ≡ bytes_eq text (codes "("))
+abbrev pub as_mark : Token → ℕ → Token
+as_mark t i = record t { kind = kind.Mark i }
+
+abbrev pub ScopesAreSpelled : Type 0
+ScopesAreSpelled = (t : Token) (text : List ℕ) (i : ℕ) → word_index text ≡ Some i → is_scope_word (as_word t i) ≡ (bytes_eq text (codes "sc_core") || bytes_eq text (codes "sc_dt"))
+
+abbrev pub ScopeMarkIsSpelled : Type 0
+ScopeMarkIsSpelled = (t : Token) (text : List ℕ) (i : ℕ) → mark_index text ≡ Some i → is_scope_mark (as_mark t i) ≡ bytes_eq text (codes "::")
+
+abbrev pub ParametersAreSpelled : Type 0
+ParametersAreSpelled = (name t : Token) (ts : List Token) (text : List ℕ) (i : ℕ) → mark_index text ≡ Some i
+    → adjoins name (as_mark t i ∷ ts) ≡ (bytes_eq text (codes "(") && t.place.at == name.place.at + name.len)
+
+-- `#include <systemc>` and `#include <systemc.h>`: the marks around the names are `<`, `>` and `.`, and no others.
+abbrev pub HeaderIsSpelled : Type 0
+HeaderIsSpelled = (w : Words) (a b c : Token) (opens closes : List ℕ) (i j : ℕ) → mark_index opens ≡ Some i → mark_index closes ≡ Some j
+    → operand_of w (as_mark a i ∷ b ∷ as_mark c j ∷ []) ≡ (if bytes_eq opens (codes "<") && is_ident b w.systemc.0 && bytes_eq closes (codes ">") then Own else Other)
+
+abbrev pub OldHeaderIsSpelled : Type 0
+OldHeaderIsSpelled = (w : Words) (a b c d e : Token) (opens between closes : List ℕ) (i j k : ℕ) → mark_index opens ≡ Some i → mark_index between ≡ Some j → mark_index closes ≡ Some k
+    → operand_of w (as_mark a i ∷ b ∷ as_mark c j ∷ d ∷ as_mark e k ∷ [])
+    ≡ (if bytes_eq opens (codes "<") && is_ident b w.systemc.0 && bytes_eq between (codes ".") && is_ident d w.h.0 && bytes_eq closes (codes ">") then Own else Other)

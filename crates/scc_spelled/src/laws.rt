@@ -1,5 +1,5 @@
 //! Laws over the tables of words and marks, each the clause of a function that does nothing.
-ghost use Rattle.scc_spelled.specs.Laws.{WordsAreSpelled, MarksAreSpelled, WordsHaveOneSpelling, MarksHaveOneSpelling, ThinWordsAreSpelled, ThinMarksAreSpelled, ElseIsSpelled, ScopesAreSpelled, MarksOfDirectivesAreSpelled};
+ghost use Rattle.scc_spelled.specs.Laws.{WordsAreSpelled, MarksAreSpelled, WordsHaveOneSpelling, MarksHaveOneSpelling, ThinWordsAreSpelled, ThinMarksAreSpelled, ElseIsSpelled, ScopesAreSpelled, ScopeMarkIsSpelled, ParametersAreSpelled, HeaderIsSpelled, OldHeaderIsSpelled};
 
 /// The grammar takes each text that is a word for the terminal of that spelling.
 #[tactic(auto, using(crate::proofs::Spelled::words_are_spelled))]
@@ -29,5 +29,8 @@ pub fn thin_texts_are_spelled()
 pub fn directives_are_spelled()
     ensures words { ElseIsSpelled }
     ensures scopes { ScopesAreSpelled }
-    ensures marks { MarksOfDirectivesAreSpelled }
+    ensures scope_mark { ScopeMarkIsSpelled }
+    ensures parameters { ParametersAreSpelled }
+    ensures header { HeaderIsSpelled }
+    ensures old_header { OldHeaderIsSpelled }
 {}
