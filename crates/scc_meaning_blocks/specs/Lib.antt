@@ -12,3 +12,6 @@ pub mod Listed
 pub mod Built
 pub mod Traced
 pub mod Worked
+pub mod WorkedPaths
+pub mod WorkedClocks
+pub mod WorkedList

@@ -3,10 +3,15 @@
 #![tactic(auto)]
 
 mod laws;
+mod told;
 
 pub use laws::{
     a_reader_stands_behind_its_writer, an_element_is_read_early, modules_are_built_of_processes,
     passes_keep_shapes, registers_count, registers_wait_and_are_reset,
     the_list_of_the_counting_thread, the_trace_of_a_design, valuations_show_stores,
     waits_have_frames,
+};
+pub use told::{
+    a_list_is_whole, a_reset_that_reads_is_refused, clocks_and_resets_act, cycles_are_told,
+    first_answers_are_told, kept_cells_are_told, paths_are_told, what_is_past_the_end,
 };
