@@ -1,5 +1,5 @@
 //! Laws that cite the definitions.
-ghost use Rattle.std.specs.Prelude.{◌≡◌, ℕ, List, ◌++◌, codes, decimal, true, false, Some, slice_get};
+ghost use Rattle.std.specs.Prelude.{◌≡◌, ℕ, Bool, List, [], ◌++◌, codes, decimal, map, true, false, None, Some, slice_get};
 ghost use Rattle.scc_meaning.specs.Location.{Location};
 ghost use Rattle.scc_running.specs.Design.{Design};
 ghost use Rattle.scc_svtree.specs.declared.module.SvModule.{SvModule};
@@ -7,9 +7,13 @@ ghost use Rattle.scc_svtree.specs.declared.expr.SvBinary.TheVariants.{Lt};
 ghost use Rattle.scc_svtree.specs.Term.{Cond, Binary, Literal};
 ghost use Rattle.scc_meaning_memory.specs.Array.{Array, IsNamed, element_name, with_part, width_of, tree, whole};
 ghost use Rattle.scc_meaning_memory.specs.Taken.{IsTaken};
-ghost use Rattle.scc_meaning_memory.specs.Memory.{MemModule, Memory, run};
+ghost use Rattle.scc_meaning_memory.specs.Memory.{End, MemModule, Memory, run};
 ghost use Rattle.scc_meaning_memory.specs.Edges.{after_edges};
-ghost use Rattle.scc_meaning_memory.specs.Steps.{MemoryShows, HasMemories, StandsFor};
+ghost use Rattle.scc_meaning_memory.specs.Steps.{HasMemories, HasParts, IsGone, StandsFor};
+ghost use Rattle.scc_meaning_memory.specs.Matches.{MemoryShows};
+ghost use Rattle.scc_meaning_memory.specs.Text.{AreBlockTexts, IsCodeText, MemReads, Spelled};
+ghost use Rattle.scc_meaning_memory.specs.WorkedTaken.{buffer, buffer_vars, buffer_blocks, clearing};
+ghost use Rattle.scc_meaning_text.specs.Renamed.{block_code};
 ghost use Rattle.scc_meaning_memory.specs.Worked.{vars, array, read_code, with_memory, here};
 
 /// The names of elements and next values, and the choice of an element by a variable: the first half, then the second.
@@ -30,8 +34,27 @@ pub fn a_memory_is_read_and_written()
     ensures unclocked { (after_edges with_memory (λ v. false) here).elements 0 1 ≡ 5 }
 {}
 
-/// What a module with memories shows, and whose memories it has.
+/// What a module with memories shows, and whose memories it has: it has the top's name, and nothing is left of an array that gave way.
 pub fn modules_with_memories_show_designs()
-    ensures shows { (text : Location → List ℕ) (d : Design) (m : MemModule) → MemoryShows text d m → MemoryShows text d m }
+    ensures name { (text : Location → List ℕ) (own : List ℕ → Bool) (kept : Location → Bool) (d : Design) (top : List ℕ) (m : MemModule) → MemoryShows text own kept d top m → m.name ≡ top }
     ensures memories { (m : SvModule) (n : MemModule) (k : ℕ) (b : Memory) → HasMemories m n → slice_get n.memories k ≡ Some b → (a : Array) × StandsFor m b a }
+    ensures parts { (m : SvModule) (n : MemModule) (k : ℕ) (b : Memory) → HasMemories m n → slice_get n.memories k ≡ Some b → HasParts n b }
+    ensures gone { (m : SvModule) (n : MemModule) (a : Array) → HasMemories m n → IsTaken m a → IsGone n a }
+{}
+
+/// A buffer that a variable reads and writes is taken, whatever module has it.
+pub fn buffers_are_taken()
+    ensures { (m : SvModule) → m.vars ≡ buffer_vars → map block_code m.blocks ≡ buffer_blocks None → IsNamed buffer_vars buffer → IsTaken m buffer }
+{}
+
+/// The same with a reset that clears its elements isn't.
+pub fn arrays_that_a_reset_clears_are_not_taken()
+    ensures { (m : SvModule) → map block_code m.blocks ≡ buffer_blocks (Some clearing) → IsTaken m buffer → ⊥ }
+{}
+
+/// No statements are written as nothing, nor are no blocks.
+pub fn memories_are_written_as_text()
+    ensures statements { (n : Spelled) → IsCodeText n 4 End [] }
+    ensures blocks { (m : MemModule) → AreBlockTexts m [] [] }
+    ensures whole { (bytes : List ℕ) (m : MemModule) → MemReads bytes m → MemReads bytes m }
 {}
