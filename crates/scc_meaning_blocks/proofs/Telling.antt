@@ -1,12 +1,12 @@
 -- What the first answer of a walk tells, and the paths of worked bodies.
-use Rattle.std.proofs.Common.{◌≡◌, ◌⊎◌, inl, inr, ◌<◌, ℕ, zero, suc, Bool, true, false, List, [], ◌∷◌, ◌++◌, Option, Some, None, refl, sym, ap, arith, true≢false}
-use Rattle.scc_meaning_core.specs.First.{first_of, or_else, TellsFirst, IsFirst, NoneOf}
-use Rattle.scc_meaning_core.specs.Feeding.{Reaches, one, more, IsFirstLoop, feeds}
+use Rattle.std.proofs.Common.{◌≡◌, inl, inr, ◌<◌, ℕ, zero, suc, true, List, [], ◌∷◌, Option, Some, None, refl, sym, ap, arith, true≢false}
+use Rattle.scc_meaning_core.specs.First.{first_of, or_else, TellsFirst, IsFirst}
+use Rattle.scc_meaning_core.specs.Feeding.{one, more, IsFirstLoop, feeds}
 use Rattle.scc_meaning_core.specs.Segments.{Plain, Halt}
 use Rattle.scc_meaning_core.specs.Code.{End}
 use Rattle.scc_meaning_core.specs.Term.{Whole}
 use Rattle.scc_meaning_core.specs.Term as term
-use Rattle.scc_meaning_core.specs.Paths.{Goes, Misses, MayNotWait, puts, cut, ends}
+use Rattle.scc_meaning_core.specs.Paths.{Misses, MayNotWait, puts, cut, ends}
 use Rattle.scc_meaning_core.specs.Flow.{TellsMisses, TellsEarly, TellsIdle, every}
 use Rattle.scc_meaning_core.specs.Kept.{IsKept, TellsKept}
 use Rattle.scc_meaning_core.specs.Paths.{Early}

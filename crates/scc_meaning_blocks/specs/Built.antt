@@ -1,7 +1,7 @@
 -- What the module of a core is made of: its blocks in order with the processes to which they belong, what each mentions, its registers, and how many statements
 -- it has. This project's own.
-use Rattle.std.specs.Prelude.{◌≡◌, ◌⊎◌, ◌<◌, ◌≤◌, ◌^◌, ◌*◌, ◌+◌, ◌-◌, ℕ, zero, suc, max, Bool, true, false, not, ◌&&◌, List, [], ◌∷◌, ◌++◌, map, filter, flat_map, length, sum, Option, Some, None, slice_get, codes, decimal, is_some, if◌then◌else◌}
-use Rattle.std.specs.List.{list_any, range_with_len}
+use Rattle.std.specs.Prelude.{◌≡◌, ◌⊎◌, ◌<◌, ◌≤◌, ◌^◌, ◌*◌, ◌+◌, ◌-◌, ℕ, max, Bool, true, false, not, ◌&&◌, List, [], ◌∷◌, ◌++◌, map, filter, flat_map, length, sum, Some, slice_get, codes, decimal, is_some}
+use Rattle.std.specs.List.{range_with_len}
 use Rattle.scc_svtree.specs.declared.module.SvModule.{SvModule}
 use Rattle.scc_svtree.specs.declared.module.SvVar.{SvVar}
 use Rattle.scc_svtree.specs.declared.module.SvBlock.{SvBlock}
@@ -9,7 +9,7 @@ use Rattle.scc_svtree.specs.Code as emitted
 use Rattle.scc_svtree.specs.Sound.{block_names}
 use Rattle.scc_meaning_text.specs.Renamed.{BlockCode, Comb, Edge, block_code}
 use Rattle.scc_meaning_text.specs.Matches.{registers, name_at, width_of_var, is_port}
-use Rattle.scc_meaning_core.specs.Program.{Program, Process, Cell, Reset, is_output}
+use Rattle.scc_meaning_core.specs.Program.{Program, Process, Cell, is_output}
 use Rattle.scc_meaning_core.specs.Static.{Cells}
 use Rattle.scc_meaning_core.specs.Uses.{among, has_sort, width_at}
 use Rattle.scc_meaning_core.specs.Clashes.{live_acts, names_of}

@@ -1,5 +1,5 @@
 -- Two methods, each at a clock of its own; and the counting thread under an asynchronous reset, which acts without an edge.
-use Rattle.std.specs.Prelude.{ℕ, true, false, List, [], ◌∷◌, map, Option, Some, None, unwrap_or, option_map}
+use Rattle.std.specs.Prelude.{ℕ, true, false, List, [], ◌∷◌, map, Option, Some, None}
 use Rattle.scc_kinds.specs.declared.kind.Kind.TheVariants as kind
 use Rattle.scc_kinds.specs.declared.op.Op.TheVariants as op
 use Rattle.scc_meaning.specs.Location.{Location, Member}
@@ -7,8 +7,8 @@ use Rattle.scc_running.specs.Design as running
 use Rattle.scc_running.specs.Machine.{Frames, Stop}
 use Rattle.scc_running.specs.Process.{State, Went, Well, Failed, first_frames}
 use Rattle.scc_running.specs.Run.{Step, Shown, shown}
-use Rattle.scc_meaning_core.specs.Term.{Term, Convert, Binary}
-use Rattle.scc_meaning_core.specs.Code.{Code, End, Block}
+use Rattle.scc_meaning_core.specs.Term.{Convert, Binary}
+use Rattle.scc_meaning_core.specs.Code.{End, Block}
 use Rattle.scc_meaning_core.specs.Program.{Program, Process, Input, Output, Variable}
 use Rattle.scc_meaning_core.specs.Source.{at_top, source_of}
 use Rattle.scc_meaning_core.specs.Constants.{constants_of}
