@@ -1,11 +1,13 @@
 -- The buffer is taken; an array that a reset loads is not.
-use Rattle.std.proofs.Common.{◌≡◌, ◌⊎◌, inl, inr, ℕ, zero, suc, ◌<◌, ◌≤◌, Bool, true, false, List, [], ◌∷◌, map, length, Option, Some, None, slice_get, refl, sym, ap, subst, ◌∙◌, arith, true≢false}
+use Rattle.std.proofs.Common.{◌≡◌, ◌⊎◌, inl, inr, ℕ, zero, suc, ◌<◌, ◌≤◌, Bool, true, false, List, [], ◌∷◌, ◌++◌, ◌+◌, decimal, map, length, Option, Some, None, slice_get, refl, sym, ap, subst, ◌∙◌, arith, true≢false}
 use Rattle.scc_svtree.specs.declared.module.SvModule.{SvModule}
 use Rattle.scc_svtree.specs.declared.expr.SvLeft.TheVariants.{Whole}
 use Rattle.scc_svtree.specs.Term.{Term}
 use Rattle.scc_svtree.specs.Code.{Code, End}
 use Rattle.scc_meaning_text.specs.Renamed.{BlockCode, Comb, Edge, Register, ResetCode, block_code}
-use Rattle.scc_meaning_memory.specs.Array.{Array, IsNamed, whole, width_of}
+use Rattle.std.proofs.lemmas.Fmt.{decimal_digit}
+use Rattle.scc_svtree.specs.declared.module.SvVar.{SvVar}
+use Rattle.scc_meaning_memory.specs.Array.{Array, IsNamed, element_name, elements_from, nexts_of, var_named, whole, width_of}
 use Rattle.scc_meaning_memory.specs.Uses.{Reads, other, chosen, Writes, ends, another, by_number}
 use Rattle.scc_meaning_memory.specs.Taken.{IsTaken, Uses, comb, edge, Every, SetFits, own_set, reset_free, starts, without_starts}
 use Rattle.scc_meaning_memory.specs.WorkedTaken.{puts, buffer, buffer_vars, buffer_uses, buffer_blocks, buffer_edge, clearing}
@@ -61,9 +63,36 @@ only_first : (ks : List ℕ) (k : ℕ) → (k ≡ 0 → ⊥) → begun_by ks k �
 only_first ks zero h = absurd (h refl)
 only_first ks (suc k) h = refl
 
-pub buffer_is_taken : (m : SvModule) → m.vars ≡ buffer_vars → map block_code m.blocks ≡ buffer_blocks None → IsNamed buffer_vars buffer → IsTaken m buffer
-buffer_is_taken m vs bs named = record {
-  named = subst (λ xs. IsNamed xs buffer) (sym vs) named;
+-- the elements by their names, of which one number is a digit
+is_element : (vars : List SvVar) (name : List ℕ) (left k v : ℕ) → var_named vars (element_name name k) ≡ Some v → elements_from vars name (suc left) k ≡ v ∷ elements_from vars name left (k + 1)
+is_element vars name left k v e = rw e refl
+
+is_end : (vars : List SvVar) (name : List ℕ) (left k : ℕ) → var_named vars (element_name name k) ≡ None → elements_from vars name (suc left) k ≡ []
+is_end vars name left k e = rw e refl
+
+abbrev found : List ℕ → Option ℕ
+found digits = var_named buffer_vars (109 ∷ 36 ∷ digits)
+
+abbrev next_found : List ℕ → Option ℕ
+next_found digits = var_named buffer_vars ((109 ∷ 36 ∷ digits) ++ 36 ∷ 36 ∷ 110 ∷ [])
+
+two_elements : elements_from buffer_vars buffer.name 9 0 ≡ 0 ∷ 2 ∷ []
+two_elements =
+    is_element buffer_vars buffer.name 8 0 0 (ap found (decimal_digit 0 (omega arith)))
+    ∙ ap (λ vs. 0 ∷ vs) (is_element buffer_vars buffer.name 7 1 2 (ap found (decimal_digit 1 (omega arith)))
+    ∙ ap (λ vs. 2 ∷ vs) (is_end buffer_vars buffer.name 6 2 (ap found (decimal_digit 2 (omega arith)))))
+
+two_nexts : nexts_of buffer_vars buffer.name 2 ≡ Some 1 ∷ Some 3 ∷ []
+two_nexts =
+    ap (λ v. v ∷ next_found (decimal 1) ∷ []) (ap next_found (decimal_digit 0 (omega arith)))
+    ∙ ap (λ v. Some 1 ∷ v ∷ []) (ap next_found (decimal_digit 1 (omega arith)))
+
+pub buffer_is_named : IsNamed buffer_vars buffer
+buffer_is_named = record { elements = sym two_elements; nexts = sym two_nexts; some = refl; inner = refl; width = 4; widths = refl; free = refl }
+
+pub buffer_is_taken : (m : SvModule) → m.vars ≡ buffer_vars → map block_code m.blocks ≡ buffer_blocks None → IsTaken m buffer
+buffer_is_taken m vs bs = record {
+  named = subst (λ xs. IsNamed xs buffer) (sym vs) buffer_is_named;
   begun = begun_by (0 ∷ 1 ∷ []);
   set = set_by (0 ∷ 1 ∷ []);
   chooses = is_first;

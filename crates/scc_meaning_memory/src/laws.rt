@@ -1,5 +1,5 @@
 //! Laws that cite the definitions.
-ghost use Rattle.std.specs.Prelude.{◌≡◌, ℕ, Bool, List, [], ◌++◌, codes, decimal, map, true, false, None, Some, slice_get};
+ghost use Rattle.std.specs.Prelude.{◌≡◌, ℕ, Bool, List, [], ◌∷◌, ◌++◌, codes, decimal, map, true, false, None, Some, slice_get};
 ghost use Rattle.scc_meaning.specs.Location.{Location};
 ghost use Rattle.scc_running.specs.Design.{Design};
 ghost use Rattle.scc_svtree.specs.declared.module.SvModule.{SvModule};
@@ -7,14 +7,15 @@ ghost use Rattle.scc_svtree.specs.declared.expr.SvBinary.TheVariants.{Lt};
 ghost use Rattle.scc_svtree.specs.Term.{Cond, Binary, Literal};
 ghost use Rattle.scc_meaning_memory.specs.Array.{Array, IsNamed, element_name, with_part, width_of, tree, whole};
 ghost use Rattle.scc_meaning_memory.specs.Taken.{IsTaken};
-ghost use Rattle.scc_meaning_memory.specs.Memory.{End, MemModule, Memory, run};
+ghost use Rattle.scc_meaning_memory.specs.Memory.{Edge, Element, End, MemModule, Memory, Part, run};
 ghost use Rattle.scc_meaning_memory.specs.Edges.{after_edges};
 ghost use Rattle.scc_meaning_memory.specs.Steps.{HasMemories, HasParts, IsGone, StandsFor};
 ghost use Rattle.scc_meaning_memory.specs.Matches.{MemoryShows};
-ghost use Rattle.scc_meaning_memory.specs.Text.{AreBlockTexts, IsCodeText, MemReads, Spelled};
+ghost use Rattle.scc_meaning_memory.specs.Text.{IsBlockText, IsCodeText, IsTermText, MemReads, Spelled, memory_text, spelled_in};
+ghost use Rattle.scc_svtree.specs.declared.expr.SvLeft.TheVariants.{Whole};
 ghost use Rattle.scc_meaning_memory.specs.WorkedTaken.{buffer, buffer_vars, buffer_blocks, clearing};
 ghost use Rattle.scc_meaning_text.specs.Renamed.{block_code};
-ghost use Rattle.scc_meaning_memory.specs.Worked.{vars, array, read_code, with_memory, here};
+ghost use Rattle.scc_meaning_memory.specs.Worked.{vars, array, memory, read_code, with_memory, here};
 
 /// The names of elements and next values, and the choice of an element by a variable: the first half, then the second.
 pub fn arrays_are_found_by_name()
@@ -44,7 +45,7 @@ pub fn modules_with_memories_show_designs()
 
 /// A buffer that a variable reads and writes is taken, whatever module has it.
 pub fn buffers_are_taken()
-    ensures { (m : SvModule) → m.vars ≡ buffer_vars → map block_code m.blocks ≡ buffer_blocks None → IsNamed buffer_vars buffer → IsTaken m buffer }
+    ensures { (m : SvModule) → m.vars ≡ buffer_vars → map block_code m.blocks ≡ buffer_blocks None → IsTaken m buffer }
 {}
 
 /// The same with a reset that clears its elements isn't.
@@ -52,9 +53,11 @@ pub fn arrays_that_a_reset_clears_are_not_taken()
     ensures { (m : SvModule) → map block_code m.blocks ≡ buffer_blocks (Some clearing) → IsTaken m buffer → ⊥ }
 {}
 
-/// No statements are written as nothing, nor are no blocks.
+/// The three forms of memories: a declaration, an element, and the lines of an edge; no statements are written as nothing.
 pub fn memories_are_written_as_text()
+    ensures declared { memory_text memory ≡ codes "  logic [" ++ (decimal 3 ++ (codes ":0] m [0:" ++ (decimal 2 ++ codes "];\n"))) }
+    ensures element { IsTermText (spelled_in with_memory) (Element 0 (Part (Whole (record { 0 = 4 })))) (codes "m[i]") }
+    ensures edge { IsBlockText with_memory (Edge true 0 None [] (0 ∷ [])) (codes "  always_ff @(posedge c) begin\n    if (m$$w) begin\n      m[m$$a] <= m$$d;\n    end\n  end\n") }
     ensures statements { (n : Spelled) → IsCodeText n 4 End [] }
-    ensures blocks { (m : MemModule) → AreBlockTexts m [] [] }
     ensures whole { (bytes : List ℕ) (m : MemModule) → MemReads bytes m → MemReads bytes m }
 {}
