@@ -60,3 +60,7 @@ loading_thread = record {
 
 abbrev pub loading : Program
 loading = with_cells (cell 0 kind.Bool Input ∷ cell 1 kind.Bool Input ∷ cell 2 (kind.Uint 8) Output ∷ cell 3 (kind.Uint 8) Input ∷ []) (loading_thread ∷ [])
+
+-- `wait(); while (true) { q.write(1); wait(); wait(); }`, the waits at 11, 13 and 14, the write at 12
+abbrev pub three_waits : Code
+three_waits = Block here (Wait (at 11) 0 1 (forever (put_at 12 2 (byte 1) (Wait (at 13) 0 1 (Wait (at 14) 0 1 End))) End)) End

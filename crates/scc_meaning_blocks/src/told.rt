@@ -1,5 +1,5 @@
 //! Laws of what walks over bodies tell, and further worked values.
-ghost use Rattle.std.specs.Prelude.{◌≡◌, ℕ, List, [], ◌∷◌, ◌++◌, codes, decimal, Option, Some, None, true};
+ghost use Rattle.std.specs.Prelude.{◌≡◌, ℕ, List, [], ◌∷◌, ◌++◌, codes, decimal, drop, flat_map, Option, Some, None, true};
 ghost use Rattle.scc_base.specs.declared.refusal.Refusal.{Refusal};
 ghost use Rattle.scc_base.specs.declared.code.Code.TheVariants as reason;
 ghost use Rattle.scc_svtree.specs.declared.expr.SvExpr.{SvExpr};
@@ -11,8 +11,13 @@ ghost use Rattle.scc_meaning_core.specs.Kept.{IsKept, TellsKept};
 ghost use Rattle.scc_meaning_core.specs.Feeding.{IsFirstLoop, feeds};
 ghost use Rattle.scc_meaning_core.specs.Paths.{Misses, Early, MayNotWait};
 ghost use Rattle.scc_meaning_core.specs.Flow.{TellsMisses, TellsEarly, TellsIdle, every};
-ghost use Rattle.scc_meaning_core.specs.Rules.{first_rule};
-ghost use Rattle.scc_meaning_core.specs.Split.{first_after_passes};
+ghost use Rattle.scc_meaning_core.specs.Rules.{first_rule, waits as waits_of};
+ghost use Rattle.scc_meaning_core.specs.Split.{deepest, first_after_passes, first_past, most_statements, most_waits, segments_too_large, stood_in, too_many_states};
+ghost use Rattle.scc_meaning_core.specs.Static.{Cells};
+ghost use Rattle.scc_meaning_core.specs.Live.{live};
+ghost use Rattle.scc_meaning_core.specs.Segments.{all_segments};
+ghost use Rattle.scc_meaning_core.specs.Sizes.{live_body};
+ghost use Rattle.scc_base.specs.declared.refusal.Place.{Place};
 ghost use Rattle.scc_meaning_core.specs.Unrolled.{unrolled, run_turns};
 ghost use Rattle.scc_meaning_core.specs.Uses.{cells_of};
 ghost use Rattle.scc_meaning_core.specs.Worked.{here, named, put, number, count_cells, local_cells, turn_cells};
@@ -20,7 +25,7 @@ ghost use Rattle.scc_meaning_core.specs.WorkedRules.{at};
 ghost use Rattle.scc_meaning_core.specs.WorkedRun.{counting, counting_process};
 ghost use Rattle.scc_meaning_blocks.specs.Listed.{list_text, register_line, register_lines, process_line};
 ghost use Rattle.scc_meaning_blocks.specs.Worked.{some_cells, flag};
-ghost use Rattle.scc_meaning_blocks.specs.WorkedPaths.{above_one, keeping_thread, passing_thread, looping, clears, shows_count, waits, no_turn_body, loading};
+ghost use Rattle.scc_meaning_blocks.specs.WorkedPaths.{above_one, keeping_thread, passing_thread, looping, clears, shows_count, waits, no_turn_body, loading, three_waits};
 ghost use Rattle.scc_meaning_blocks.specs.WorkedClocks.{by_turns, seen_before, asynchronous};
 ghost use Rattle.scc_meaning_blocks.specs.WorkedList.{counting_module, var};
 ghost use Rattle.scc_svtree.specs.declared.module.Dir.TheVariants.{Inner, Output};
@@ -81,4 +86,13 @@ pub fn clocks_and_resets_act()
 /// An asynchronous reset that loads an input is refused at the assignment.
 pub fn a_reset_that_reads_is_refused()
     ensures { first_after_passes first_rule loading ≡ Some (refused reason.ResetValue (at 7)) }
+{}
+
+/// A thread with a wait too many is refused at that wait, segments with a statement too many at that statement: by smaller limits the second wait and the fourth
+/// statement, the reset segment first.
+pub fn limits_of_threads_have_places()
+    ensures waits { drop 1 (waits_of (live count_cells three_waits)) ≡ at 13 ∷ at 14 ∷ [] }
+    ensures statements { first_past 3 deepest (flat_map (stood_in 1) (all_segments (live_body count_cells three_waits))) ≡ Some (at 14) }
+    ensures states { (cs : Cells) (q : Process) (p : Place) (more : List Place) → drop most_waits (waits_of (live cs q.body)) ≡ p ∷ more → too_many_states cs q ≡ Some (refused reason.TooManyStates p) }
+    ensures segments { (cs : Cells) (q : Process) (p : Place) → first_past most_statements deepest (flat_map (stood_in 1) (all_segments (live_body cs q.body))) ≡ Some p → segments_too_large cs q ≡ Some (refused reason.SegmentsTooLarge p) }
 {}
