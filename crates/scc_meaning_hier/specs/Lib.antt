@@ -2,4 +2,6 @@ pub mod Flattened
 pub mod Sound
 pub mod Text
 pub mod Homes
+pub mod Homed
 pub mod Worked
+pub mod WorkedHomes

@@ -1,5 +1,5 @@
 //! Laws that cite the definitions.
-ghost use Rattle.std.specs.Prelude.{◌≡◌, ℕ, Bool, List, [], ◌∷◌, codes, drop, length};
+ghost use Rattle.std.specs.Prelude.{◌≡◌, ℕ, Bool, true, false, List, [], ◌∷◌, codes, drop, length, map, Option, Some, None};
 ghost use Rattle.scc_meaning.specs.Location.{Location};
 ghost use Rattle.scc_running.specs.Design.{Design};
 ghost use Rattle.scc_svtree.specs.declared.module.SvModule.{SvModule};
@@ -9,6 +9,12 @@ ghost use Rattle.scc_meaning_hier.specs.Flattened.{HierShows, of_top};
 ghost use Rattle.scc_meaning_hier.specs.Sound.{AreModulesNamed};
 ghost use Rattle.scc_meaning_hier.specs.Text.{HierReads, hier_text};
 ghost use Rattle.scc_meaning_hier.specs.Homes.{IsSplitUp};
+ghost use Rattle.scc_meaning_core.specs.Program as core;
+ghost use Rattle.scc_meaning_core.specs.WorkedRun.{counting};
+ghost use Rattle.scc_meaning_plain.specs.Program.{Plain};
+ghost use Rattle.scc_meaning_plain.specs.Design as plain;
+ghost use Rattle.scc_meaning_hier.specs.Homed.{AreHomesOf, IsSplitByObjects, home_in, paths_of, processes_of};
+ghost use Rattle.scc_meaning_hier.specs.WorkedHomes.{program, design};
 ghost use Rattle.scc_meaning_hier.specs.Worked.{two, outer, inverts, written};
 
 /// Two inverters in a row: the variables are those of the top, and each instance has its block.
@@ -25,4 +31,15 @@ pub fn modules_show_what_their_flattening_shows()
     ensures modules { (many : Bool) (bytes : List ℕ) (h : Hier) → HierReads many bytes h → AreModulesNamed h.modules }
     ensures name { (text : Location → List ℕ) (own : List ℕ → Bool) (kept : Location → Bool) (d : Design) (top : List ℕ) (h : Hier) → HierShows text own kept d top h → (m : SvModule) × Matches text own kept d m top }
     ensures objects { (m : SvModule) (paths : List (List ℕ)) (homes : List ℕ) (h : Hier) (s : IsSplitUp m paths homes h) → length (of_top h s.top).instances ≡ length (drop 1 paths) }
+{}
+
+/// Two module objects with a method each, and an object of another class between them: the paths of the module objects, and where blocks are at home. A design's
+/// modules have the paths of its module objects.
+pub fn blocks_are_at_home_in_objects()
+    ensures paths { paths_of (λ n. n ∷ []) program design ≡ [] ∷ (1 ∷ []) ∷ (3 ∷ []) ∷ [] }
+    ensures homes { map (home_in program design) (None ∷ Some 1 ∷ Some 0 ∷ []) ≡ 0 ∷ 1 ∷ 2 ∷ [] }
+    ensures methods { processes_of (record { top = 0; cells = []; vectors = []; processes = [] }) (1 ∷ 0 ∷ []) true ≡ None ∷ Some 1 ∷ Some 0 ∷ [] }
+    ensures clocked { processes_of counting [] false ≡ Some 0 ∷ Some 0 ∷ [] }
+    ensures design { (text : ℕ → List ℕ) (p : Plain) (d : plain.Design) (c : core.Program) (m : SvModule) (paths : List (List ℕ)) (homes : List ℕ) → AreHomesOf text p d c m paths homes → paths ≡ paths_of text p d }
+    ensures split { (text : ℕ → List ℕ) (p : Plain) (d : plain.Design) (c : core.Program) (m : SvModule) (h : Hier) → IsSplitByObjects text p d c m h → (paths : List (List ℕ)) × (homes : List ℕ) × IsSplitUp m paths homes h }
 {}

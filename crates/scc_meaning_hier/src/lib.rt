@@ -3,4 +3,7 @@
 
 mod laws;
 
-pub use laws::{modules_show_what_their_flattening_shows, two_inverters_are_flattened};
+pub use laws::{
+    blocks_are_at_home_in_objects, modules_show_what_their_flattening_shows,
+    two_inverters_are_flattened,
+};
