@@ -1,5 +1,5 @@
 //! Laws that cite the definitions.
-ghost use Rattle.std.specs.Prelude.{◌≡◌, ℕ, Bool, [], ◌∷◌, true, false, Some};
+ghost use Rattle.std.specs.Prelude.{◌≡◌, ℕ, Bool, [], ◌∷◌, map, true, false, Some};
 ghost use Rattle.scc_base.specs.declared.code.Code.TheVariants as reason;
 ghost use Rattle.scc_kinds.specs.declared.op.Op.TheVariants as op;
 ghost use Rattle.scc_kinds.specs.declared.kind.Kind.TheVariants as kind;
@@ -13,6 +13,9 @@ ghost use Rattle.scc_meaning_source.specs.Statements.{End};
 ghost use Rattle.scc_meaning_program.specs.Bodies.{body};
 ghost use Rattle.scc_meaning_program.specs.Switch.{start};
 ghost use Rattle.scc_meaning_program.specs.Room.{no_room, nothing};
+ghost use Rattle.scc_meaning.specs.Location as location;
+ghost use Rattle.scc_meaning_plain.specs.Inlined.{home_of};
+ghost use Rattle.scc_meaning_plain.specs.Worked.{program as calling, made as called};
 ghost use Rattle.scc_meaning_core.specs.Resolved.{Made, Stopped};
 ghost use Rattle.scc_meaning_core.specs.First.{refused, refused_beside};
 ghost use Rattle.scc_meaning_program.specs.Program.{program_of};
@@ -126,4 +129,10 @@ pub fn wrong_bodies_are_refused()
 pub fn names_are_known_in_their_scopes()
     ensures label { body_by (program_by (templated scoped_body) 21) 0 ≡ Some scoped_code }
     ensures special { program_by asking 33 ≡ Stopped (refused reason.TemplateDepth (at 5)) }
+{}
+
+/// A process's local stands in the call that declares it: each of two calls has its result and its parameter; a number past them is no call's.
+pub fn locals_stand_in_their_calls()
+    ensures homes { map (home_of calling called 0) (0 ∷ 1 ∷ 2 ∷ 3 ∷ []) ≡ location.Answer 0 (0 ∷ []) ∷ location.Local 0 (0 ∷ []) 0 ∷ location.Answer 0 (1 ∷ []) ∷ location.Local 0 (1 ∷ []) 0 ∷ [] }
+    ensures past { home_of calling called 0 4 ≡ location.Local 0 [] 4 }
 {}
