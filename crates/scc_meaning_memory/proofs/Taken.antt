@@ -1,9 +1,7 @@
 -- The buffer is taken; an array that a reset loads is not.
-use Rattle.std.proofs.Common.{◌≡◌, ◌⊎◌, inl, inr, ℕ, zero, suc, ◌<◌, ◌≤◌, Bool, true, false, List, [], ◌∷◌, ◌++◌, ◌+◌, decimal, map, length, Option, Some, None, slice_get, refl, sym, ap, subst, ◌∙◌, arith, true≢false}
+use Rattle.std.proofs.Common.{◌≡◌, inl, ℕ, zero, suc, Bool, true, false, List, [], ◌∷◌, ◌++◌, ◌+◌, decimal, map, length, Option, Some, None, slice_get, refl, sym, ap, subst, ◌∙◌, arith, true≢false}
 use Rattle.scc_svtree.specs.declared.module.SvModule.{SvModule}
 use Rattle.scc_svtree.specs.declared.expr.SvLeft.TheVariants.{Whole}
-use Rattle.scc_svtree.specs.Term.{Term}
-use Rattle.scc_svtree.specs.Code.{Code, End}
 use Rattle.scc_meaning_text.specs.Renamed.{BlockCode, Comb, Edge, Register, ResetCode, block_code}
 use Rattle.std.proofs.lemmas.Fmt.{decimal_digit}
 use Rattle.scc_svtree.specs.declared.module.SvVar.{SvVar}

@@ -1,6 +1,6 @@
 -- A buffer of two elements of 4 bits, as code: `m[i] = d; x = m[i];` for an index i of one bit, and an edge that keeps both; and the same edge where a reset clears
 -- the elements.
-use Rattle.std.specs.Prelude.{ℕ, true, List, [], ◌∷◌, Option, Some, None, codes}
+use Rattle.std.specs.Prelude.{ℕ, true, List, [], ◌∷◌, Option, codes}
 use Rattle.scc_svtree.specs.declared.module.SvVar.{SvVar}
 use Rattle.scc_svtree.specs.declared.expr.SvLeft.TheVariants.{Whole}
 use Rattle.scc_svtree.specs.Term.{Term}
