@@ -15,3 +15,4 @@ pub mod Worked
 pub mod WorkedPaths
 pub mod WorkedClocks
 pub mod WorkedList
+pub mod WorkedSchedule

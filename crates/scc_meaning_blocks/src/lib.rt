@@ -12,7 +12,7 @@ pub use laws::{
     waits_have_frames,
 };
 pub use told::{
-    a_list_is_whole, a_reset_that_reads_is_refused, clocks_and_resets_act, cycles_are_told,
-    first_answers_are_told, kept_cells_are_told, limits_of_threads_have_places, paths_are_told,
-    what_is_past_the_end,
+    a_list_is_whole, a_reset_that_reads_is_refused, a_schedule_runs, clocks_and_resets_act,
+    cycles_are_told, first_answers_are_told, kept_cells_are_told, limits_of_threads_have_places,
+    paths_are_told, what_is_past_the_end,
 };

@@ -27,6 +27,9 @@ ghost use Rattle.scc_meaning_blocks.specs.Listed.{list_text, register_line, regi
 ghost use Rattle.scc_meaning_blocks.specs.Worked.{some_cells, flag};
 ghost use Rattle.scc_meaning_blocks.specs.WorkedPaths.{above_one, keeping_thread, passing_thread, looping, clears, shows_count, waits, no_turn_body, loading, three_waits};
 ghost use Rattle.scc_meaning_blocks.specs.WorkedClocks.{by_turns, seen_before, asynchronous};
+ghost use Rattle.scc_meaning_blocks.specs.WorkedSchedule.{chain, allowed, at_zero, one_step, outputs_before};
+ghost use Rattle.scc_running.specs.Run.{Shown};
+ghost use Rattle.scc_running.specs.Schedule.{Scheduled, fresh};
 ghost use Rattle.scc_meaning_blocks.specs.WorkedList.{counting_module, var};
 ghost use Rattle.scc_svtree.specs.declared.module.Dir.TheVariants.{Inner, Output};
 
@@ -86,6 +89,11 @@ pub fn clocks_and_resets_act()
 /// An asynchronous reset that loads an input is refused at the assignment.
 pub fn a_reset_that_reads_is_refused()
     ensures { first_after_passes first_rule loading ≡ Some (refused reason.ResetValue (at 7)) }
+{}
+
+/// A schedule of the reader and the writer of a signal, the reader run twice: the input comes to the output.
+pub fn a_schedule_runs()
+    ensures { (os : List Shown) × Scheduled allowed chain (fresh at_zero) one_step os × (outputs_before os ≡ (5 ∷ []) ∷ []) }
 {}
 
 /// A thread with a wait too many is refused at that wait, segments with a statement too many at that statement: by smaller limits the second wait and the fourth
