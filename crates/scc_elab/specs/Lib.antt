@@ -1,3 +1,4 @@
 pub mod Refusals
+pub mod Roots
 pub mod Storage
 pub mod Things

@@ -2,6 +2,7 @@
 ghost use Rattle.std.specs.Prelude.{◌≡◌, ◌≤◌, true, false, length, IfOk, IfErr};
 ghost use Rattle.scc_design.specs.Whole.{is_whole_design};
 ghost use Rattle.scc_elab.specs.Refusals.{may_stop};
+ghost use Rattle.scc_elab.specs.Roots.{are_rooted, processes_fit};
 ghost use Rattle.scc_elab.specs.Storage.{storage_of};
 
 use crate::after::{check_functions, check_ports};
@@ -22,6 +23,8 @@ use std::alloc::Global;
 /// The design of a program, all of whose clocked processes name one edge of one clock. Refused as E401 to E407 and E409 to E412.
 pub fn elaborate(alloc: Global, p: &Plain) -> Result<Design, Stop>
     ensures whole { IfOk result (λ d. is_whole_design (length p.now.classes) (length p.now.functions) d ≡ true) }
+    ensures roots { IfOk result (λ d. are_rooted d.objects ≡ true) }
+    ensures resets { IfOk result (λ d. processes_fit d.processes ≡ true) }
     ensures bits { IfOk result (λ d. storage_of d.objects ≤ 1048576) }
     ensures refused { IfErr result (λ e. may_stop false e ≡ true) }
 {
@@ -37,6 +40,8 @@ pub fn elaborate(alloc: Global, p: &Plain) -> Result<Design, Stop>
 /// as E401 to E407 and E409 to E413.
 pub fn elaborate_many(alloc: Global, p: &Plain) -> Result<Design, Stop>
     ensures whole { IfOk result (λ d. is_whole_design (length p.now.classes) (length p.now.functions) d ≡ true) }
+    ensures roots { IfOk result (λ d. are_rooted d.objects ≡ true) }
+    ensures resets { IfOk result (λ d. processes_fit d.processes ≡ true) }
     ensures bits { IfOk result (λ d. storage_of d.objects ≤ 1048576) }
     ensures refused { IfErr result (λ e. may_stop true e ≡ true) }
 {

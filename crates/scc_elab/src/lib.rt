@@ -20,6 +20,7 @@ mod processes;
 mod program;
 mod records;
 mod refusals;
+mod roots;
 mod spots;
 mod statements;
 mod things;

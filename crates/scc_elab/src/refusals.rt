@@ -2,8 +2,10 @@
 ghost use Rattle.std.specs.Prelude.{◌≡◌, ◌≤◌, true, length, IfOk, IfErr};
 ghost use Rattle.scc_design.specs.Whole.{is_whole_design as is_whole};
 ghost use Rattle.scc_elab.specs.Refusals as refusals;
+ghost use Rattle.scc_elab.specs.Roots.{are_rooted as rooted, processes_fit as fit};
 ghost use Rattle.scc_elab.specs.Storage.{storage_of};
 
+use crate::roots::{are_rooted, processes_fit};
 use crate::whole::is_whole_design;
 use scc_base::{Code, Refusal, Stop, lost};
 use scc_design::Design;
@@ -52,12 +54,17 @@ pub fn allowed(
 ) -> Result<Design, Stop>
     requires { IfOk answer (λ d. storage_of d.objects ≤ 1048576) }
     ensures whole { IfOk result (λ d. is_whole classes functions d ≡ true) }
+    ensures roots { IfOk result (λ d. rooted d.objects ≡ true) }
+    ensures resets { IfOk result (λ d. fit d.processes ≡ true) }
     ensures bits { IfOk result (λ d. storage_of d.objects ≤ 1048576) }
     ensures refused { IfErr result (λ e. refusals.may_stop many e ≡ true) }
 {
     match answer {
         Ok(design) => {
-            if is_whole_design(classes, functions, &design) {
+            if is_whole_design(classes, functions, &design)
+                && are_rooted(design.objects.as_slice())
+                && processes_fit(design.processes.as_slice())
+            {
                 Ok(design)
             } else {
                 Err(Stop::from(lost()))
