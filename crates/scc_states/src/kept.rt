@@ -1,110 +1,79 @@
 //! Which cells live across a wait: some segment may read them before it writes them whole.
 use crate::types::{SegNode, SegStmt, Split};
+use indexmap::IndexMap;
 use scc_base::{List, NoMemory, lost, push};
 use scc_core::{
     CellSort, CoreExpr, CoreExprNode, CoreLeft, CoreNode, CorePart, CorePick, CoreStmt, Known,
     LEVELS, deeper, spine,
 };
-use scc_flow::CellSet;
+use scc_flow::{CellSet, Mark, marked};
 use std::alloc::Global;
 
 /// A process's own cells: its locals and the variables that it writes.
 #[derive(Drop)]
 pub struct Own<'a> {
     known: Known<'a>,
-    /// The slot of each cell of the design that is one of them.
-    slots: Vec<Option<u32>>,
+    /// The slot of each of them by its number.
+    slots: IndexMap<u32, u32>,
     /// The cell of each slot, ascending.
     cells: Vec<u32>,
 }
 
-/// The own cells of the process of that number; `live` is its live part.
+impl Own<'_> {
+    fn slot(&self, cell: u32) -> Option<u32> {
+        self.slots.get(&cell).copied()
+    }
+}
+
+/// The own cells of the process of that number; `live` is its live part. Those that it doesn't name are left out, so that
+/// the cost goes with the process and not with the design.
 pub fn own_cells<'a>(
     alloc: Global,
     known: Known<'a>,
     process: u32,
     live: &[CoreStmt],
 ) -> Result<Own<'a>, NoMemory> {
-    let mut is_own = Vec::new(alloc);
-    for cell in known.cells().as_slice() {
-        push(
-            &mut is_own,
-            matches!(cell.sort, CellSort::Local(p) if p == process),
-        )?;
+    let mut found = IndexMap::new(alloc);
+    for mark in marked(alloc, &known, live)?.as_slice() {
+        note_mark(mark, known, process, &mut found)?;
     }
-    note_written(live, alloc, known, &mut is_own)?;
-    let mut own = Own {
-        known,
-        slots: Vec::new(alloc),
-        cells: Vec::new(alloc),
-    };
+    let mut cells = Vec::new(alloc);
+    for (cell, _slot) in found.iter() {
+        push(&mut cells, *cell)?;
+    }
+    cells.sort()?;
+    let mut slots = IndexMap::new(alloc);
     let mut slot = 0u32;
-    let mut at = 0u32;
-    for is in is_own.iter() {
-        if *is {
-            push(&mut own.slots, Some(slot))?;
-            push(&mut own.cells, at)?;
-            slot = slot.saturating_add(1);
-        } else {
-            push(&mut own.slots, None)?;
-        }
-        at = at.saturating_add(1);
+    for cell in cells.iter() {
+        slots.insert(*cell, slot)?;
+        slot = slot.saturating_add(1);
     }
-    Ok(own)
+    Ok(Own {
+        known,
+        slots,
+        cells,
+    })
 }
 
-// Notes the variables that statements write.
-#[cycle(note_written)]
-fn note_written(
-    body: &[CoreStmt],
-    alloc: Global,
+// Notes the process's own cells among those that a mark names.
+fn note_mark(
+    mark: &Mark,
     known: Known<'_>,
-    is_own: &mut Vec<bool>,
+    process: u32,
+    found: &mut IndexMap<u32, u32>,
 ) -> Result<(), NoMemory> {
-    for s in body {
-        note_stmt(s, alloc, known, is_own)?;
-    }
-    Ok(())
-}
-
-#[cycle(note_written)]
-fn note_stmt(
-    s: &CoreStmt,
-    alloc: Global,
-    known: Known<'_>,
-    is_own: &mut Vec<bool>,
-) -> Result<(), NoMemory> {
-    match &s.node {
-        CoreNode::Assign { left, .. } => note_left(alloc, known, left, is_own),
-        CoreNode::If { yes, no, .. } => {
-            note_written(yes.as_slice(), alloc, known, is_own)?;
-            note_written(no.as_slice(), alloc, known, is_own)
-        }
-        CoreNode::Block(body) | CoreNode::Loop { body, .. } => {
-            note_written(body.as_slice(), alloc, known, is_own)
-        }
-        CoreNode::Exit(_) | CoreNode::Wait { .. } | CoreNode::Alias { .. } => Ok(()),
-    }
-}
-
-fn note_left(
-    alloc: Global,
-    known: Known<'_>,
-    left: &CoreLeft,
-    is_own: &mut Vec<bool>,
-) -> Result<(), NoMemory> {
-    let Some(named) = known.named(alloc, left)? else {
-        return Ok(());
-    };
-    for number in 0..named.count() {
-        let at = named.cell(number) as usize;
-        match (known.cells().get(at), is_own.get_mut(at)) {
-            (Some(cell), Some(is)) => {
-                if matches!(cell.sort, CellSort::Variable { .. }) {
-                    *is = true;
-                }
-            }
-            _ => return Err(lost()),
+    for number in 0..mark.named.count() {
+        let at = mark.named.cell(number);
+        let Some(cell) = known.cells().get(at as usize) else {
+            return Err(lost());
+        };
+        let is_own = match cell.sort {
+            CellSort::Local(p) => p == process,
+            CellSort::Variable { .. } => mark.write,
+            _ => false,
+        };
+        if is_own {
+            found.insert(at, 0)?;
         }
     }
     Ok(())
@@ -228,8 +197,8 @@ fn killed(
         return Err(lost());
     };
     if named.is_single() && own.known.is_whole(left.pick.as_ref(), cell.kind) {
-        if let Some(Some(slot)) = own.slots.get(named.base as usize) {
-            live.remove(*slot)?;
+        if let Some(slot) = own.slot(named.base) {
+            live.remove(slot)?;
         }
     }
     Ok(())
@@ -331,8 +300,8 @@ fn named_read(
         return Ok(());
     };
     for number in 0..named.count() {
-        if let Some(Some(slot)) = own.slots.get(named.cell(number) as usize) {
-            live.add(*slot)?;
+        if let Some(slot) = own.slot(named.cell(number)) {
+            live.add(slot)?;
         }
     }
     Ok(())
