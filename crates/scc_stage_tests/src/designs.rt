@@ -101,14 +101,14 @@ SC_MODULE(T) {
 ";
 
 // a constant by specialised templates
-pub const LOGARITHM: &str = "#include <systemc.h>
+const LOGARITHM: &str = "#include <systemc.h>
 template<int N> struct clog2 { static const int value = 1 + clog2<(N + 1) / 2>::value; };
 template<> struct clog2<1> { static const int value = 0; };
 SC_MODULE(K) { sc_in<sc_uint<clog2<1024>::value> > x; SC_CTOR(K) {} };
 ";
 
 // modules made in a loop, and a pointer to one of them
-pub const STAGES: &str = "#include <systemc.h>
+const STAGES: &str = "#include <systemc.h>
 template<int W> SC_MODULE(Stage) {
   sc_in<bool> clk, rst;
   sc_uint<W> q;

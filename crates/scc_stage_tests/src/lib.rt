@@ -3,10 +3,6 @@
 #![tactic(auto)]
 
 #[cfg(test)]
-mod between;
-#[cfg(test)]
-mod causes;
-#[cfg(test)]
 mod command;
 #[cfg(test)]
 mod construction;
@@ -16,9 +12,5 @@ mod designs;
 mod processes;
 #[cfg(test)]
 mod program;
-#[cfg(test)]
-mod sizes;
-#[cfg(test)]
-mod states;
 #[cfg(test)]
 mod thin;

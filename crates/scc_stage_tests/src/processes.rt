@@ -1,25 +1,21 @@
 //! What processes do: E405, E408, E501 to E514, E601 to E605. Beside a row that is refused often stands the nearest that is not.
-//! `causes` has more causes of these codes, `sizes` the longer sources.
 use crate::command::{line, said};
 use scc_base::{NoMemory, Text};
 use std::alloc::Global;
 use std::test::Fail;
 
 const HEAD: &str =
-    "struct P { int x, k; void g() { x = 1; } void e() { int y = 1; } };\nstruct T {\n  sc_in<bool> c, r, a;\n  sc_out<bool> q;\n  int n;\n  ";
+    "struct P { int x, k; void g() { x = 1; } };\nstruct T {\n  sc_in<bool> c, r, a;\n  sc_out<bool> q;\n  int n;\n  ";
 
 /// How `f`, and `g` where it is a process too, are run.
 #[derive(Clone, Copy)]
-pub enum Form {
+enum Form {
     Clocked,
     TwoClocked,
     Combinational,
     TwoCombinational,
-    ReadsWhatItWrites,
     Thread,
     Asynchronous,
-    ClockAsReset,
-    ClockAsLevel,
 }
 
 fn statements(form: Form) -> &'static str {
@@ -29,27 +25,24 @@ fn statements(form: Form) -> &'static str {
             "SC_METHOD(f); sensitive << c.pos(); SC_METHOD(g); sensitive << c.pos();",
         Form::Combinational => "SC_METHOD(f); sensitive << a;",
         Form::TwoCombinational => "SC_METHOD(f); sensitive << s; SC_METHOD(g); sensitive << t;",
-        Form::ReadsWhatItWrites => "SC_METHOD(f); sensitive << s;",
         Form::Thread => "SC_CTHREAD(f, c.pos()); reset_signal_is(r, true);",
         Form::Asynchronous => "SC_CTHREAD(f, c.pos()); async_reset_signal_is(r, true);",
-        Form::ClockAsReset => "SC_CTHREAD(f, c.pos()); reset_signal_is(c, true);",
-        Form::ClockAsLevel => "SC_METHOD(f); sensitive << c; SC_METHOD(g); sensitive << c.pos();",
     }
 }
 
 /// A module with these members and bodies of `f`, on line 8, and `g`, on line 11.
-pub fn source(
+fn source(
     alloc: Global,
     form: Form,
     members: &str,
-    body: &[u8],
+    body: &str,
     second: &str,
 ) -> Result<Text, NoMemory> {
     let mut text = Text::new(alloc);
     text.push_bytes(HEAD.as_bytes())?;
     text.push_bytes(members.as_bytes())?;
     text.push_bytes(b"\n  void f() {\n")?;
-    text.push_bytes(body)?;
+    text.push_bytes(body.as_bytes())?;
     text.push_bytes(b"\n  }\n  void g() {\n")?;
     text.push_bytes(second.as_bytes())?;
     text.push_bytes(b"\n  }\n  T() { ")?;
@@ -301,7 +294,7 @@ fn refuses_in_processes(rt: HostRuntime) -> Result<(), Fail> {
             "",
         ),
     ] {
-        let source = source(rt.alloc(), form, members, body.as_bytes(), second)?;
+        let source = source(rt.alloc(), form, members, body, second)?;
         let text = said(rt.alloc(), source.bytes())?;
         let wanted = line(rt.alloc(), refusal)?;
         assert_eq!(rt;

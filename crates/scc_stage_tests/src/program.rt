@@ -1,16 +1,6 @@
 //! What the static stage says of small sources.
-mod allowed;
-mod constants;
-mod declared;
-mod kinds;
-mod last;
 mod rows;
 
-use allowed::TAKEN;
-use constants::{CHAINS, DEMANDED_PARTS, LIMITS, SIZES, SORTS};
-use declared::{SCOPES, UNDECLARED};
-use kinds::{CALLS, NAMED, OPERATORS, SELECTS, STORED};
-use last::{COUNTED, CYCLES, DIVIDED, ORDERS, UNLIFTED, WIDE};
 use rows::{
     ACCEPTED, ARGUMENTS, BITS, DEMANDED, DEPTHS, DIVISORS, INSTANCES, LOSSES, MISMATCHES, PLACES,
     RANGES, RECURSIONS, Row, TWICE, UNKNOWN, WIDTHS,
@@ -105,25 +95,6 @@ fn refusals_of_names_and_constants(rt: HostRuntime) -> Result<(), Fail> {
         &PLACES,
         &INSTANCES,
         &ACCEPTED,
-        &UNDECLARED,
-        &SCOPES,
-        &SIZES,
-        &OPERATORS,
-        &SELECTS,
-        &CALLS,
-        &STORED,
-        &NAMED,
-        &DEMANDED_PARTS,
-        &LIMITS,
-        &SORTS,
-        &CHAINS,
-        &CYCLES,
-        &WIDE,
-        &DIVIDED,
-        &ORDERS,
-        &UNLIFTED,
-        &COUNTED,
-        &TAKEN,
     ];
     for rows in tables {
         for (text, want) in *rows {
