@@ -16,7 +16,7 @@ from growth import PROGRAM, TOP, generated, measured
 STAGES = 1000
 # the lines of their text
 LINES = 27016
-EXAMPLE = str(TOP / "examples/and.cpp")
+EXAMPLE = str(TOP / "examples/and/and.cpp")
 
 
 def seconds(what, program, words, folder):

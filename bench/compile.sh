@@ -6,7 +6,7 @@
 # shipped example, and where a command fails. Tools that aren't installed are left out.
 set -euo pipefail
 cd "$(dirname "$0")/.."
-[[ -n ${SCC:-} ]] || ./scc compile And examples/and.cpp >/dev/null
+[[ -n ${SCC:-} ]] || ./scc compile And examples/and/and.cpp >/dev/null
 failed=0
 python3 bench/growth.py compile || failed=1
 python3 bench/compile.py || failed=1

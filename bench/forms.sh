@@ -5,5 +5,5 @@
 # printed. See growth.py.
 set -euo pipefail
 cd "$(dirname "$0")/.."
-[[ -n ${SCC:-} ]] || ./scc compile And examples/and.cpp >/dev/null
+[[ -n ${SCC:-} ]] || ./scc compile And examples/and/and.cpp >/dev/null
 exec python3 bench/growth.py forms

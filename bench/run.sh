@@ -4,5 +4,5 @@
 # fails, and where `gen 1000` writes another line than it should.
 set -euo pipefail
 cd "$(dirname "$0")/.."
-[[ -n ${SCC:-} ]] || ./scc compile And examples/and.cpp >/dev/null
+[[ -n ${SCC:-} ]] || ./scc compile And examples/and/and.cpp >/dev/null
 exec python3 bench/run.py "${SCC:-crates/scc/out/scc}"

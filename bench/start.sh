@@ -3,7 +3,7 @@
 # on thin texts of 250, 500 and 1,000 ports, whose cost is to grow with their length.
 set -euo pipefail
 cd "$(dirname "$0")/.."
-[[ -n ${SCC:-} ]] || ./scc compile And examples/and.cpp >/dev/null
+[[ -n ${SCC:-} ]] || ./scc compile And examples/and/and.cpp >/dev/null
 work=$(mktemp -d)
 trap 'rm -rf "$work"' EXIT
 
@@ -37,8 +37,8 @@ timed() {
 
 program=${SCC:-crates/scc/out/scc}
 timed 'true' /bin/true
-[[ -n ${SCC:-} ]] || timed './scc compile And' ./scc compile And examples/and.cpp
-timed 'the program itself' "$program" compile And examples/and.cpp
+[[ -n ${SCC:-} ]] || timed './scc compile And' ./scc compile And examples/and/and.cpp
+timed 'the program itself' "$program" compile And examples/and/and.cpp
 for ports in 250 500 1000; do
   thin_text "$ports" >"$work/$ports.cpp"
   timed "thin text of $ports ports" "$program" compile Wide "$work/$ports.cpp"

@@ -4,7 +4,7 @@
     tools/check_docs.py [FILE ..]           without files: README, CONTRIBUTING, CHANGELOG and all of docs and examples
 
 What is looked at:
-- a link to a file beside the document;
+- a link to a file beside the document, and to a heading in it;
 - a word `scc_..` in backticks is a crate of crates.txt, unless its line says `not yet` or [CHECK;
 - a word `NAME.rt` in backticks is a file of the crate of the heading, or of any crate where the heading names none;
 - below a heading of a crate, names in round brackets, as (`ok`, `err`), are clauses or public functions of it;
@@ -23,7 +23,7 @@ FOLDERS = ("crates/", "docs/", "examples/", "tools/", "bench/", ".ci/")
 PARTS = ("src", "specs", "proofs")
 COLUMNS = 120
 
-LINK = re.compile(r"\]\(([^)#\s]+)(?:#[^)]*)?\)")
+LINK = re.compile(r"\]\(([^)#\s]*)(?:#([^)\s]*))?\)")
 CODE = re.compile(r"`([^`]+)`")
 CLAUSES = re.compile(r"\(((?:`[a-z_]+`, )*`[a-z_]+`)\)")
 LATER = re.compile(r"not yet|\[CHECK")
@@ -51,10 +51,22 @@ def has_file(crates, name):
     return any(f.name == Path(name).name and str(f).endswith("/" + name) for crate in crates for f in sources(crate))
 
 
+@functools.lru_cache(maxsize=None)
+def anchors(document):
+    """What links call the headings of a document: small letters, no signs, `-` for a blank."""
+    lines = re.sub(r"^```.*?^```$", "", document.read_text(), flags=re.M | re.S).splitlines()
+    return {re.sub(r"[^\w -]", "", line.lstrip("# ").lower()).replace(" ", "-") for line in lines if line.startswith("#")}
+
+
 def faults_of_line(document, line, heading):
-    for target in LINK.findall(line):
-        if "://" not in target and not (document.parent / target).exists():
+    for target, anchor in LINK.findall(line):
+        if "://" in target:
+            continue
+        linked = document.parent / target if target else document
+        if not linked.exists():
             yield f"no file {target}"
+        elif anchor and anchor not in anchors(linked):
+            yield f"no heading {anchor} in {target or 'this document'}"
     for word in CODE.findall(line):
         if re.fullmatch(r"scc_[a-z_]+", word) and word not in CRATES and not LATER.search(line):
             yield f"no crate {word}"

@@ -1,6 +1,7 @@
 #!/bin/sh
 # Prints, for each crate, how many places answer lost(): states that the compiler holds to be impossible and that no proof
-# excludes yet. Run it at the top of the repository. The numbers only fall.
+# excludes yet. Run it at the top of the repository. A number falls where a proof excludes a place, and rises only where one
+# that was passed over in silence, as by a saturated number, answers lost() now.
 set -eu
 cd "$(dirname "$0")/.."
 total=0

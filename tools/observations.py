@@ -173,7 +173,7 @@ def check(top, source, file, most):
 
 
 def main():
-    example = REPOSITORY / "examples" / "and.cpp"
+    example = REPOSITORY / "examples" / "and" / "and.cpp"
     texts = [("Order", ORDER)] + [(f"Widths_{v}_{w}", of_widths(v, w)) for v in (1, 3, 12, 64) for w in (1, 3, 12, 64)]
     top = "And"
     try:

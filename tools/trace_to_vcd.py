@@ -91,6 +91,9 @@ def main():
     parser.add_argument("--stim")
     parser.add_argument("--module")
     a = parser.parse_args()
+    for name in filter(None, (a.trace, a.stim, a.module)):
+        if not Path(name).is_file():
+            sys.exit(f"no file {name}")
     stimulus = read_stimulus(Path(a.stim).read_text()) if a.stim else None
     module = read_module(Path(a.module).read_text()) if a.module else None
     sys.stdout.write(vcd(Path(a.trace).read_text(), stimulus, module))

@@ -13,5 +13,5 @@ def compiler(given=None):
     if words:
         return [str(Path(w).resolve()) if Path(w).exists() else w for w in shlex.split(words)]
     if not (REPOSITORY / "crates" / "scc" / "out" / "scc").exists():
-        sys.exit("the compiler isn't built: run ./scc first, which takes more than an hour, or name one by --scc or SCC")
+        sys.exit("the compiler isn't built: run ./scc (README.md says how long it takes), or name one by --scc or SCC")
     return [str(REPOSITORY / "scc")]

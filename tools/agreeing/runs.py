@@ -5,17 +5,25 @@ from pathlib import Path
 
 from agreeing import systemc, verilog
 
+SECONDS = 1800
+
 
 class Failed(Exception):
     """A tool ended with a fault; the text is the first line that speaks of an error, or the first that it printed."""
 
 
-def call(words, folder, text=None):
-    done = subprocess.run([str(w) for w in words], cwd=folder, capture_output=True, text=True, timeout=900)
+def call(words, folder):
+    program = Path(str(words[0])).name
+    try:
+        done = subprocess.run([str(w) for w in words], cwd=folder, capture_output=True, text=True, timeout=SECONDS)
+    except OSError as fault:
+        raise Failed(f"{words[0]} can't be run: {fault.strerror}")
+    except subprocess.TimeoutExpired:
+        raise Failed(f"{program} took more than {SECONDS} seconds")
     if done.returncode:
         said = (done.stderr + done.stdout).strip().splitlines() or ["no output"]
         fault = next((line for line in said if "error" in line.lower()), said[0])
-        raise Failed(f"{Path(str(words[0])).name} ended with {done.returncode}: {fault}")
+        raise Failed(f"{program} ended with {done.returncode}: {fault}")
     return done.stdout
 
 
@@ -46,8 +54,9 @@ def verilator(job):
 def yosys(job):
     """What Yosys synthesises, run by Icarus."""
     netlist, bench = job.folder / "netlist.v", job.folder / "netlist_testbench.v"
-    # a memory of the text has to be one for Yosys too: as registers it would give the same trace
-    has_memory = "--memory" in job.flags and "[0:" in job.emitted.read_text()
+    # a memory of the text has to be one for Yosys too: as registers it would give the same trace. Yosys 0.23 makes
+    # registers of a memory in a block with an asynchronous reset
+    has_memory = "--memory" in job.flags and "[0:" in job.emitted.read_text() and not job.module.resets
     seen = "memory -nomap; select -assert-min 1 t:$mem*; " if has_memory else ""
     # memories go first: Yosys 0.23 fails where setundef has set the enables of their ports
     call(["yosys", "-q", "-p", f"read_verilog -sv {job.emitted}; proc; {seen}memory; setundef -zero -init; "

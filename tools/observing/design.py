@@ -22,9 +22,9 @@ class Thin(NamedTuple):
 
 
 def read_thin(text):
-    line, rest = text.split("\n", 1)
-    if line != "#include <systemc.h>":
-        raise Different("the first line")
+    comment, line, rest = text.partition("#include <systemc.h>\n")
+    if not line or any(not c.startswith("//") for c in comment.splitlines()):
+        raise Different("the head")
     at, ports, puts, senses = Cursor(rest, r"[A-Za-z0-9_]+|<<|[(){}<>;,.&|^]"), [], [], []
 
     def port():

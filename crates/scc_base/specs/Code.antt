@@ -1,7 +1,7 @@
 -- The number and the text of each code.
 use Rattle.std.specs.Prelude.{ℕ, List, codes}
 use Rattle.scc_base.specs.declared.code.Code.{Code}
-use Rattle.scc_base.specs.declared.code.Code.TheVariants.{BadByte, OpenComment, BadLiteral, OutsideWord, Directive, IncludeDepth, OpenConditional, FileTooLong, TooManyFiles, TooManyTokens, Unexpected, TooDeep, UnknownName, DuplicateName, Width, Mismatch, NotConstant, ConstRange, Arguments, TemplateDepth, Recursion, WideLoss, Divisor, RangeOrder, CallPlace, TooManyInstances, Unbound, BoundTwice, BindKind, Constructor, EmptyPointer, Sensitivity, ClockPort, ClockAsData, NoReset, TooManyObjects, StorageTooLarge, ConstructionTurns, TooManyClocks, TwoWriters, SharedVariable, MissingSensitivity, Latch, CombLoop, CombState, WaitInMethod, UncountedLoop, LoopMayNotWait, EndReached, PointerAssigned, StaticIndex, SignalIndex, ResetValue, TooLarge, TooManyTurns, TooManyStates, SegmentsTooLarge, IndexTooWide, SvUnexpected, SvSize, SvName, SvDriver, SvLoop, SvDepth, SvInstance, HierTooLarge, StimText, StimPort, StimValue, NotYet}
+use Rattle.scc_base.specs.declared.code.Code.TheVariants.{BadByte, OpenComment, BadLiteral, OutsideWord, Directive, IncludeDepth, OpenConditional, FileTooLong, TooManyFiles, TooManyTokens, Unexpected, TooDeep, UnknownName, DuplicateName, Width, Mismatch, NotConstant, ConstRange, Arguments, TemplateDepth, Recursion, WideLoss, Divisor, RangeOrder, CallPlace, TooManyInstances, Unbound, BoundTwice, BindKind, Constructor, EmptyPointer, Sensitivity, ClockPort, ClockAsData, NoReset, TooManyObjects, StorageTooLarge, ConstructionTurns, TooManyClocks, TwoWriters, SharedVariable, MissingSensitivity, Latch, CombLoop, CombState, WaitInMethod, UncountedLoop, LoopMayNotWait, EndReached, PointerAssigned, StaticIndex, SignalIndex, ResetValue, TooLarge, TooManyTurns, TooManyStates, SegmentsTooLarge, IndexTooWide, SvUnexpected, SvSize, SvName, SvDriver, SvLoop, SvDepth, SvInstance, HierTooLarge, StimText, StimPort, StimValue}
 
 abbrev pub code_number : Code → ℕ
 code_number BadByte = 101
@@ -73,7 +73,6 @@ code_number HierTooLarge = 708
 code_number StimText = 801
 code_number StimPort = 802
 code_number StimValue = 803
-code_number NotYet = 901
 
 abbrev pub code_text : Code → List ℕ
 code_text BadByte = codes "bad byte"
@@ -145,4 +144,3 @@ code_text HierTooLarge = codes "hier too large"
 code_text StimText = codes "stim text"
 code_text StimPort = codes "stim port"
 code_text StimValue = codes "stim value"
-code_text NotYet = codes "not yet"

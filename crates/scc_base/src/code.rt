@@ -3,7 +3,7 @@ ghost use Rattle.scc_base.specs.Code.{code_number, code_text};
 
 /// What a refusal says. Its number's first digit names the stage that refuses:
 /// 1 joining files, 2 grammar, 3 names and constants, 4 construction, 5 rules of processes, 6 sizes,
-/// 7 emitted text, 8 stimulus, 9 a form that is not compiled yet.
+/// 7 emitted text, 8 stimulus.
 #[derive(Clone, Copy, Debug, PartialEq, Eq)]
 pub enum Code {
     /// A byte that begins no token, or that may not stand in a text.
@@ -144,8 +144,6 @@ pub enum Code {
     StimPort,
     /// A value of a stimulus that has more bits than its port.
     StimValue,
-    /// A form that is not compiled yet.
-    NotYet,
 }
 
 impl Code {
@@ -223,7 +221,6 @@ impl Code {
             Code::StimText => 801,
             Code::StimPort => 802,
             Code::StimValue => 803,
-            Code::NotYet => 901,
         }
     }
 
@@ -301,7 +298,6 @@ impl Code {
             Code::StimText => "stim text",
             Code::StimPort => "stim port",
             Code::StimValue => "stim value",
-            Code::NotYet => "not yet",
         }
     }
 }

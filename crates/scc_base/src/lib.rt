@@ -16,8 +16,6 @@ mod plan;
 mod refusal;
 mod status;
 mod tally;
-#[cfg(test)]
-mod tests;
 mod text;
 
 pub use boxed::Boxed;

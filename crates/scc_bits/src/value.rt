@@ -1,5 +1,5 @@
 //! A number with its kind.
-ghost use Rattle.std.specs.Prelude.{◌≡◌, ◌<◌, ◌≤◌, ◌^◌, ◌+◌, ◌-◌, ◌/◌, ◌%◌, ◌↔◌, pos, IsTrue, Some, None, true, false, Err, IfOk, IfSome, IsSome, nat_eq, not, unwrap_or};
+ghost use Rattle.std.specs.Prelude.{◌≡◌, ◌<◌, ◌≤◌, ◌^◌, ◌+◌, ◌-◌, ◌/◌, ◌%◌, ◌↔◌, pos, IsTrue, Some, None, true, false, Err, IfOk, IfSome, IsOk, IsSome, nat_eq, not, unwrap_or};
 ghost use Rattle.scc_kinds.specs.Kinds.{IsValid, Fits, width_of, is_signed, stored};
 ghost use Rattle.scc_kinds.specs.Constants.{CountsBy, is_negative};
 ghost use Rattle.scc_kinds.specs.Numbers.{Holds, low, reading};
@@ -8,6 +8,7 @@ ghost use Rattle.scc_kinds.specs.Operators.{Divisor};
 ghost use Rattle.scc_bits.specs.Values.{kind_of, is_too_wide, applied};
 ghost use Rattle.scc_bits.specs.Value.{exactly, counts_beside};
 ghost use Rattle.scc_bits.specs.declared.value.Fault.TheVariants as fault;
+ghost use Rattle.scc_bits.specs.declared.value.JoinFault.TheVariants as join_fault;
 
 use crate::application::apply;
 use crate::bits::{concat, replace, select};
@@ -73,6 +74,7 @@ impl Value {
     pub fn of(kind: Kind, word: Word) -> Option<Value>
         ensures some { IfSome result (λ v. (v.kind ≡ kind) × (v.word ≡ word.bits)) }
         ensures is { IsValid kind → Fits kind word.bits → IsSome result }
+        ensures only { IsSome result → IsValid kind × Fits kind word.bits }
     {
         if valid(kind) && fits(kind, word) {
             Some(Value { kind, word })
@@ -108,6 +110,7 @@ impl Value {
     pub fn stored(self, to: Kind) -> Option<Value>
         ensures some { IfSome result (λ v. (v.kind ≡ to) × (v.word ≡ stored to (exactly self))) }
         ensures is { IsValid to → IsSome result }
+        ensures only { IsSome result → IsValid to }
     {
         if !valid(to) {
             return None;
@@ -121,6 +124,7 @@ impl Value {
         ensures some { IfSome result (λ v. (v.kind ≡ to) × (v.word ≡ stored to (exactly self))) }
         ensures is { IsValid to → is_convertible self.kind to ≡ true → IsSome result }
         ensures converts { IsSome result → is_convertible self.kind to ≡ true }
+        ensures only { IsSome result → IsValid to }
     {
         if !converts(self.kind, to) {
             return None;
@@ -154,12 +158,16 @@ impl Value {
     }
 
     /// The operator's answer. A unary operator takes the number itself as the second one.
-    #[tactic(auto, using(crate::proofs::Valued::kind_valid))]
+    #[tactic(auto, using(crate::proofs::Valued::kind_valid, crate::proofs::Valued::narrow_without_row))]
     pub fn applied(self, op: Op, b: Value) -> Result<Value, Fault>
         ensures kind { IfOk result (λ v. kind_of op self.kind b.kind ≡ Some v.kind) }
         ensures word { IfOk result (λ v. applied op self.kind self.word b.kind b.word ≡ Some v.word) }
         ensures row { result ≡ Err fault.NoRow → kind_of op self.kind b.kind ≡ None }
         ensures wide { result ≡ Err fault.TooWide → is_too_wide op self.kind b.kind ≡ true }
+        ensures no_row { kind_of op self.kind b.kind ≡ None → result ≡ Err fault.NoRow }
+        ensures too_wide { is_too_wide op self.kind b.kind ≡ true → result ≡ Err fault.TooWide }
+        ensures divisor { (result ≡ Err fault.Divisor) ↔ (IsSome (kind_of op self.kind b.kind) × (is_too_wide op self.kind b.kind ≡ false) × ¬ Divisor op b.word) }
+        ensures is { IsOk result ↔ (IsSome (kind_of op self.kind b.kind) × (is_too_wide op self.kind b.kind ≡ false) × Divisor op b.word) }
     {
         let Some(kind) = result_kind(op, self.kind, b.kind) else {
             return Err(Fault::NoRow);
@@ -178,6 +186,7 @@ impl Value {
     pub fn selected(self, h: u32, l: u32) -> Option<Value>
         ensures kind { IfSome result (λ v. range_of self.kind (h - l + 1) ≡ Some v.kind) }
         ensures word { IfSome result (λ v. v.word ≡ part h l self.word) }
+        ensures is { IsSome result ↔ ((l ≤ h) × (h < width_of self.kind) × IsSome (range_of self.kind (h - l + 1))) }
     {
         if h < l || width(self.kind) <= h {
             return None;
@@ -218,6 +227,9 @@ impl Value {
     pub fn joined(self, low: Value) -> Result<Value, JoinFault>
         ensures kind { IfOk result (λ v. concat_of self.kind low.kind ≡ Some v.kind) }
         ensures word { IfOk result (λ v. v.word ≡ joined (width_of low.kind) self.word low.word) }
+        ensures wide { (result ≡ Err join_fault.TooWide) ↔ (128 < width_of self.kind + width_of low.kind) }
+        ensures part { (result ≡ Err join_fault.NoPart) ↔ ((width_of self.kind + width_of low.kind ≤ 128) × (concat_of self.kind low.kind ≡ None)) }
+        ensures is { IsOk result ↔ ((width_of self.kind + width_of low.kind ≤ 128) × IsSome (concat_of self.kind low.kind)) }
     {
         if width(self.kind) + width(low.kind) > 128 {
             return Err(JoinFault::TooWide);
@@ -226,7 +238,7 @@ impl Value {
             return Err(JoinFault::NoPart);
         };
         let word = concat(self.word, low.word, width(low.kind));
-        Value::of(kind, word).ok_or(JoinFault::NoPart)
+        Ok(Value { kind, word })
     }
 
     /// The number in two's complement of 128 bits.

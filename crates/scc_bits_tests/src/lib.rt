@@ -4,4 +4,6 @@
 #[cfg(test)]
 mod tests;
 #[cfg(test)]
+mod values;
+#[cfg(test)]
 mod vectors;

@@ -36,7 +36,7 @@ pub fn method_body(
     cells: Cells<'_>,
     views: &[View],
 ) -> Result<Body, NoMemory> {
-    let exit = fewest_bits(greatest_exit(live, 0));
+    let exit = fewest_bits(greatest_exit(live, 0)?);
     let mut cx = Lowering::new(alloc, views, exit);
     let stmts = lowered_stmts(alloc, live, cells, &mut cx)?;
     Ok(Body {
@@ -58,11 +58,11 @@ pub fn thread_body(
     let Some(reset) = process.reset else {
         return Err(lost());
     };
-    let exit = fewest_bits(thread_exit(split, reset.asynchronous));
+    let exit = fewest_bits(thread_exit(split, reset.asynchronous)?);
     let mut cx = Lowering::new(alloc, views, exit);
     let thread = Thread {
         split,
-        widths: widths_of(split),
+        widths: widths_of(split)?,
         cells,
     };
     let stmts = if reset.asynchronous {
@@ -81,35 +81,37 @@ pub fn thread_body(
 }
 
 // The greatest number of a block that the thread's written segments leave.
-fn thread_exit(split: &Split, asynchronous: bool) -> u32 {
+fn thread_exit(split: &Split, asynchronous: bool) -> Result<u32, NoMemory> {
     let mut greatest = 0;
     for s in split.segments.as_slice() {
-        greatest = greatest.max(segment_exit(s.as_slice()));
+        greatest = segment_exit(s.as_slice())?.max(greatest);
     }
     if asynchronous {
-        greatest
+        Ok(greatest)
     } else {
-        greatest.max(segment_exit(split.reset.as_slice()))
+        Ok(segment_exit(split.reset.as_slice())?.max(greatest))
     }
 }
 
 #[cycle(segment_exits)]
-fn segment_exit(list: &[SegStmt]) -> u32 {
+fn segment_exit(list: &[SegStmt]) -> Result<u32, NoMemory> {
     let mut greatest = 0;
     for s in list {
-        greatest = greatest.max(exit_of(s));
+        greatest = exit_of(s)?.max(greatest);
     }
-    greatest
+    Ok(greatest)
 }
 
 #[cycle(segment_exits)]
-fn exit_of(s: &SegStmt) -> u32 {
+fn exit_of(s: &SegStmt) -> Result<u32, NoMemory> {
     match &s.node {
         SegNode::Plain(stmt) => greatest_exit_of(stmt, 0),
-        SegNode::If { yes, no, .. } => segment_exit(yes.as_slice()).max(segment_exit(
-            no.as_slice(),
-        )),
-        SegNode::Wait(_) => 0,
+        SegNode::If { yes, no, .. } => {
+            let yes = segment_exit(yes.as_slice())?;
+            let no = segment_exit(no.as_slice())?;
+            Ok(yes.max(no))
+        }
+        SegNode::Wait(_) => Ok(0),
     }
 }
 
@@ -190,7 +192,10 @@ fn states(
     let mut arms = List::new(alloc);
     for k in 0..thread.split.waits.len() {
         let body = state(alloc, k, thread, cx)?;
-        let label = number(thread.widths.state, k.min(u32::MAX as usize) as u32);
+        let Ok(n) = u32::try_from(k) else {
+            return Err(lost());
+        };
+        let label = number(thread.widths.state, n);
         arms.push(SvArm { label, body })?;
     }
     let of = variable(alloc, STATE)?;
@@ -286,7 +291,10 @@ fn wait(alloc: Global, k: u32, thread: Thread<'_>) -> Result<List<SvStmt>, NoMem
         out.push(assignment(NEXT_STATE, literal(alloc, state, k)?))?;
     }
     if counter > 0 {
-        let left = literal(alloc, counter, count.saturating_sub(1))?;
+        let Some(left) = count.checked_sub(1) else {
+            return Err(lost());
+        };
+        let left = literal(alloc, counter, left)?;
         out.push(assignment(NEXT_COUNTER, left))?;
     }
     Ok(out)

@@ -125,12 +125,12 @@ impl Declared {
         let now = 2 * at as usize;
         let next = now + 1;
         let is_output = matches!(cell.sort, CellSort::Output);
-        if !is_output && every.get(now) == Some(&true) {
+        if !is_output && is_assigned(every, now)? {
             let name = sv_name(alloc, names, &cell.name)?;
             let id = self.put(name, width(cell.kind), Dir::Inner)?;
             self.number(now, id)?;
         }
-        if every.get(next) == Some(&true) {
+        if is_assigned(every, next)? {
             let mut name = sv_name(alloc, names, &cell.name)?;
             name.push_bytes(b"$$n")?;
             let id = self.put(name, width(cell.kind), Dir::Inner)?;
@@ -153,9 +153,13 @@ impl Declared {
             let Some(cell) = c.cells.get(*at as usize) else {
                 return Err(lost());
             };
-            if let Some((number, _)) = cell.name.local {
-                behind = number.saturating_add(1).max(behind);
-            }
+            let Some((number, _)) = cell.name.local else {
+                return Err(lost());
+            };
+            let Some(next) = number.checked_add(1) else {
+                return Err(lost());
+            };
+            behind = next.max(behind);
             self.cell(alloc, names, cell, *at, every)?;
         }
         let mut own = Own {
@@ -184,8 +188,9 @@ impl Declared {
         if wanted.assigned.exit {
             let name = named(alloc, names, wanted.process, b"$$exit")?;
             let id = self.put(name, wanted.exit, Dir::Inner)?;
-            if let Some(first) = own.next.first_mut() {
-                *first = id;
+            match own.next.first_mut() {
+                Some(first) => *first = id,
+                None => return Err(lost()),
             }
         }
         push(&mut self.own, own)
@@ -215,7 +220,10 @@ impl Declared {
             } else {
                 push(ids, UNDECLARED)?;
             }
-            number = number.saturating_add(1);
+            let Some(next) = number.checked_add(1) else {
+                return Err(lost());
+            };
+            number = next;
         }
         Ok(())
     }
@@ -241,6 +249,14 @@ impl Declared {
         name.push_bytes(b"$$n")?;
         let id = self.put(name, width, Dir::Inner)?;
         push(ids, id)
+    }
+}
+
+// Whether some block assigns the cell or next value of that number.
+fn is_assigned(every: &[bool], lowered: usize) -> Result<bool, NoMemory> {
+    match every.get(lowered) {
+        Some(is) => Ok(*is),
+        None => Err(lost()),
     }
 }
 

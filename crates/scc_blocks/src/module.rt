@@ -82,7 +82,12 @@ fn splits_of<'a>(
     let mut rest = s.iter();
     for process in c.processes.as_slice() {
         let split = match process.sort {
-            Sort2::Thread => rest.next(),
+            Sort2::Thread => {
+                let Some(split) = rest.next() else {
+                    return Err(lost());
+                };
+                Some(split)
+            }
             Sort2::Method => None,
         };
         push(&mut found, split)?;
@@ -113,7 +118,10 @@ fn bodies_of(
     }
     let mut turn = 0u32;
     for (process, split) in c.processes.as_slice().iter().zip(splits.iter()) {
-        turn = turn.saturating_add(1);
+        let Some(next) = turn.checked_add(1) else {
+            return Err(lost());
+        };
+        turn = next;
         let live = live(alloc, &cells.known, process.body.as_slice())?;
         push(
             &mut writes,
@@ -151,7 +159,10 @@ fn all_assigned(alloc: Global, c: &Core, bodies: &[Body]) -> Result<Vec<Assigned
     let mut found = Vec::new(alloc);
     let mut turn = 0u32;
     for body in bodies {
-        turn = turn.saturating_add(1);
+        let Some(next) = turn.checked_add(1) else {
+            return Err(lost());
+        };
+        turn = next;
         let stmts = body.stmts.as_slice();
         let assigned = assigned_by(alloc, stmts, body.temporaries.len(), turn, &mut stamps)?;
         push(&mut found, assigned)?;
@@ -210,7 +221,10 @@ fn locals_of(alloc: Global, c: &Core) -> Result<Vec<Vec<u32>>, NoMemory> {
                 None => return Err(lost()),
             }
         }
-        at = at.saturating_add(1);
+        let Some(next) = at.checked_add(1) else {
+            return Err(lost());
+        };
+        at = next;
     }
     Ok(found)
 }
@@ -238,7 +252,7 @@ fn declare(
             return Err(lost());
         };
         let widths = match split {
-            Some(split) => widths_of(split),
+            Some(split) => widths_of(split)?,
             None => Widths {
                 state: 0,
                 counter: 0,

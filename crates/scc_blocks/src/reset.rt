@@ -30,14 +30,19 @@ pub fn loads_of(
     for s in split.reset.as_slice() {
         match &s.node {
             SegNode::Plain(stmt) => {
-                let _end = one(stmt, alloc, cells, &mut words)?;
+                if one(stmt, alloc, cells, &mut words)? != End::Through {
+                    return Err(lost());
+                }
             }
             SegNode::Wait(k) => {
                 let Some(count) = split.waits.get(*k as usize) else {
                     return Err(lost());
                 };
+                let Some(left) = count.checked_sub(1) else {
+                    return Err(lost());
+                };
                 put(&mut words, STATE, u128::from(*k))?;
-                put(&mut words, COUNTER, u128::from(count.saturating_sub(1)))?;
+                put(&mut words, COUNTER, u128::from(left))?;
             }
             SegNode::If { .. } => return Err(lost()),
         }

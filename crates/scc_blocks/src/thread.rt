@@ -1,4 +1,5 @@
 //! A thread's state and its counter of waits.
+use scc_base::{NoMemory, lost};
 use scc_states::Split;
 
 /// The widths of a thread's state and counter, 0 where it has none.
@@ -15,20 +16,25 @@ pub fn fewest_bits(n: u32) -> u32 {
     (32 - n.leading_zeros()).max(1)
 }
 
-pub fn widths_of(split: &Split) -> Widths {
-    let states = split.waits.len().min(u32::MAX as usize) as u32;
+pub fn widths_of(split: &Split) -> Result<Widths, NoMemory> {
+    let Ok(states) = u32::try_from(split.waits.len()) else {
+        return Err(lost());
+    };
     let mut most = 0;
     for n in split.waits.as_slice() {
-        most = most.max(n.saturating_sub(1));
+        let Some(left) = n.checked_sub(1) else {
+            return Err(lost());
+        };
+        most = most.max(left);
     }
-    Widths {
+    Ok(Widths {
         state: if states > 1 {
             fewest_bits(states - 1)
         } else {
             0
         },
         counter: if most > 0 { fewest_bits(most) } else { 0 },
-    }
+    })
 }
 
 /// The numbers that a thread's own variables have until all are declared: the last ones that a `u32` has.

@@ -9,8 +9,20 @@ use scc_core::{
     CoreBase, CoreExpr, CoreLeft, CoreNode, CorePart, CoreStmt, Count, Pointed, deeper, pointers,
 };
 use scc_plaintree::{
-    PlainArg, PlainCount, PlainFunction, PlainLeft, PlainNode, PlainStmt, PlainTarget, Reach,
+    PlainArg, PlainCount, PlainExpr, PlainFunction, PlainLeft, PlainNode, PlainStmt, PlainTarget,
+    Reach,
 };
+
+// A call up to its body.
+#[derive(Drop)]
+struct Begun {
+    // The copy of the function.
+    child: Scope,
+    // What is set before its body.
+    before: List<CoreStmt>,
+    // Whether it is on the caller's own object.
+    same: bool,
+}
 
 impl Growing {
     /// The copied body of a function; then the locals that it doesn't declare get their numbers.
@@ -47,9 +59,7 @@ impl Growing {
                 PlainNode::Declare(local) => self.declare(*local, scope, here, s.place, &mut out)?,
                 PlainNode::Return(value) => {
                     if let Some(value) = value {
-                        let value = self.expr(value, scope, here)?;
-                        let answer = scope.answer.ok_or(lost())?;
-                        out.push(self.assign(s.place, answer, value))?;
+                        self.answer(value, scope, here, s.place, &mut out)?;
                     }
                     out.push(at(s.place, CoreNode::Exit(depth)))?;
                 }
@@ -62,8 +72,25 @@ impl Growing {
         Ok(out)
     }
 
-    // The copy of a statement that stays one.
+    // What a `return` sets the result to.
+    #[inline(never)]
+    fn answer(
+        &self,
+        value: &PlainExpr,
+        scope: &Scope,
+        here: &Here,
+        place: Place,
+        out: &mut List<CoreStmt>,
+    ) -> Result<(), NoMemory> {
+        let value = self.expr(value, scope, here)?;
+        let answer = scope.answer.ok_or(lost())?;
+        out.push(self.assign(place, answer, value))
+    }
+
+    // The copy of a statement that stays one. The arms are functions of their own, so that the frames of 1,024 nested calls
+    // fit the stack.
     #[cycle(copied)]
+    #[inline(never)]
     fn node(
         &mut self,
         s: &PlainStmt,
@@ -79,15 +106,9 @@ impl Growing {
                 if let Some(local) = alone(left) {
                     self.give(scope, here.function, local)?;
                 }
-                let left = self.left(left, scope, here, false)?;
-                let value = self.expr(value, scope, here)?;
-                Ok(CoreNode::Assign { left, value })
+                Ok(self.assignment(left, value, scope, here)?)
             }
-            PlainNode::Write { to, value } => {
-                let left = self.left(to, scope, here, false)?;
-                let value = self.expr(value, scope, here)?;
-                Ok(CoreNode::Assign { left, value })
-            }
+            PlainNode::Write { to, value } => Ok(self.assignment(to, value, scope, here)?),
             PlainNode::Point { left, target } => self.point(left, target, scope, here, s.place),
             PlainNode::Call { .. } => self.call(s, scope, here, room),
             PlainNode::If { test, yes, no } => {
@@ -110,8 +131,22 @@ impl Growing {
         }
     }
 
+    #[inline(never)]
+    fn assignment(
+        &self,
+        left: &PlainLeft,
+        value: &PlainExpr,
+        scope: &Scope,
+        here: &Here,
+    ) -> Result<CoreNode, NoMemory> {
+        let left = self.left(left, scope, here, false)?;
+        let value = self.expr(value, scope, here)?;
+        Ok(CoreNode::Assign { left, value })
+    }
+
     // A loop; the counter of a counted one stands as a literal inside.
     #[cycle(copied)]
+    #[inline(never)]
     fn repeat(
         &mut self,
         body: &[PlainStmt],
@@ -164,6 +199,7 @@ impl Growing {
 
     // The call of a function: its result is 0 at first, its parameters are set, and its body stands behind.
     #[cycle(copied)]
+    #[inline(never)]
     fn call(
         &mut self,
         s: &PlainStmt,
@@ -173,13 +209,7 @@ impl Growing {
     ) -> Result<CoreNode, Stop>
         ensures stop { IfErr result MayStop }
     {
-        let PlainNode::Call {
-            number,
-            function,
-            object,
-            args,
-        } = &s.node
-        else {
+        let PlainNode::Call { function, .. } = &s.node else {
             return Err(lost().into());
         };
         let callee = here
@@ -191,28 +221,54 @@ impl Growing {
         let Some(Some(facts)) = here.source.facts.get(*function as usize) else {
             return Err(lost().into());
         };
-        let mut child = self.called(callee, *number, scope)?;
-        let own = match object {
-            Some(object) => Some(self.object(object, scope, here)?),
-            None => None,
-        };
-        let mut body = self.params(args.as_slice(), callee, &child, scope, here, s.place)?;
-        // A call without an object is on the same one, which the callee has for so long.
-        let same = own.is_none() && callee.class.is_some();
-        child.this = if same { scope.this.take() } else { own };
+        let mut begun = self.enter(s, callee, scope, here)?;
         let inner = Here {
             source: here.source,
             function: callee,
             facts,
         };
-        body.append(self.body(&mut child, &inner, room)?)?;
-        if same {
-            scope.this = child.this.take();
-        }
-        Ok(CoreNode::Block(body))
+        let body = self.body(&mut begun.child, &inner, room)?;
+        finished(begun, body, scope)
+    }
+
+    // A call up to its body.
+    #[inline(never)]
+    fn enter(
+        &mut self,
+        s: &PlainStmt,
+        callee: &PlainFunction,
+        scope: &mut Scope,
+        here: &Here,
+    ) -> Result<Begun, Stop>
+        ensures stop { IfErr result MayStop }
+    {
+        let PlainNode::Call {
+            number,
+            object,
+            args,
+            ..
+        } = &s.node
+        else {
+            return Err(lost().into());
+        };
+        let mut child = self.called(callee, *number, scope)?;
+        let own = match object {
+            Some(object) => Some(self.object(object, scope, here)?),
+            None => None,
+        };
+        let before = self.params(args.as_slice(), callee, &child, scope, here, s.place)?;
+        // A call without an object is on the same one, which the callee has for so long.
+        let same = own.is_none() && callee.class.is_some();
+        child.this = if same { scope.this.take() } else { own };
+        Ok(Begun {
+            child,
+            before,
+            same,
+        })
     }
 
     // A new copy of a function, whose result and parameters have their numbers.
+    #[inline(never)]
     fn called(
         &mut self,
         callee: &PlainFunction,
@@ -249,6 +305,7 @@ impl Growing {
     }
 
     // What a call sets before its body.
+    #[inline(never)]
     fn params(
         &self,
         args: &[PlainArg],
@@ -304,6 +361,7 @@ impl Growing {
     }
 
     // A declaration without a value: each element is 0, or a pointer that leads nowhere.
+    #[inline(never)]
     fn declare(
         &mut self,
         local: u32,
@@ -336,6 +394,7 @@ impl Growing {
     }
 
     // A pointer or reference is given what it leads to: at its declaration, or later.
+    #[inline(never)]
     fn point(
         &mut self,
         left: &PlainLeft,
@@ -388,6 +447,23 @@ impl Growing {
         let left = CoreLeft::new(self.alloc, place, CoreBase::Cell(cell));
         at(place, CoreNode::Assign { left, value })
     }
+}
+
+// The call's statements, once its body is copied.
+#[inline(never)]
+fn finished(begun: Begun, body: List<CoreStmt>, scope: &mut Scope) -> Result<CoreNode, Stop>
+    ensures stop { IfErr result MayStop }
+{
+    let Begun {
+        mut child,
+        mut before,
+        same,
+    } = begun;
+    before.append(body)?;
+    if same {
+        scope.this = child.this.take();
+    }
+    Ok(CoreNode::Block(before))
 }
 
 fn at(place: Place, node: CoreNode) -> CoreStmt {

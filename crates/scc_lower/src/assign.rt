@@ -37,7 +37,7 @@ pub fn assigned(
     };
     let all = width(cells.cell(first)?.kind);
     let bits = match left.pick.as_ref().map(|pick| bits_taken(cells, pick)) {
-        None => Some(Bits::all(all)),
+        None => Some(Bits::all(all)?),
         Some(Picked::Range(bits)) => Some(bits),
         Some(Picked::Bit(i)) if i < all => Some(Bits { h: i, l: i }),
         Some(Picked::Bit(_)) | Some(Picked::Nowhere) => return Ok(out),

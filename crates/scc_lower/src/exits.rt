@@ -1,27 +1,36 @@
 //! Which blocks statements leave.
+use scc_base::{NoMemory, lost};
 use scc_core::{CoreNode, CoreStmt};
 
 /// The greatest number of a block of these statements that is left, counted from 1 by nesting; 0 where none is. `depth` blocks
 /// are open around them. The statements are live: they hold no `if` whose condition is static.
 #[cycle(exits)]
-pub fn greatest_exit(body: &[CoreStmt], depth: u32) -> u32 {
+pub fn greatest_exit(body: &[CoreStmt], depth: u32) -> Result<u32, NoMemory> {
     let mut greatest = 0;
     for s in body {
-        greatest = greatest.max(greatest_exit_of(s, depth));
+        greatest = greatest_exit_of(s, depth)?.max(greatest);
     }
-    greatest
+    Ok(greatest)
 }
 
 /// The same of one statement.
 #[cycle(exits)]
-pub fn greatest_exit_of(s: &CoreStmt, depth: u32) -> u32 {
+pub fn greatest_exit_of(s: &CoreStmt, depth: u32) -> Result<u32, NoMemory> {
     match &s.node {
-        CoreNode::Exit(n) => depth.saturating_sub(*n),
-        CoreNode::Block(body) => greatest_exit(body.as_slice(), depth.saturating_add(1)),
+        CoreNode::Exit(n) => match depth.checked_sub(*n) {
+            Some(outer) => Ok(outer),
+            None => Err(lost()),
+        },
+        CoreNode::Block(body) => match depth.checked_add(1) {
+            Some(inner) => greatest_exit(body.as_slice(), inner),
+            None => Err(lost()),
+        },
         CoreNode::Loop { body, .. } => greatest_exit(body.as_slice(), depth),
         CoreNode::If { yes, no, .. } => {
-            greatest_exit(yes.as_slice(), depth).max(greatest_exit(no.as_slice(), depth))
+            let yes = greatest_exit(yes.as_slice(), depth)?;
+            let no = greatest_exit(no.as_slice(), depth)?;
+            Ok(yes.max(no))
         }
-        CoreNode::Assign { .. } | CoreNode::Wait { .. } | CoreNode::Alias { .. } => 0,
+        CoreNode::Assign { .. } | CoreNode::Wait { .. } | CoreNode::Alias { .. } => Ok(0),
     }
 }

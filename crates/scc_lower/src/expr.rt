@@ -238,7 +238,7 @@ fn read(
         return literal(alloc, width(kind), 0);
     };
     let opens = opened(alloc, dims.as_slice(), cells, cx, levels)?;
-    let all = Bits::all(width(cells.cell(first)?.kind));
+    let all = Bits::all(width(cells.cell(first)?.kind))?;
     let bits = match pick.map(|p| bits_taken(cells, p)) {
         None | Some(Picked::Open) => all,
         Some(Picked::Range(bits)) => bits,

@@ -21,18 +21,21 @@ pub struct Bits {
 
 impl Bits {
     /// All of so many.
-    pub fn all(width: u32) -> Bits {
-        Bits {
-            h: width.saturating_sub(1),
-            l: 0,
+    pub fn all(width: u32) -> Result<Bits, NoMemory> {
+        match width.checked_sub(1) {
+            Some(h) => Ok(Bits { h, l: 0 }),
+            None => Err(lost()),
         }
     }
 
     /// How many there are.
-    pub fn count(self) -> u32
-        ensures { result ≡ min (self.h - self.l + 1) 4294967295 }
+    pub fn count(self) -> Result<u32, NoMemory>
+        ensures { IfOk result (λ n. n ≡ min (self.h - self.l + 1) 4294967295) }
     {
-        self.h.saturating_sub(self.l).saturating_add(1)
+        match self.h.checked_sub(self.l).and_then(|n| n.checked_add(1)) {
+            Some(n) => Ok(n),
+            None => Err(lost()),
+        }
     }
 }
 
@@ -91,7 +94,7 @@ fn constant_part(alloc: Global, kind: Kind, word: Word, bits: Bits) -> Result<Sv
         return Err(lost());
     };
     let bits_there = bits_of(v, bits)?;
-    literal(alloc, bits.count(), bits_there)
+    literal(alloc, bits.count()?, bits_there)
 }
 
 /// The word of some bits of a number.

@@ -47,7 +47,7 @@ pub fn element(
         return Ok(chosen);
     }
     let inside = below(alloc, *open, open.size)?;
-    let zero = literal(alloc, bits.count(), 0)?;
+    let zero = literal(alloc, bits.count()?, 0)?;
     choice(alloc, inside, chosen, zero)
 }
 

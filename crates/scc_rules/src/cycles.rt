@@ -39,7 +39,10 @@ pub fn readers_of(alloc: Global, f: &Facts<'_>) -> Result<Readers, NoMemory> {
                 }
             }
         }
-        n = n.saturating_add(1);
+        let Some(behind) = n.checked_add(1) else {
+            return Err(lost());
+        };
+        n = behind;
     }
     let mut last = filled(alloc, f.core.processes.len(), None)?;
     for reader in found.methods.iter() {
@@ -88,16 +91,19 @@ fn list_of<'a>(r: &'a Readers, n: u32) -> Result<&'a [u32], NoMemory> {
     }
 }
 
-/// The combinational methods, each behind the others that write what it reads, the least number first; those on a cycle, and
-/// behind one, are left out.
+/// The combinational methods, each behind the others that write what it reads, the least number first. None of them is on a
+/// cycle.
 pub fn order_of(alloc: Global, r: &Readers) -> Result<List<u32>, NoMemory> {
     let mut missing = filled(alloc, r.lists.len(), 0u32)?;
     for writer in r.methods.iter() {
         for reader in list_of(r, *writer)? {
             match missing.get_mut(*reader as usize) {
                 Some(count) => {
+                    let Some(more) = count.checked_add(1) else {
+                        return Err(lost());
+                    };
                     if reader != writer {
-                        *count = count.saturating_add(1);
+                        *count = more;
                     }
                 }
                 None => return Err(lost()),
@@ -113,7 +119,7 @@ pub fn order_of(alloc: Global, r: &Readers) -> Result<List<u32>, NoMemory> {
     let mut order = List::new(alloc);
     for _ in 0..r.methods.len() {
         let Some(n) = ready.pop_first() else {
-            return Ok(order);
+            return Err(lost());
         };
         order.push(n)?;
         for reader in list_of(r, n)? {
@@ -122,8 +128,11 @@ pub fn order_of(alloc: Global, r: &Readers) -> Result<List<u32>, NoMemory> {
             }
             match missing.get_mut(*reader as usize) {
                 Some(count) => {
-                    *count = count.saturating_sub(1);
-                    if *count == 0 {
+                    let Some(fewer) = count.checked_sub(1) else {
+                        return Err(lost());
+                    };
+                    *count = fewer;
+                    if fewer == 0 {
                         let _is_new = ready.insert(*reader)?;
                     }
                 }

@@ -1,5 +1,8 @@
 //! Constructors, bindings and processes: E401 to E407 and E409 to E412.
-use crate::command::{line, said};
+mod objects;
+mod statements;
+
+use scc_test_command::{line, said};
 use std::test::Fail;
 
 #[test]

@@ -107,8 +107,8 @@ template<> struct clog2<1> { static const int value = 0; };
 SC_MODULE(K) { sc_in<sc_uint<clog2<1024>::value> > x; SC_CTOR(K) {} };
 ";
 
-// modules made in a loop, and a pointer to one of them
-const STAGES: &str = "#include <systemc.h>
+/// Modules made in a loop, and a pointer to one of them.
+pub const STAGES: &str = "#include <systemc.h>
 template<int W> SC_MODULE(Stage) {
   sc_in<bool> clk, rst;
   sc_uint<W> q;

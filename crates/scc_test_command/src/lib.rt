@@ -1,12 +1,13 @@
-//! The command that each row runs.
-use scc_base::{CalmFiles, CalmSink, Text};
+//! What the command says of a source: tests of refusals share it.
+#![tactic(auto)]
+
+use scc_base::{CalmFiles, CalmSink, NoMemory, Text};
 use scc_drive::run;
 use std::alloc::Global;
-use std::test::Fail;
 
 /// What `compile T a.cpp` says where the file holds these bytes: the line of the refusal, empty where it is accepted and a text
 /// was written.
-pub fn said(alloc: Global, source: &[u8]) -> Result<Text, Fail> {
+pub fn said(alloc: Global, source: &[u8]) -> Result<Text, NoMemory> {
     let mut files = CalmFiles::new(alloc);
     files.add("a.cpp", source)?;
     let mut out = CalmSink::new(alloc);
@@ -26,7 +27,7 @@ pub fn said(alloc: Global, source: &[u8]) -> Result<Text, Fail> {
 }
 
 /// The line of a refusal in `a.cpp`, empty for none.
-pub fn line(alloc: Global, refusal: &str) -> Result<Text, Fail> {
+pub fn line(alloc: Global, refusal: &str) -> Result<Text, NoMemory> {
     let mut text = Text::new(alloc);
     if !refusal.is_empty() {
         text.push_bytes(b"a.cpp:")?;

@@ -1,6 +1,6 @@
 //! What processes do: E405, E408, E501 to E514, E601 to E605. Beside a row that is refused often stands the nearest that is not.
-use crate::command::{line, said};
 use scc_base::{NoMemory, Text};
+use scc_test_command::{line, said};
 use std::alloc::Global;
 use std::test::Fail;
 

@@ -1,5 +1,11 @@
 //! What the static stage says of small sources.
+mod constants;
+mod forms;
+mod kinds;
+mod names;
+mod numbers;
 mod rows;
+mod statements;
 
 use rows::{
     ACCEPTED, ARGUMENTS, BITS, DEMANDED, DEPTHS, DIVISORS, INSTANCES, LOSSES, MISMATCHES, PLACES,
@@ -39,7 +45,8 @@ fn show(alloc: Global, text: &[u8], r: &Refusal) -> Result<String, AllocError> {
     }
 }
 
-fn show_stop(alloc: Global, text: &[u8], stop: &Stop) -> Result<String, AllocError> {
+/// The place and the code of a refusal in this text, and its second place.
+pub fn show_stop(alloc: Global, text: &[u8], stop: &Stop) -> Result<String, AllocError> {
     match stop {
         Stop::Refused(r) => show(alloc, text, r),
         Stop::NoMemory => String::from_str(alloc, "no memory"),

@@ -1,3 +1,6 @@
+// The bitwise `&` of two bytes.
+//
+// It shows: the smallest design, a combinational method without a clock. Its sensitivity lists what it reads.
 #include <systemc.h>
 SC_MODULE(And) {
   sc_in<sc_uint<8> > a, b;

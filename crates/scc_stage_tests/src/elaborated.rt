@@ -1,0 +1,226 @@
+//! What construction leaves of a module that makes others in a loop, and clocks of which there may be several.
+use crate::designs::STAGES;
+use scc_base::{CalmFiles, List, Names, Path, PathPart, Stop};
+use scc_design::{Design, Object, ObjectNode, Process, Sort};
+use scc_elab::{elaborate, elaborate_many};
+use scc_grammar::parse;
+use scc_plain::plain;
+use scc_plaintree::Plain;
+use scc_tokens::join;
+use std::alloc::{AllocError, Global};
+use std::test::Fail;
+
+/// A program with the names of its source.
+#[derive(Drop)]
+struct Program {
+    names: Names,
+    plain: Plain,
+}
+
+/// The program of a file `a.cpp` with this text and the top `Top`; None where an earlier stage refuses it.
+fn program_of(alloc: Global, source: &str) -> Result<Option<Program>, Fail> {
+    let mut files = CalmFiles::new(alloc);
+    files.add("a.cpp", source.as_bytes())?;
+    let mut names = Names::new(alloc)?;
+    let top = names.intern("Top")?;
+    let mut roots = Vec::new(alloc);
+    roots.push(String::from_str(alloc, "a.cpp")?)?;
+    let mut sources = List::new(alloc);
+    let Ok(joined) = join(
+        alloc,
+        roots.as_slice(),
+        &mut files,
+        &mut names,
+        &mut sources,
+    ) else {
+        return Ok(None);
+    };
+    let Ok(tree) = parse(alloc, &joined) else {
+        return Ok(None);
+    };
+    match plain(alloc, &tree, top) {
+        Ok(plain) => Ok(Some(Program { names, plain })),
+        Err(_) => Ok(None),
+    }
+}
+
+fn show_path(alloc: Global, names: &Names, path: &Path) -> Result<String, AllocError> {
+    let mut shown = String::from_str(alloc, "top")?;
+    for part in path.as_slice() {
+        match *part {
+            PathPart::Member(name) if names.has(name) => {
+                shown.push_str(".")?;
+                shown.push_str(names.text(name))?;
+            }
+            PathPart::Member(_) => shown.push_str(".?")?,
+            PathPart::Index(i) => shown.push_str(format!(in alloc; "[{i}]")?.as_str())?,
+        }
+    }
+    Ok(shown)
+}
+
+fn show_node(alloc: Global, node: ObjectNode) -> Result<String, AllocError> {
+    match node {
+        ObjectNode::Module(_) => String::from_str(alloc, "module"),
+        ObjectNode::Port { root, .. } => format!(in alloc; "port of {root}"),
+        ObjectNode::Signal(_) => String::from_str(alloc, "signal"),
+        ObjectNode::Variable { .. } => String::from_str(alloc, "variable"),
+        ObjectNode::Pointer(Some(to)) => format!(in alloc; "pointer to {to}"),
+        ObjectNode::Pointer(None) => String::from_str(alloc, "null"),
+    }
+}
+
+fn show_object(
+    alloc: Global,
+    names: &Names,
+    number: usize,
+    object: &Object,
+) -> Result<String, AllocError> {
+    let path = show_path(alloc, names, &object.path)?;
+    let node = show_node(alloc, object.node)?;
+    format!(in alloc; "{number} {path} {node}")
+}
+
+fn show_process(alloc: Global, p: &Process) -> Result<String, AllocError> {
+    let object = p.object;
+    match (p.sort, p.edge, p.reset) {
+        (Sort::Thread, Some(edge), Some(reset)) if edge.rising && reset.level => {
+            let (clock, reset) = (edge.root, reset.root);
+            format!(in alloc; "thread of {object}, clock {clock}, reset {reset}")
+        }
+        _ => format!(in alloc; "process of {object}"),
+    }
+}
+
+// All objects, and then all processes.
+const STAGES_DESIGN: [&str; 36] = [
+    "0 top module",
+    "1 top.clk port of 1",
+    "2 top.rst port of 2",
+    "3 top.y port of 3",
+    "4 top.u[0] pointer to 12",
+    "5 top.u[1] pointer to 17",
+    "6 top.u[2] pointer to 22",
+    "7 top.u[3] pointer to 27",
+    "8 top.pick pointer to 22",
+    "9 top.s[0] signal",
+    "10 top.s[1] signal",
+    "11 top.s[2] signal",
+    "12 top.u[0] module",
+    "13 top.u[0].clk port of 1",
+    "14 top.u[0].rst port of 2",
+    "15 top.u[0].q variable",
+    "16 top.u[0].o port of 9",
+    "17 top.u[1] module",
+    "18 top.u[1].clk port of 1",
+    "19 top.u[1].rst port of 2",
+    "20 top.u[1].q variable",
+    "21 top.u[1].o port of 10",
+    "22 top.u[2] module",
+    "23 top.u[2].clk port of 1",
+    "24 top.u[2].rst port of 2",
+    "25 top.u[2].q variable",
+    "26 top.u[2].o port of 3",
+    "27 top.u[3] module",
+    "28 top.u[3].clk port of 1",
+    "29 top.u[3].rst port of 2",
+    "30 top.u[3].q variable",
+    "31 top.u[3].o port of 11",
+    "thread of 12, clock 1, reset 2",
+    "thread of 17, clock 1, reset 2",
+    "thread of 22, clock 1, reset 2",
+    "thread of 27, clock 1, reset 2",
+];
+
+fn show_design(alloc: Global, names: &Names, d: &Design) -> Result<String, AllocError> {
+    let mut shown = String::new(alloc);
+    for (number, object) in d.objects.as_slice().iter().enumerate() {
+        shown.push_str(show_object(alloc, names, number, object)?.as_str())?;
+        shown.push_str("\n")?;
+    }
+    for process in d.processes.as_slice() {
+        shown.push_str(show_process(alloc, process)?.as_str())?;
+        shown.push_str("\n")?;
+    }
+    Ok(shown)
+}
+
+#[test]
+fn makes_four_stages_in_a_loop(rt: HostRuntime) -> Result<(), Fail> {
+    let alloc = rt.alloc();
+    let mut shown = String::new(alloc);
+    if let Some(program) = program_of(alloc, STAGES)? {
+        if let Ok(design) = elaborate(alloc, &program.plain) {
+            shown = show_design(alloc, &program.names, &design)?;
+        }
+    }
+    let mut wanted = String::new(alloc);
+    let lines: &[&str] = &STAGES_DESIGN;
+    for line in lines {
+        wanted.push_str(line)?;
+        wanted.push_str("\n")?;
+    }
+    assert_eq!(rt; shown.as_str(), wanted.as_str());
+    Ok(())
+}
+
+const CLOCKS_128: &str =
+    "struct C { sc_in<bool> k; void f() { } C() { SC_METHOD(f); sensitive << k.pos(); } };
+struct Top { sc_in<bool> c[128]; C u[128]; Top() { for (int i = 0; i < 128; i++) u[i].k(c[i]); } };";
+
+const CLOCKS_129: &str =
+    "struct C { sc_in<bool> k; void f() { } C() { SC_METHOD(f); sensitive << k.pos(); } };
+struct Top { sc_in<bool> c[129]; C u[129]; Top() { for (int i = 0; i < 129; i++) u[i].k(c[i]); } };";
+
+const TWO_CLOCKS: &str = "struct Top { sc_in<bool> c, d; void f() { } void g() { }
+Top() { SC_METHOD(f); sensitive << c.pos(); SC_METHOD(g); sensitive << d.neg(); } };";
+
+const TWO_EDGES: &str = "struct Top { sc_in<bool> c; void f() { } void g() { }
+Top() { SC_METHOD(f); sensitive << c.pos(); SC_METHOD(g); sensitive << c.neg(); } };";
+
+// The places are bytes, counted from 0.
+fn show_stop(alloc: Global, stop: &Stop) -> Result<String, AllocError> {
+    let Stop::Refused(r) = stop else {
+        return String::from_str(alloc, "no memory");
+    };
+    let (code, at) = (r.code.number(), r.place.at);
+    match r.other {
+        Some(other) => {
+            let first = other.at;
+            format!(in alloc; "E{code} at {at}, see {first}")
+        }
+        None => format!(in alloc; "E{code} at {at}"),
+    }
+}
+
+/// What is said of a source whose processes may name several clocks, or one.
+fn clocked(alloc: Global, many: bool, source: &str) -> Result<String, Fail> {
+    let Some(program) = program_of(alloc, source)? else {
+        return Ok(String::from_str(alloc, "no program")?);
+    };
+    let answer = if many {
+        elaborate_many(alloc, &program.plain)
+    } else {
+        elaborate(alloc, &program.plain)
+    };
+    match answer {
+        Ok(_) => Ok(String::from_str(alloc, "accepted")?),
+        Err(stop) => Ok(show_stop(alloc, &stop)?),
+    }
+}
+
+#[test]
+fn counts_clocks(rt: HostRuntime) -> Result<(), Fail> {
+    for (many, source, want) in [
+        (true, CLOCKS_128, "accepted"),
+        (true, CLOCKS_129, "E413 at 45"),
+        (false, CLOCKS_129, "E407 at 45, see 45"),
+        (true, TWO_CLOCKS, "accepted"),
+        (false, TWO_CLOCKS, "E407 at 101, see 65"),
+        (true, TWO_EDGES, "E407 at 98, see 62"),
+    ] {
+        let got = clocked(rt.alloc(), many, source)?;
+        assert_eq!(rt; got.as_str(), want, "{source}");
+    }
+    Ok(())
+}
