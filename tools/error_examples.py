@@ -2,7 +2,7 @@
 """Runs the examples of docs/errors, and prints where a refusal isn't the one on the page.
 
     tools/error_examples.py [PAGE ..] [--scc CMD] [--write] [--data]
-    tools/error_examples.py --table | --check
+    tools/error_examples.py --copy | --check
 
 A page has, below the heading of a code, blocks of files and blocks of commands:
 
@@ -19,8 +19,8 @@ In a file `{{N*text}}` is N times the text, in which `{#}` is the number of the 
 place of each refusal what the program prints; --data prints all examples as JSON, one a line: its code, words, files and
 refusal. CMD is another program in the place of `./scc`, as is the environment's SCC.
 
---table writes the examples as tables of the crate scc_error_tests, whose tests the gate runs, and --check prints where the
-tables aren't those of the pages: neither needs a built program.
+The gate runs copies of the pages, with the program scc_cases. --copy writes them, and --check prints which differ: neither
+needs a built program.
 """
 import argparse
 import json
@@ -38,7 +38,7 @@ PAGES = sorted((REPOSITORY / "docs" / "errors").glob("[0-9]-*.md"))
 FENCE = re.compile(r"^```(\S+)(?: (\S+))?\n(.*?)^```$", re.M | re.S)
 HEADING = re.compile(r"^## E(\d+) (.*)$", re.M)
 REPEAT = re.compile(r"\{\{(\d+)\*(.*?)\}\}", re.S)
-TABLES = REPOSITORY / "crates" / "scc_error_tests" / "src"
+COPIES = REPOSITORY / "crates" / "scc_cases" / "data" / "errors"
 
 
 def expanded(text):
@@ -98,83 +98,15 @@ def wrong(example, scc):
     return None
 
 
-def pieces(text):
-    """The parts of a file, each with how many times it is there."""
-    place = 0
-    for match in REPEAT.finditer(text):
-        if place < match.start():
-            yield 1, text[place:match.start()]
-        yield int(match.group(1)), match.group(2)
-        place = match.end()
-    if place < len(text):
-        yield 1, text[place:]
-
-
-def quoted(text):
-    return '"' + text.replace("\\", "\\\\").replace('"', '\\"') + '"'
-
-
-def listed(field, kind, items):
-    """The lines of a field that is a list of structs, each given by its lines."""
-    if not items:
-        yield f"{field}: &[],"
-        return
-    one = len(items) == 1
-    yield f"{field}: &[" + (f"{kind} {{" if one else "")
-    for item in items:
-        if one:
-            yield from ("    " + line for line in item)
-            continue
-        yield f"    {kind} {{"
-        yield from ("        " + line for line in item)
-        yield "    },"
-    yield ("}" if one else "") + "],"
-
-
-def texts_of(part, columns):
-    """The lines of a part's texts, where so many columns are left."""
-    items = [quoted(text) for text in part.split("{#}")]
-    line = f"texts: &[{', '.join(items)}],"
-    if len(line) <= columns and "\n" not in line:
-        return [line]
-    return ["texts: &[", *(f"    {item}," for item in items), "],"]
-
-
-def rows(example):
-    """An example as an expression, laid out as `rt fmt` does it."""
-    files = []
-    for name, text in example.files.items():
-        found = list(pieces(text))
-        columns = 84 - 4 * (len(example.files) > 1) - 4 * (len(found) > 1)
-        parts = [[f"times: {times},", *texts_of(part, columns)] for times, part in found]
-        files.append([f"name: {quoted(name)},", *listed("parts", "Part", parts)])
-    words = ", ".join(map(quoted, example.words))
-    lines = [f"words: &[{words}],", *listed("files", "File", files), f"refusal: {quoted(example.refusal)},"]
-    return ["    Example {", *("        " + line for line in lines), "    },"]
-
-
-def table(page):
-    """The file of the examples of a page: its path and its text."""
-    name = "examples_" + page.stem.partition("-")[2].replace("-", "_")
-    lines = [
-        f"//! The examples of docs/errors/{page.name}, as tools/error_examples.py --table writes them.",
-        "use crate::example::{Example, File, Part};",
-        "",
-        "pub const EXAMPLES: &[Example] = &[",
-    ]
-    for example in examples_of(page):
-        lines.extend(rows(example))
-    return TABLES / f"{name}.rt", "\n".join([*lines, "];", ""])
-
-
-def settled(path, text, write):
-    """Whether a table isn't what its page says; said, and written if asked."""
-    if path.exists() and path.read_text() == text:
+def settled(page, write):
+    """Whether a page differs from what the gate runs; said, and mended if asked."""
+    text, copy = page.read_text(), COPIES / page.name
+    if copy.exists() and copy.read_text() == text:
         return False
     if write:
-        path.write_text(text)
+        copy.write_text(text)
         return False
-    print(f"{path.relative_to(REPOSITORY)} isn't what the page says: tools/error_examples.py --table writes it")
+    print(f"{copy.relative_to(REPOSITORY)} isn't {page.name}: tools/error_examples.py --copy writes it")
     return True
 
 
@@ -184,11 +116,11 @@ def main():
     parser.add_argument("--scc")
     parser.add_argument("--write", action="store_true")
     parser.add_argument("--data", action="store_true")
-    parser.add_argument("--table", action="store_true")
+    parser.add_argument("--copy", action="store_true")
     parser.add_argument("--check", action="store_true")
     a = parser.parse_args()
-    if a.table or a.check:
-        sys.exit(any([settled(*table(page), a.table) for page in PAGES]))
+    if a.copy or a.check:
+        sys.exit(any([settled(page, a.copy) for page in PAGES]))
     scc = None if a.data else compiler(a.scc)
     passed = failed = 0
     for page in a.pages or PAGES:

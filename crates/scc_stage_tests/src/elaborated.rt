@@ -1,14 +1,40 @@
 //! What construction leaves of a module that makes others in a loop, and clocks of which there may be several.
-use crate::designs::STAGES;
-use scc_base::{CalmFiles, List, Names, Path, PathPart, Stop};
+use crate::trees::tree_of;
+use scc_base::{Names, Path, PathPart, Stop};
 use scc_design::{Design, Object, ObjectNode, Process, Sort};
 use scc_elab::{elaborate, elaborate_many};
-use scc_grammar::parse;
 use scc_plain::plain;
 use scc_plaintree::Plain;
-use scc_tokens::join;
 use std::alloc::{AllocError, Global};
 use std::test::Fail;
+
+// modules made in a loop, and a pointer to one of them.
+const STAGES: &str = "#include <systemc.h>
+template<int W> SC_MODULE(Stage) {
+  sc_in<bool> clk, rst;
+  sc_uint<W> q;
+  sc_out<sc_uint<W> > o;
+  void run() { q = 0; o.write(0); wait(); while (true) { q = q + 1; o.write(q); wait(); } }
+  SC_CTOR(Stage) { SC_CTHREAD(run, clk.pos()); reset_signal_is(rst, true); }
+};
+SC_MODULE(Top) {
+  sc_in<bool> clk, rst;
+  sc_out<sc_uint<8> > y;
+  Stage<8>* u[4];
+  Stage<8>* pick;
+  sc_vector<sc_signal<sc_uint<8> > > s;
+  SC_CTOR(Top) : s(\"s\", 3) {
+    for (int i = 0; i < 4; i++) {
+      u[i] = new Stage<8>(\"u\");
+      u[i]->clk(clk);
+      u[i]->rst(rst);
+    }
+    u[0]->o(s[0]); u[1]->o(s[1]); u[3]->o(s[2]);
+    pick = u[2];
+    pick->o(y);
+  }
+};
+";
 
 /// A program with the names of its source.
 #[derive(Drop)]
@@ -19,23 +45,9 @@ struct Program {
 
 /// The program of a file `a.cpp` with this text and the top `Top`; None where an earlier stage refuses it.
 fn program_of(alloc: Global, source: &str) -> Result<Option<Program>, Fail> {
-    let mut files = CalmFiles::new(alloc);
-    files.add("a.cpp", source.as_bytes())?;
     let mut names = Names::new(alloc)?;
     let top = names.intern("Top")?;
-    let mut roots = Vec::new(alloc);
-    roots.push(String::from_str(alloc, "a.cpp")?)?;
-    let mut sources = List::new(alloc);
-    let Ok(joined) = join(
-        alloc,
-        roots.as_slice(),
-        &mut files,
-        &mut names,
-        &mut sources,
-    ) else {
-        return Ok(None);
-    };
-    let Ok(tree) = parse(alloc, &joined) else {
+    let Some(tree) = tree_of(alloc, &mut names, source)? else {
         return Ok(None);
     };
     match plain(alloc, &tree, top) {

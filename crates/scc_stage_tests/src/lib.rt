@@ -1,12 +1,11 @@
-//! Tests of the stages behind the grammar, in a crate of their own, so that each stage is proved once: the smallest sources for
-//! each cause of a refusal of construction, and worked designs.
+//! Tests of the stages behind the grammar by their own calls: constants, the objects of a design, and thin texts by both ways.
 #![tactic(auto)]
 
 #[cfg(test)]
-mod construction;
-#[cfg(test)]
-mod designs;
-#[cfg(test)]
 mod elaborated;
 #[cfg(test)]
+mod templates;
+#[cfg(test)]
 mod thin;
+#[cfg(test)]
+mod trees;

@@ -1,9 +1,8 @@
 //! Thin texts have a path of their own in `run`, which carries the main theorem: the stages give the same bytes for them.
-use scc_base::{CalmFiles, CalmSink, List, Names, Text};
+use crate::trees::tree_of;
+use scc_base::{CalmFiles, CalmSink, Names, Text};
 use scc_drive::run;
-use scc_grammar::parse;
 use scc_stages::compile;
-use scc_tokens::join;
 use std::alloc::Global;
 use std::test::Fail;
 
@@ -32,20 +31,14 @@ void write(){less.write(b.read());wide.write(read.read()|b.read());same.write(b.
 SC_CTOR(And){SC_METHOD(write);sensitive<<b<<read;}};
 ";
 
-/// A file `and.cpp` with this text.
-fn file(alloc: Global, source: &str) -> Result<CalmFiles, Fail> {
-    let mut files = CalmFiles::new(alloc);
-    files.add("and.cpp", source.as_bytes())?;
-    Ok(files)
-}
-
-/// What `compile And and.cpp` writes.
+/// What `compile And a.cpp` writes.
 fn by_run(alloc: Global, source: &str) -> Result<CalmSink, Fail> {
-    let mut files = file(alloc, source)?;
+    let mut files = CalmFiles::new(alloc);
+    files.add("a.cpp", source.as_bytes())?;
     let mut out = CalmSink::new(alloc);
     let mut err = CalmSink::new(alloc);
     let mut words = Vec::new(alloc);
-    for word in ["compile", "And", "and.cpp"] {
+    for word in ["compile", "And", "a.cpp"] {
         words.push(String::from_str(alloc, word)?)?;
     }
     let _status = run(alloc, words.as_slice(), &mut files, &mut out, &mut err);
@@ -54,21 +47,8 @@ fn by_run(alloc: Global, source: &str) -> Result<CalmSink, Fail> {
 
 /// What the stages give; None where one refuses.
 fn by_stages(alloc: Global, source: &str) -> Result<Option<Text>, Fail> {
-    let mut files = file(alloc, source)?;
     let mut names = Names::new(alloc)?;
-    let mut sources = List::new(alloc);
-    let mut roots = Vec::new(alloc);
-    roots.push(String::from_str(alloc, "and.cpp")?)?;
-    let Ok(joined) = join(
-        alloc,
-        roots.as_slice(),
-        &mut files,
-        &mut names,
-        &mut sources,
-    ) else {
-        return Ok(None);
-    };
-    let Ok(tree) = parse(alloc, &joined) else {
+    let Some(tree) = tree_of(alloc, &mut names, source)? else {
         return Ok(None);
     };
     Ok(compile(alloc, &names, &tree, b"And").ok())

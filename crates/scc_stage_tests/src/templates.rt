@@ -1,0 +1,143 @@
+//! Values of constants, asked for one by one.
+use crate::trees::tree_of;
+use scc_base::{Names, Place, Refusal, Stop};
+use scc_bits::{Kind, Value};
+use scc_templates::Instances;
+use scc_tree::{Expr, FileTree, ItemNode};
+use std::alloc::{AllocError, Global};
+use std::test::Fail;
+
+// The line and the column of a place, both from 1.
+fn spot(text: &[u8], place: Place) -> (u32, u32) {
+    let mut line: u32 = 1;
+    let mut column: u32 = 1;
+    for b in text.iter().take(place.at as usize) {
+        if *b == b'\n' {
+            line = line.saturating_add(1);
+            column = 1;
+        } else {
+            column = column.saturating_add(1);
+        }
+    }
+    (line, column)
+}
+
+fn show(alloc: Global, text: &[u8], r: &Refusal) -> Result<String, AllocError> {
+    let code = r.code.number();
+    let (line, column) = spot(text, r.place);
+    match r.other {
+        Some(other) => {
+            let (first_line, first_column) = spot(text, other);
+            format!(in alloc; "{line}:{column} E{code} see {first_line}:{first_column}")
+        }
+        None => format!(in alloc; "{line}:{column} E{code}"),
+    }
+}
+
+// The place and the code of a refusal in this text, and its second place.
+fn show_stop(alloc: Global, text: &[u8], stop: &Stop) -> Result<String, AllocError> {
+    match stop {
+        Stop::Refused(r) => show(alloc, text, r),
+        Stop::NoMemory => String::from_str(alloc, "no memory"),
+    }
+}
+
+fn show_value(alloc: Global, value: Value) -> Result<String, AllocError> {
+    let bits = value.word().bits;
+    match value.kind() {
+        Kind::Bool => format!(in alloc; "{bits} bool"),
+        Kind::Native {
+            bits: w,
+            signed: true,
+        } => format!(in alloc; "{bits} signed {w}"),
+        Kind::Native { bits: w, .. } => format!(in alloc; "{bits} unsigned {w}"),
+        Kind::Uint(w) => format!(in alloc; "{bits} sc_uint {w}"),
+        Kind::Big(w) => format!(in alloc; "{bits} sc_biguint {w}"),
+        Kind::Wide { bits: w, .. } => format!(in alloc; "{bits} wide {w}"),
+        _ => format!(in alloc; "{bits}"),
+    }
+}
+
+// The expression of the last declaration.
+fn last_constant(tree: &FileTree) -> Option<&Expr> {
+    let item = tree.items.as_slice().last()?;
+    match &item.node {
+        ItemNode::Constant { value, .. } => Some(value),
+        _ => None,
+    }
+}
+
+/// What `const_value` says of the last constant of a source, and how many instances there are then.
+fn value_said(alloc: Global, source: &str) -> Result<String, Fail> {
+    let mut names = Names::new(alloc)?;
+    let Some(tree) = tree_of(alloc, &mut names, source)? else {
+        return Ok(String::from_str(alloc, "no tree")?);
+    };
+    let Some(e) = last_constant(&tree) else {
+        return Ok(String::from_str(alloc, "no constant")?);
+    };
+    let mut table = Instances::new(alloc);
+    let said = match table.const_value(&tree, None, e) {
+        Ok(value) => show_value(alloc, value)?,
+        Err(stop) => show_stop(alloc, source.as_bytes(), &stop)?,
+    };
+    let count = table.len();
+    Ok(format!(in alloc; "{said}, {count}")?)
+}
+
+// The number of instances stands behind the value, or behind the refusal.
+const VALUES: [(&str, &str); 19] = [
+    (
+        "const int A = 5; const int B = A * 2 + 1;",
+        "11 signed 32, 0",
+    ),
+    ("const int A = -1;", "4294967295 signed 32, 0"),
+    ("const int A = 1 < 2;", "1 bool, 0"),
+    ("const int A = sc_uint<4>(7) + 1;", "8 unsigned 64, 0"),
+    (
+        "const int A = (sc_uint<4>(5), sc_uint<2>(1));",
+        "21 sc_uint 6, 0",
+    ),
+    ("const int A = sc_biguint<8>(3) - 5;", "510 wide 9, 0"),
+    ("enum { A = 3, B }; const int C = B;", "4 signed 32, 0"),
+    (
+        "template<int N> struct S { static const int k = N + 1; }; const int A = S<S<3>::k>::k;",
+        "5 signed 32, 2",
+    ),
+    ("const int A = nope;", "1:15 E301, 0"),
+    ("const int A = sc_uint<0>(1);", "1:23 E303, 0"),
+    ("const int A = !sc_biguint<8>(1);", "1:15 E304, 0"),
+    ("int h() { return 1; } const int A = h();", "1:37 E305, 0"),
+    (
+        "template<int N> struct S { enum { A = N + 1 }; }; const int A = S<2147483648>::A;",
+        "1:67 E306, 0",
+    ),
+    (
+        "template<int N> struct S { enum { A = N }; }; const int A = S<int>::A;",
+        "1:63 E307, 0",
+    ),
+    ("const int A = A;", "1:15 E308, 0"),
+    (
+        "template<int N> struct S { static const int k = S<N - 1>::k; }; const int A = S<0>::k;",
+        "1:49 E308, 65",
+    ),
+    (
+        "const int A = sc_biguint<128>(1) * sc_biguint<128>(1) > 0;",
+        "1:55 E310, 0",
+    ),
+    ("const int A = 1 / 0;", "1:17 E311, 0"),
+    (
+        "template<int N> struct S { static const int k = 1 / N; }; const int A = S<0>::k;",
+        "1:51 E311, 1",
+    ),
+];
+
+#[test]
+fn works_out_constants(rt: HostRuntime) -> Result<(), Fail> {
+    let rows: &[(&str, &str)] = &VALUES;
+    for (source, want) in rows {
+        let got = value_said(rt.alloc(), source)?;
+        assert_eq!(rt; got.as_str(), *want, "{source}");
+    }
+    Ok(())
+}
