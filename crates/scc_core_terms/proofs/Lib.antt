@@ -1,1 +1,2 @@
 pub mod Statements
+mod KindedSizes

@@ -1,14 +1,14 @@
 -- What a statement before others adds to them.
-use Rattle.std.proofs.Common.{◌≡◌, refl, arith, ℕ, Bool, true, false, List, [], ◌∷◌, ◌+◌, ◌||◌, max, subst, ap, ◌∙◌, sym, if◌then◌else◌}
+use Rattle.std.proofs.Common.{◌≡◌, refl, arith, ℕ, Bool, true, false, ◌+◌, ◌||◌, max, subst, ap, sym, if◌then◌else◌}
 use Rattle.std.proofs.Math.Nat.{zero-max}
 use Rattle.scc_base.specs.declared.refusal.Place.{Place}
-use Rattle.scc_core.specs.declared.stmt.CoreStmt.{CoreStmt, fold-CoreStmt, fold-roll-CoreStmt, roll-CoreStmt, ind-CoreStmt}
-use Rattle.scc_core.specs.declared.stmt.CoreNode.{CoreNode, roll-CoreNode, map-CoreNode, fold-CoreNode, fold-roll-CoreNode}
+use Rattle.scc_core.specs.declared.stmt.CoreStmt.{CoreStmt, fold-roll-CoreStmt, ind-CoreStmt}
+use Rattle.scc_core.specs.declared.stmt.CoreNode.{CoreNode, fold-CoreNode, fold-roll-CoreNode}
 use Rattle.scc_core.specs.declared.stmt.CoreNode.TheOpen.{CoreNode-F, CoreStmt-F}
 use Rattle.scc_core.specs.declared.stmt.CoreNode.TheOpen as node
 use Rattle.scc_meaning_core.specs.Code.{Code, End, size, holds_wait}
 use Rattle.scc_meaning_core.specs.Sizes.{loops_deep}
-use Rattle.scc_core_terms.specs.Codes.{Node, stmt_node, stmt_step, stmt_code, before, code_of}
+use Rattle.scc_core_terms.specs.Codes.{Node, stmt_node, stmt_step, stmt_code, before}
 
 -- sizes of what stands before add up
 pub record Adds (f : Code → Code) : Type 0 where

@@ -1,3 +1,5 @@
 pub mod Terms
 pub mod Codes
 pub mod Programs
+pub mod Kinded
+pub mod WorkedBit

@@ -1,5 +1,5 @@
 -- The program that a core stands for.
-use Rattle.std.specs.Prelude.{ℕ, Bool, true, false, List, map, Option, Some, None, option_map}
+use Rattle.std.specs.Prelude.{Bool, true, false, List, map, option_map}
 use Rattle.scc_base.specs.declared.path.PathPart.{PathPart}
 use Rattle.scc_core.specs.declared.program.Core.{Core}
 use Rattle.scc_core.specs.declared.program.Cell.{Cell as Held}
@@ -16,6 +16,8 @@ use Rattle.scc_meaning_core.specs.Program.{Program, Process, Cell, Sort, Edge, R
 use Rattle.scc_meaning_core.specs.Program as program
 use Rattle.scc_core_terms.specs.Terms.{name_of, part_of}
 use Rattle.scc_core_terms.specs.Codes.{code_of}
+use Rattle.scc_core_terms.specs.Kinded.{kinded_code}
+use Rattle.scc_meaning_core.specs.Static.{Cells}
 
 abbrev pub path_of : List PathPart → List Part
 path_of = map part_of
@@ -42,11 +44,14 @@ edge_of e = record { cell = e.cell; rising = e.rising }
 abbrev pub reset_of : Reset2 → Reset
 reset_of r = record { cell = r.cell; level = r.level; asynchronous = r.asynchronous }
 
-abbrev pub process_of : CoreProcess → Process
-process_of p = record { is_thread = is_thread p.sort; name = name_of p.name; place = p.place; senses = p.senses; edge = option_map edge_of p.edge; reset = option_map reset_of p.reset; body = code_of p.body }
+abbrev pub process_of : Cells → CoreProcess → Process
+process_of cs p = record { is_thread = is_thread p.sort; name = name_of p.name; place = p.place; senses = p.senses; edge = option_map edge_of p.edge; reset = option_map reset_of p.reset; body = kinded_code cs (code_of p.body) }
 
 abbrev pub vector_of : VectorSize2 → Vector
 vector_of v = record { path = path_of v.path; size = v.size }
 
+abbrev pub cells_of : Core → Cells
+cells_of c = map cell_of c.cells
+
 abbrev pub program_of : Core → Program
-program_of c = record { top = c.top.0; cells = map cell_of c.cells; vectors = map vector_of c.vectors; processes = map process_of c.processes }
+program_of c = record { top = c.top.0; cells = cells_of c; vectors = map vector_of c.vectors; processes = map (process_of (cells_of c)) c.processes }

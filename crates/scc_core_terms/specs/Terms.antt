@@ -1,5 +1,5 @@
 -- The terms that a core's expressions stand for, and the locations: what the trees say, without their boxes.
-use Rattle.std.specs.Prelude.{ℕ, Bool, List, [], ◌∷◌, map, Option, Some, None}
+use Rattle.std.specs.Prelude.{ℕ, List, [], ◌∷◌, map, Option, Some, None}
 use Rattle.scc_base.specs.declared.refusal.Place.{Place}
 use Rattle.scc_base.specs.declared.names.Name.{Name}
 use Rattle.scc_base.specs.declared.path.PathPart.{PathPart}
@@ -99,7 +99,7 @@ expr_step e = e.node e.place e.kind
 abbrev pub left_step : CoreLeft-F Base Node (Left → Left) Pick Term Taken → Taken
 left_step l = record { left = extended (l.base l.place) l.parts; pick = pick_of l.pick }
 
--- the term of an expression; what is read of a location with a pick are bits of what stands there
+-- the term of an expression; what is read of a location with a pick are bits of what stands there, of which `kinded` tells the kind
 abbrev pub term_of : CoreExpr → Term
 term_of = fold-CoreExpr Base Node (Left → Left) Pick Term Taken base_node expr_node part_node pick_node expr_step left_step
 

@@ -1,11 +1,14 @@
 //! Laws on what trees stand for.
-ghost use Rattle.std.specs.Prelude.{◌≡◌, [], ◌∷◌, ◌+◌, max, ◌||◌};
+ghost use Rattle.std.specs.Prelude.{◌≡◌, Some, [], ◌∷◌, ◌+◌, max, ◌||◌};
 ghost use Rattle.scc_core.specs.declared.stmt.CoreStmt.{CoreStmt};
 ghost use Rattle.scc_core.specs.declared.program.Core.{Core};
 ghost use Rattle.scc_meaning_core.specs.Code.{Code, size, holds_wait};
 ghost use Rattle.scc_meaning_core.specs.Sizes.{loops_deep};
 ghost use Rattle.scc_core_terms.specs.Codes.{code_of, stmt_code};
 ghost use Rattle.scc_core_terms.specs.Programs.{program_of};
+ghost use Rattle.scc_core_terms.specs.Kinded.{kinded, kinded_code};
+ghost use Rattle.scc_core_terms.specs.WorkedBit.{bit_three, cells};
+ghost use Rattle.scc_meaning_core.specs.Static.{Cells, static};
 
 /// A statement before others has their sizes together.
 pub fn a_statement_adds_its_size()
@@ -17,4 +20,16 @@ pub fn a_statement_adds_its_size()
 /// A program has the cells of its core.
 pub fn a_program_is_its_core()
     ensures { (c : Core) → (program_of c).top ≡ c.top.0 }
+{}
+
+/// The kinds of loads change no size.
+pub fn kinds_keep_sizes()
+    ensures statements { (cs : Cells) (c : Code) → size (kinded_code cs c) ≡ size c }
+    ensures loops { (cs : Cells) (c : Code) → loops_deep (kinded_code cs c) ≡ loops_deep c }
+    ensures waits { (cs : Cells) (c : Code) → holds_wait (kinded_code cs c) ≡ holds_wait c }
+{}
+
+/// Bit 3 of a variable that holds 8 is 1.
+pub fn a_bit_is_one_of_its_variable()
+    ensures { static cells (kinded cells bit_three) ≡ Some 1 }
 {}

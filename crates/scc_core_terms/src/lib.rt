@@ -3,4 +3,7 @@
 
 mod laws;
 
-pub use laws::{a_program_is_its_core, a_statement_adds_its_size};
+pub use laws::{
+    a_bit_is_one_of_its_variable, a_program_is_its_core, a_statement_adds_its_size,
+    kinds_keep_sizes,
+};

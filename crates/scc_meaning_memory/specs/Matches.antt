@@ -40,4 +40,4 @@ pub record MemoryMatches (text : Location → List ℕ) (own : List ℕ → Bool
 -- The module with memories matches the design, and shows what it shows.
 pub record MemoryShows (text : Location → List ℕ) (own : List ℕ → Bool) (kept : Location → Bool) (d : Design) (top : List ℕ) (m : MemModule) : Type 0 where
   pub matches : MemoryMatches text own kept d m top
-  pub shows : ShowsTheSame Valuation (register text m) (Runs text m) d
+  pub shows : ShowsTheSame Valuation (register text m) (Runs text d m) d

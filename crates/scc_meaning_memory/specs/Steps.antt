@@ -5,9 +5,10 @@ use Rattle.scc_meaning.specs.Location.{Location}
 use Rattle.scc_running.specs.Run as run
 use Rattle.scc_running.specs.Statement.{Shot, Seen}
 use Rattle.scc_svtree.specs.Steps.{StepInput, input_at}
+use Rattle.scc_running.specs.Design.{Design}
 use Rattle.scc_svtree.specs.declared.module.SvModule.{SvModule}
 use Rattle.scc_svtree.specs.declared.module.SvVar.{SvVar}
-use Rattle.scc_meaning_text.specs.Emitted.{outputs_from, has_edge}
+use Rattle.scc_meaning_text.specs.Emitted.{outputs_from, has_edge, is_clock_name}
 use Rattle.scc_meaning_text.specs.Emitted as plain
 use Rattle.scc_meaning_memory.specs.Array.{Array, element_name, with_part, is_of, var_named, width_of}
 use Rattle.scc_meaning_memory.specs.Taken.{IsTaken, name_at}
@@ -36,7 +37,7 @@ Steps m x [] [] = Unit {0}
 Steps m x (s ∷ ss) (o ∷ os) = (z : Valuation) × Step m s x z o × Steps m z ss os
 Steps m x _ _ = ⊥
 
--- words for the inputs but the clocks, in order
+-- words for the inputs but the design's clocks, whose names the test tells, in order
 abbrev pub first : List ℕ → ℕ
 first [] = 0
 first (x ∷ xs) = x
@@ -45,16 +46,16 @@ abbrev pub behind : List ℕ → List ℕ
 behind [] = []
 behind (x ∷ xs) = xs
 
-abbrev pub given_from : MemModule → ℕ → List SvVar → List ℕ → ℕ → ℕ
-given_from m i [] xs v = 0
-given_from m i (w ∷ ws) xs v = if input_at m.vars i && not (is_clock m.blocks i) then cond (nat_eq i v) (first xs) (given_from m (i + 1) ws (behind xs) v) else given_from m (i + 1) ws xs v
+abbrev pub given_from : (List ℕ → Bool) → MemModule → ℕ → List SvVar → List ℕ → ℕ → ℕ
+given_from clock m i [] xs v = 0
+given_from clock m i (w ∷ ws) xs v = if input_at m.vars i && not (clock w.name) then cond (nat_eq i v) (first xs) (given_from clock m (i + 1) ws (behind xs) v) else given_from clock m (i + 1) ws xs v
 
 abbrev pub clocks_at : (Location → List ℕ) → MemModule → Option (List Location) → ℕ → Bool
 clocks_at text m None v = false
 clocks_at text m (Some ls) v = list_any (λ l. bytes_eq (text l) (name_at m.vars v)) ls
 
-abbrev pub step_of : (Location → List ℕ) → MemModule → run.Step → StepInput
-step_of text m s = record { inputs = given_from m 0 m.vars s.inputs; clocks = clocks_at text m s.edge; has_edge = has_edge s.edge }
+abbrev pub step_of : (Location → List ℕ) → Design → MemModule → run.Step → StepInput
+step_of text d m s = record { inputs = given_from (is_clock_name text d) m 0 m.vars s.inputs; clocks = clocks_at text m s.edge; has_edge = has_edge s.edge }
 
 abbrev pub set_by : MemBlock → List ℕ
 set_by (Comb c) = []
@@ -92,8 +93,8 @@ AreSeen text m [] [] = Unit {0}
 AreSeen text m (xs ∷ xss) (s ∷ ss) = (seen_of text m xs ≡ Some s) × AreSeen text m xss ss
 AreSeen text m _ _ = ⊥
 
-abbrev pub Runs : (Location → List ℕ) → MemModule → Valuation → List run.Step → List Seen → Type 0
-Runs text m x steps seen = (xss : List (List Valuation)) × Steps m x (map (step_of text m) steps) xss × AreSeen text m xss seen
+abbrev pub Runs : (Location → List ℕ) → Design → MemModule → Valuation → List run.Step → List Seen → Type 0
+Runs text d m x steps seen = (xss : List (List Valuation)) × Steps m x (map (step_of text d m) steps) xss × AreSeen text m xss seen
 
 -- A memory stands for a taken array.
 pub record StandsFor (m : SvModule) (b : Memory) (a : Array) : Type 0 where
@@ -146,7 +147,7 @@ pub record HasMemories (m : SvModule) (n : MemModule) : Type 0 where
   pub others : (v : ℕ) (x : SvVar) → slice_get m.vars v ≡ Some x → ((a : Array) → IsTaken m a → is_of a v ≡ false) → (u : ℕ) × (slice_get n.vars u ≡ Some x)
   pub words : (x : ℕ → ℕ) (y : Valuation) → Agree m n x y → (k i v : ℕ) (b : Memory) (a : Array) → slice_get n.memories k ≡ Some b → StandsFor m b a
       → slice_get a.elements i ≡ Some v → y.elements k i ≡ x v
-  pub runs : (x : ℕ → ℕ) (y : Valuation) → Agree m n x y → (text : Location → List ℕ) (steps : List run.Step) (a : List Seen) → plain.Runs text m x steps a
-      → (b : List Seen) × Runs text n y steps b
-  pub same : (x : ℕ → ℕ) (y : Valuation) → Agree m n x y → (text : Location → List ℕ) (steps : List run.Step) (a b : List Seen) → plain.Runs text m x steps a → Runs text n y steps b
+  pub runs : (x : ℕ → ℕ) (y : Valuation) → Agree m n x y → (text : Location → List ℕ) (d : Design) (steps : List run.Step) (a : List Seen) → plain.Runs text d m x steps a
+      → (b : List Seen) × Runs text d n y steps b
+  pub same : (x : ℕ → ℕ) (y : Valuation) → Agree m n x y → (text : Location → List ℕ) (d : Design) (steps : List run.Step) (a b : List Seen) → plain.Runs text d m x steps a → Runs text d n y steps b
       → AllSame a b

@@ -3,15 +3,14 @@
 use Rattle.std.specs.Prelude.{◌≡◌, ℕ, ◌+◌, nat_eq, Bool, true, false, not, ◌&&◌, List, [], ◌∷◌, map, Option, Some, None, option_map, if◌then◌else◌, bytes_eq}
 use Rattle.std.specs.List.{list_any}
 use Rattle.scc_meaning.specs.Location.{Location}
-use Rattle.scc_running.specs.Design.{Design}
+use Rattle.scc_running.specs.Design.{Design, edge_of}
 use Rattle.scc_running.specs.Run as run
 use Rattle.scc_running.specs.Statement.{Shot, Seen, ShowsTheSame}
 use Rattle.scc_svtree.specs.declared.module.SvModule.{SvModule}
-use Rattle.scc_svtree.specs.declared.module.SvBlock.{SvBlock}
 use Rattle.scc_svtree.specs.declared.module.SvVar.{SvVar}
 use Rattle.scc_svtree.specs.declared.module.Dir.{Dir}
 use Rattle.scc_svtree.specs.declared.module.Dir.TheVariants.{Output}
-use Rattle.scc_svtree.specs.Steps.{StepInput, Steps, is_input, is_clock}
+use Rattle.scc_svtree.specs.Steps.{StepInput, Steps, is_input}
 use Rattle.scc_meaning_text.specs.Matches.{name_at, register_of, first}
 
 abbrev pub is_output : Dir → Bool
@@ -26,13 +25,17 @@ abbrev pub behind : List ℕ → List ℕ
 behind [] = []
 behind (x ∷ xs) = xs
 
--- words for the inputs but the clocks, in order, by the numbers of the variables, of which these are numbered from i on
-abbrev pub given_from : List SvBlock → ℕ → List SvVar → List ℕ → ℕ → ℕ
-given_from bs i [] xs v = 0
-given_from bs i (w ∷ ws) xs v = if is_input w.dir && not (is_clock bs i) then (if nat_eq i v then or_zero xs else given_from bs (i + 1) ws (behind xs) v) else given_from bs (i + 1) ws xs v
+-- the name of a clock: some process of the design has its edge there, whether or not the module has a block for it
+abbrev pub is_clock_name : (Location → List ℕ) → Design → List ℕ → Bool
+is_clock_name text d n = list_any (λ p. list_any (λ e. bytes_eq (text e.clock) n) (edge_of p.sort)) d.processes
 
-abbrev pub given : SvModule → List ℕ → ℕ → ℕ
-given m xs = given_from m.blocks 0 m.vars xs
+-- words for the inputs but the clocks, whose names the test tells, in order, by the numbers of the variables, of which these are numbered from i on
+abbrev pub given_from : (List ℕ → Bool) → ℕ → List SvVar → List ℕ → ℕ → ℕ
+given_from clock i [] xs v = 0
+given_from clock i (w ∷ ws) xs v = if is_input w.dir && not (clock w.name) then (if nat_eq i v then or_zero xs else given_from clock (i + 1) ws (behind xs) v) else given_from clock (i + 1) ws xs v
+
+abbrev pub given : (Location → List ℕ) → Design → SvModule → List ℕ → ℕ → ℕ
+given text d m xs = given_from (is_clock_name text d) 0 m.vars xs
 
 -- clocks are matched by their ports' names
 abbrev pub edge_at : (Location → List ℕ) → SvModule → Option (List Location) → ℕ → Bool
@@ -44,8 +47,8 @@ abbrev pub has_edge : Option (List Location) → Bool
 has_edge None = false
 has_edge (Some ls) = true
 
-abbrev pub step_of : (Location → List ℕ) → SvModule → run.Step → StepInput
-step_of text m s = record { inputs = given m s.inputs; clocks = edge_at text m s.edge; has_edge = has_edge s.edge }
+abbrev pub step_of : (Location → List ℕ) → Design → SvModule → run.Step → StepInput
+step_of text d m s = record { inputs = given text d m s.inputs; clocks = edge_at text m s.edge; has_edge = has_edge s.edge }
 
 abbrev pub outputs_from : ℕ → List SvVar → (ℕ → ℕ) → List ℕ
 outputs_from i [] x = []
@@ -68,10 +71,10 @@ AreSeen text m [] [] = Unit {0}
 AreSeen text m (xs ∷ xss) (s ∷ ss) = (seen_of text m xs ≡ Some s) × AreSeen text m xss ss
 AreSeen text m _ _ = ⊥
 
--- what a module may show over steps from a valuation
-abbrev pub Runs : (Location → List ℕ) → SvModule → (ℕ → ℕ) → List run.Step → List Seen → Type 0
-Runs text m x steps seen = (xss : List (List (ℕ → ℕ))) × Steps m x (map (step_of text m) steps) xss × AreSeen text m xss seen
+-- what a module may show over steps of a design from a valuation
+abbrev pub Runs : (Location → List ℕ) → Design → SvModule → (ℕ → ℕ) → List run.Step → List Seen → Type 0
+Runs text d m x steps seen = (xss : List (List (ℕ → ℕ))) × Steps m x (map (step_of text d m) steps) xss × AreSeen text m xss seen
 
 -- the module shows what the design shows
 abbrev pub ModuleShows : (Location → List ℕ) → Design → SvModule → Type 0
-ModuleShows text d m = ShowsTheSame (ℕ → ℕ) (register text m) (Runs text m) d
+ModuleShows text d m = ShowsTheSame (ℕ → ℕ) (register text m) (Runs text d m) d

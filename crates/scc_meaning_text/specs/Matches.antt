@@ -19,25 +19,26 @@ thing_width (Some (Signal k)) = width_of k
 thing_width (Some (Port k root)) = width_of k
 thing_width None = 0
 
--- a port as both sides have it
+-- a port as both sides have it: an input where `input` is true, an output where it is false; None of a variable that is no port
 pub record PortView : Type 0 where
   pub name : List ℕ
   pub width : ℕ
-  pub input : Bool
+  pub input : Option Bool
 
 abbrev pub port_view : (Location → List ℕ) → Design → TopPort → PortView
-port_view text d p = record { name = text p.location; width = thing_width (d.places.things p.location); input = is_input p.direction }
+port_view text d p = record { name = text p.location; width = thing_width (d.places.things p.location); input = Some (is_input p.direction) }
 
 abbrev pub is_port : Dir → Bool
 is_port dir.Inner = false
 is_port _ = true
 
-abbrev pub is_in : Dir → Bool
-is_in dir.Input = true
-is_in _ = false
+abbrev pub way_of : Dir → Option Bool
+way_of dir.Input = Some true
+way_of dir.Output = Some false
+way_of dir.Inner = None
 
 abbrev pub var_view : SvVar → PortView
-var_view v = record { name = v.name; width = v.width; input = is_in v.dir }
+var_view v = record { name = v.name; width = v.width; input = way_of v.dir }
 
 abbrev pub name_at : SvModule → ℕ → List ℕ
 name_at m v = unwrap_or (option_map (λ x. x.name) (slice_get m.vars v)) []

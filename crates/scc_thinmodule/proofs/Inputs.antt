@@ -9,8 +9,6 @@ use Rattle.scc_running.specs.Design.{inputs, outputs, is_input, locations}
 use Rattle.scc_running.specs.Design as direction
 use Rattle.scc_running.specs.Run.{set_inputs, AllFit, FitsThing, word_at}
 use Rattle.scc_meaning_text.specs.Emitted.{given_from, outputs_from}
-use Rattle.scc_svtree.specs.declared.stmt.SvStmt.{SvStmt}
-use Rattle.scc_svtree.specs.declared.module.SvBlock.TheVariants.{Comb}
 use Rattle.scc_svtree.specs.declared.module.SvVar.{SvVar}
 use Rattle.scc_svtree.specs.declared.module.Dir.TheVariants.{Input, Output}
 use Rattle.scc_thin.specs.declared.design.Design as thin
@@ -123,10 +121,10 @@ module _ (ports : List Port) where
       by_output false (x ∷ xs) more =
           more xs (changed (member i) x words) ∙ ap (λ b. cond b x (words (member v))) (and_true (nat_eq i v) ∙ ne_eqb i v (λ e. omega (arith, e, h)))
 
--- The words that the inputs are set to are those that the module is given, and they fit. Its one block has no clock.
-module _ (d : thin.Design) (ss : List SvStmt) where
+-- The words that the inputs are set to are those that the module is given, and they fit. No process has a clock.
+module _ (d : thin.Design) where
   abbrev handed : ℕ → List SvVar → List ℕ → ℕ → ℕ
-  handed = given_from (Comb ss ∷ [])
+  handed = given_from (λ n. false)
 
   abbrev SetRight : ℕ → List Port → List ℕ → (Location → ℕ) → ℕ → Type 0
   SetRight i qs xs words v =

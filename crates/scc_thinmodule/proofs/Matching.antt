@@ -3,7 +3,7 @@ use Rattle.std.proofs.Common.{◌≡◌, ℕ, suc, ◌+◌, List, [], ◌∷◌,
 use Rattle.std.specs.Prelude.{take, slice_get, option_map, unwrap_or}
 use Rattle.scc_running.specs.Design as running
 use Rattle.scc_running.specs.Design.{is_input}
-use Rattle.scc_meaning_text.specs.Matches.{PortView, is_in, port_view, thing_width, var_view}
+use Rattle.scc_meaning_text.specs.Matches.{PortView, port_view, thing_width, var_view, way_of}
 use Rattle.scc_svtree.specs.declared.module.Dir.TheVariants.{Input, Output}
 use Rattle.scc_thin.specs.declared.design.Design.{Design}
 use Rattle.scc_thin.specs.declared.design.Port.{Port}
@@ -19,14 +19,14 @@ all_taken i (p ∷ ps) = ap (λ l. var_of p ∷ l) (all_taken (i + 1) ps)
 abbrev At : List Port → ℕ → List Port → Type 0
 At ports i qs = (k : ℕ) → slice_get ports (i + k) ≡ slice_get qs k
 
-abbrev view_with : Option Port → Bool → PortView
+abbrev view_with : Option Port → Option Bool → PortView
 view_with o b = record { name = unwrap_or (option_map (λ p. p.name) o) []; width = thing_width (option_map thing_of o); input = b }
 
 module _ (d : Design) where
   one_view : (i : ℕ) (q : Port) → slice_get d.ports i ≡ Some q → var_view (var_of q) ≡ port_view (text_of d) (source_of d) (record { location = member i; direction = direction_of q })
-  one_view i q e = ap (view_with (Some q)) (by_output q.output) ∙ ap (λ o. view_with o (is_input (direction_of q))) (sym e)
+  one_view i q e = ap (view_with (Some q)) (by_output q.output) ∙ ap (λ o. view_with o (Some (is_input (direction_of q)))) (sym e)
     where
-      by_output : (b : Bool) → is_in (cond b Output Input) ≡ is_input (cond b running.Output running.Input)
+      by_output : (b : Bool) → way_of (cond b Output Input) ≡ Some (is_input (cond b running.Output running.Input))
       by_output true = refl
       by_output false = refl
 

@@ -110,7 +110,7 @@ module _ (d : Design) (sound : IsSound d) (few : FewBits d.ports) where
 
   -- the inputs of a step, on both sides
   abbrev inputs_of : run.Step → ℕ → ℕ
-  inputs_of s = given m s.inputs
+  inputs_of s = given (text_of d) (source_of d) m s.inputs
 
   abbrev statements : List SvStmt
   statements = zeros_from 0 d.ports ++ map (put_stmt d.ports) d.puts
@@ -119,12 +119,12 @@ module _ (d : Design) (sound : IsSound d) (few : FewBits d.ports) where
   fit_members s fit = subst (λ ls. AllFit (source_of d) ls s.inputs) (inputs_are d) fit.0
 
   fits_step : (s : run.Step) → FitsStep (source_of d) s → FitIn d.ports (inputs_of s)
-  fits_step s fit v h e = (set_right d statements 0 d.ports s.inputs (λ l. 0) v (λ k. ap (is_output_at d.ports) (omega arith)) (omega arith) (omega arith) h e (fit_members s fit)).1
+  fits_step s fit v h e = (set_right d 0 d.ports s.inputs (λ l. 0) v (λ k. ap (is_output_at d.ports) (omega arith)) (omega arith) (omega arith) h e (fit_members s fit)).1
 
   source_given : (s : run.Step) (st : State) → FitsStep (source_of d) s → AgreeIn d.ports (words_in d.ports (rounds.given d sound s st)) (inputs_of s)
   source_given s st fit v h e =
       ap (λ ls. set_inputs ls s.inputs st.store.words (member v)) (inputs_are d)
-      ∙ (set_right d statements 0 d.ports s.inputs st.store.words v (λ k. ap (is_output_at d.ports) (omega arith)) (omega arith) (omega arith) h e (fit_members s fit)).0
+      ∙ (set_right d 0 d.ports s.inputs st.store.words v (λ k. ap (is_output_at d.ports) (omega arith)) (omega arith) (omega arith) h e (fit_members s fit)).0
 
   abbrev set_for : run.Step → (ℕ → ℕ) → ℕ → ℕ
   set_for s x = after_resets m.blocks (with_inputs m (inputs_of s) x)
@@ -150,7 +150,7 @@ module _ (d : Design) (sound : IsSound d) (few : FewBits d.ports) where
   SameSeen o s = SameShot o.before s.before × SameAfter o.after s.after
 
   -- a step on both sides
-  one_step : (s : run.Step) → FitsStep (source_of d) s → (st : State) (x z : ℕ → ℕ) (y : List (ℕ → ℕ)) (o : Seen) → Step m (step_of (text_of d) m s) x z y → seen_of (text_of d) m y ≡ Some o
+  one_step : (s : run.Step) → FitsStep (source_of d) s → (st : State) (x z : ℕ → ℕ) (y : List (ℕ → ℕ)) (o : Seen) → Step m (step_of (text_of d) (source_of d) m s) x z y → seen_of (text_of d) m y ≡ Some o
       → SameSeen (seen d sound s st) o
   one_step s fit st x z y o p e = at_edge s.edge p.later p.second (ap (seen_of (text_of d) m) (sym p.observed) ∙ e)
     where
@@ -175,7 +175,7 @@ module _ (d : Design) (sound : IsSound d) (few : FewBits d.ports) where
                 (emitted_of (inputs_of s) (after_edges (width_at m.vars) (edge_at (text_of d) m (Some at)) m.blocks p.settled) z (fits_step s fit) first.inputs q.0),
           )
 
-  all_alike : (ss : List run.Step) → FitSteps (source_of d) ss → (st : State) (x : ℕ → ℕ) (ys : List (List (ℕ → ℕ))) (os : List Seen) → Steps m x (map (step_of (text_of d) m) ss) ys
+  all_alike : (ss : List run.Step) → FitSteps (source_of d) ss → (st : State) (x : ℕ → ℕ) (ys : List (List (ℕ → ℕ))) (os : List Seen) → Steps m x (map (step_of (text_of d) (source_of d) m) ss) ys
       → AreSeen (text_of d) m ys os → AllSame (all_seen d sound ss st) os
   all_alike [] fit st x [] [] p q = tt
   all_alike [] fit st x [] (o ∷ os) p q = absurd q
@@ -188,7 +188,7 @@ module _ (d : Design) (sound : IsSound d) (few : FewBits d.ports) where
 
   -- the module can take a step
   abbrev Taken : run.Step → (ℕ → ℕ) → Type 0
-  Taken s x = (z : ℕ → ℕ) × (y : List (ℕ → ℕ)) × (o : Seen) × Step m (step_of (text_of d) m s) x z y × (seen_of (text_of d) m y ≡ Some o)
+  Taken s x = (z : ℕ → ℕ) × (y : List (ℕ → ℕ)) × (o : Seen) × Step m (step_of (text_of d) (source_of d) m s) x z y × (seen_of (text_of d) m y ≡ Some o)
 
   takes : (s : run.Step) → FitsStep (source_of d) s → (x : ℕ → ℕ) → Taken s x
   takes s fit x = at_edge s.edge refl
@@ -228,7 +228,7 @@ module _ (d : Design) (sound : IsSound d) (few : FewBits d.ports) where
             refl,
           )
 
-  takes_all : (ss : List run.Step) → FitSteps (source_of d) ss → (x : ℕ → ℕ) → (os : List Seen) × Runs (text_of d) m x ss os
+  takes_all : (ss : List run.Step) → FitSteps (source_of d) ss → (x : ℕ → ℕ) → (os : List Seen) × Runs (text_of d) (source_of d) m x ss os
   takes_all [] fit x = ([], ([], tt, tt))
   takes_all (s ∷ ss) fit x =
       let p = takes s fit.0 x in
