@@ -8,7 +8,7 @@ use Rattle.scc_words.specs.declared.command.Command.TheVariants as command
 use Rattle.scc_drive.specs.declared.stopped.Stopped.{Stopped}
 use Rattle.scc_drive.specs.declared.stopped.Stopped.TheVariants as stopped
 use Rattle.scc_drive.specs.Answer.{AnswersBy, Answers, Asks, ComesFor, without}
-use Rattle.scc_drive.specs.Comes.{Comes, ComesBy, CommandComes, GeneratedComes}
+use Rattle.scc_drive.specs.CommandOutcome.{CommandOutcome, WordsOutcome, CommandOutcomeBy, GeneratedOutcome}
 use Rattle.scc_drive.specs.Outcome.{Outcome}
 use Rattle.scc_drive.specs.Stages.{Gives}
 use Rattle.scc_drive.specs.Words.{command_by, are_words, word_at}
@@ -32,9 +32,9 @@ answers_wider C D top held m m' f f' (Err (stopped.Failed n)) i a =
     (a.0, (a.1.0, (a.1.1.0, i a.1.0 a.1.1.0 a.1.1.1, a.1.1.2)), λ shelf e. asks_wider C D n shelf i (a.2 shelf e))
 
 module _ (words : List (String Global)) where
-  comes_as : (c : Command) → Some c ≡ command_by words → (shelf : Shelf) (o : Outcome) → CommandComes c words shelf o → ComesFor words shelf o
-  unfolding Comes
-  comes_as c e shelf o x = subst (λ d. ComesBy d words shelf o) e x
+  comes_as : (c : Command) → Some c ≡ command_by words → (shelf : Shelf) (o : Outcome) → CommandOutcomeBy c words shelf o → ComesFor words shelf o
+  unfolding CommandOutcome
+  comes_as c e shelf o x = subst (λ d. WordsOutcome d words shelf o) e x
 
   good : (c : Command) → Some c ≡ command_by words → are_words words ≡ true
   unfolding are_words
@@ -45,8 +45,8 @@ module _ (words : List (String Global)) where
   bad_words e = sym (ap is_some e)
 
   pub command_answers : (c : Command) (held : Option Shelf) (m m' f f' : ℕ) (r : Result (List ℕ) Stopped) → Some c ≡ command_by words
-      → AnswersBy (CommandComes c words) (word_at words 1) held m m' f f' r → Answers words held m m' f f' r
-  command_answers c held m m' f f' r e a = inr (inl (good c e, answers_wider (CommandComes c words) (ComesFor words) (word_at words 1) held m m' f f' r (comes_as c e) a))
+      → AnswersBy (CommandOutcomeBy c words) (word_at words 1) held m m' f f' r → Answers words held m m' f f' r
+  command_answers c held m m' f f' r e a = inr (inl (good c e, answers_wider (CommandOutcomeBy c words) (ComesFor words) (word_at words 1) held m m' f f' r (comes_as c e) a))
 
 pub gives_answers : (C : Outcome → Type 0) (top : List ℕ) (held : Option Shelf) (m m' f f' : ℕ) (r : Result (List ℕ) Stopped) → Gives C top r → AnswersBy (λ shelf o. C o) top held m m' f f' r
 gives_answers C top held m m' f f' (Ok text) g = (((λ name. None), g), λ shelf e. g)

@@ -21,7 +21,7 @@ use Rattle.scc_drive.specs.declared.spots.Spot.{Spot}
 use Rattle.scc_drive.specs.declared.stopped.Stopped.{Stopped}
 use Rattle.scc_drive.specs.declared.stopped.Stopped.TheVariants as stopped
 use Rattle.scc_drive.specs.Answer.{AnswersBy, without}
-use Rattle.scc_drive.specs.Comes.{TextComes, unread, misnamed, meets, outcome_on, outcome_of_stimulus, outcome_of_steps, LongTextComes, TextFileComes, TextsCome}
+use Rattle.scc_drive.specs.CommandOutcome.{TextOutcome, unread, misnamed, meets, outcome_on, outcome_of_stimulus, outcome_of_steps, LongTextOutcome, TextFileOutcome, TextsOutcome}
 use Rattle.scc_drive.specs.Outcome.{Outcome, refusal, absent, runs, wider, tracing, RefusesBy, WritesBy, MissesBy}
 use Rattle.scc_drive.specs.Spots.{spot_in, first_spot}
 use Rattle.scc_drive.specs.Stages.{Gives, Asking, Asked, IsHeld, IsNoModule}
@@ -67,16 +67,16 @@ none_without : (n name : List ℕ) (shelf : Shelf) → n ≡ name → first_part
 none_without n name shelf e = ap (λ x. first_part (without x shelf) name) e ∙ none_held (without name shelf) name (without_none name shelf)
 
 module _ (plain : Bool) (top name stim : List ℕ) (held : Option Shelf) where
-  no_text : (shelf : Shelf) → first_part shelf name ≡ None → TextsCome plain top name stim shelf (absent name)
-  no_text shelf e = subst (λ t. TextFileComes plain top name stim t (first_part shelf stim) (absent name)) (sym e) refl
+  no_text : (shelf : Shelf) → first_part shelf name ≡ None → TextsOutcome plain top name stim shelf (absent name)
+  no_text shelf e = subst (λ t. TextFileOutcome plain top name stim t (first_part shelf stim) (absent name)) (sym e) refl
 
-  long_text : (shelf : Shelf) (bytes : List ℕ) → length bytes ≡ 1048577 → first_part shelf name ≡ Some bytes → TextsCome plain top name stim shelf (refusal FileTooLong (first_spot name))
+  long_text : (shelf : Shelf) (bytes : List ℕ) → length bytes ≡ 1048577 → first_part shelf name ≡ Some bytes → TextsOutcome plain top name stim shelf (refusal FileTooLong (first_spot name))
   long_text shelf bytes l e =
-      subst (λ t. TextFileComes plain top name stim t (first_part shelf stim) (refusal FileTooLong (first_spot name))) (sym e)
-      (subst (λ b. LongTextComes b plain top (record { name = name; bytes = bytes }) stim (first_part shelf stim) (refusal FileTooLong (first_spot name))) (sym (is_long (length bytes) l)) refl)
+      subst (λ t. TextFileOutcome plain top name stim t (first_part shelf stim) (refusal FileTooLong (first_spot name))) (sym e)
+      (subst (λ b. LongTextOutcome b plain top (record { name = name; bytes = bytes }) stim (first_part shelf stim) (refusal FileTooLong (first_spot name))) (sym (is_long (length bytes) l)) refl)
 
   -- the answers where the text isn't given
-  pub text_unasked : (m m' f f' : ℕ) (s : Stopped) → Asked name held m m' f f' (Err s) → AnswersBy (TextsCome plain top name stim) top held m m' f f' (Err s)
+  pub text_unasked : (m m' f f' : ℕ) (s : Stopped) → Asked name held m m' f f' (Err s) → AnswersBy (TextsOutcome plain top name stim) top held m m' f f' (Err s)
   text_unasked m m' f f' (stopped.Refused code spot other) q =
       let b = q.3.0 in
       let way : RefusesBy (refusal FileTooLong (first_spot name)) code spot other = (q.0, q.1, q.2) in (
@@ -114,13 +114,13 @@ module _ (top name bytes stim : List ℕ) (short : length bytes ≤ 1048576) (he
   abbrev text_file : Source
   text_file = record { name = name; bytes = bytes }
 
-  come_by : (plain : Bool) (shelf : Shelf) (o : Outcome) → first_part shelf name ≡ Some bytes → LongTextComes false plain top text_file stim (first_part shelf stim) o → TextsCome plain top name stim shelf o
+  come_by : (plain : Bool) (shelf : Shelf) (o : Outcome) → first_part shelf name ≡ Some bytes → LongTextOutcome false plain top text_file stim (first_part shelf stim) o → TextsOutcome plain top name stim shelf o
   come_by plain shelf o e c =
-      subst (λ t. TextFileComes plain top name stim t (first_part shelf stim) o) (sym e)
-      (subst (λ b. LongTextComes b plain top text_file stim (first_part shelf stim) o) (sym (is_short (length bytes) short)) c)
+      subst (λ t. TextFileOutcome plain top name stim t (first_part shelf stim) o) (sym e)
+      (subst (λ b. LongTextOutcome b plain top text_file stim (first_part shelf stim) o) (sym (is_short (length bytes) short)) c)
 
-  come : (shelf : Shelf) (given : Option (List ℕ)) (o : Outcome) → first_part shelf name ≡ Some bytes → first_part shelf stim ≡ given → TextComes top text_file stim given o → TextsCome true top name stim shelf o
-  come shelf given o e d c = come_by true shelf o e (subst (λ g. TextComes top text_file stim g o) (sym d) c)
+  come : (shelf : Shelf) (given : Option (List ℕ)) (o : Outcome) → first_part shelf name ≡ Some bytes → first_part shelf stim ≡ given → TextOutcome top text_file stim given o → TextsOutcome true top name stim shelf o
+  come shelf given o e d c = come_by true shelf o e (subst (λ g. TextOutcome top text_file stim g o) (sym d) c)
 
   -- a shelf with the text_file and a stimulus
   abbrev two : Option (List ℕ) → Shelf
@@ -139,16 +139,16 @@ module _ (top name bytes stim : List ℕ) (short : length bytes ≤ 1048576) (he
       go true e = h.0 ∙ h.1 (same_bytes name stim e)
       go false e = whole_part bytes (omega (arith, short))
 
-  come_two : (given : Option (List ℕ)) (o : Outcome) → Fits given → TextComes top text_file stim given o → TextsCome true top name stim (two given) o
+  come_two : (given : Option (List ℕ)) (o : Outcome) → Fits given → TextOutcome top text_file stim given o → TextsOutcome true top name stim (two given) o
   come_two given o h c = come (two given) given o (two_name given h) (two_stim given h) c
 
-  in_form : (shelf : Shelf) (o : Outcome) → first_part shelf name ≡ Some bytes → FormComes stim text_file o → TextsCome false top name stim shelf o
+  in_form : (shelf : Shelf) (o : Outcome) → first_part shelf name ≡ Some bytes → FormComes stim text_file o → TextsOutcome false top name stim shelf o
   in_form shelf o e c = come_by false shelf o e c
 
-  somewhere : (o : Outcome) → FormComes stim text_file o → TextsCome false top name stim (all_of bytes) o
+  somewhere : (o : Outcome) → FormComes stim text_file o → TextsOutcome false top name stim (all_of bytes) o
   somewhere o c = in_form (all_of bytes) o (whole_part bytes (omega (arith, short))) c
 
-  pub form_answers : (m m' f f' : ℕ) (r : Result (List ℕ) Stopped) → Asking (FormComes stim text_file) top held m m' f f' r → AnswersBy (TextsCome false top name stim) top held m m' f f' r
+  pub form_answers : (m m' f f' : ℕ) (r : Result (List ℕ) Stopped) → Asking (FormComes stim text_file) top held m m' f f' r → AnswersBy (TextsOutcome false top name stim) top held m m' f f' r
   form_answers m m' f f' (Ok trace) g = ((all_of bytes, (g.0, somewhere g.0 g.1, g.2)), λ shelf e. (g.0, in_form shelf g.0 (told shelf e) g.1, g.2))
   form_answers m m' f f' (Err (stopped.Refused code spot other)) g = ((all_of bytes, (g.0, somewhere g.0 g.1, g.2)), λ shelf e. (g.0, in_form shelf g.0 (told shelf e) g.1, g.2))
   form_answers m m' f f' (Err stopped.NoMemory) g = tt
@@ -159,7 +159,7 @@ module _ (top name bytes stim : List ℕ) (short : length bytes ≤ 1048576) (he
       (g.0, (all_of bytes, (g.1.0, somewhere g.1.0 g.1.1, g.1.2)), λ shelf e. inr (g.1.0, in_form shelf g.1.0 (told shelf e) g.1.1, g.1.2))
 
   -- the answers where the text_file is refused
-  pub text_stops : (m m' f f' : ℕ) (s : Stopped) → IsNoModule top text_file s → AnswersBy (TextsCome true top name stim) top held m m' f f' (Err s)
+  pub text_stops : (m m' f f' : ℕ) (s : Stopped) → IsNoModule top text_file s → AnswersBy (TextsOutcome true top name stim) top held m m' f f' (Err s)
   text_stops m m' f f' (stopped.Refused code spot other) h =
       let o = refusal code spot in (
         (all_of bytes, (o, come (all_of bytes) (first_part (all_of bytes) stim) o (whole_part bytes (omega (arith, short))) refl (h.0 stim (first_part (all_of bytes) stim)), (refl, refl, h.1))),
@@ -173,15 +173,15 @@ module _ (top name bytes stim : List ℕ) (short : length bytes ≤ 1048576) (he
   -- ---- its module
 
   module _ (top_module : SvModule) (read : ReadAs false bytes top_module) (named : top_module.name ≡ top) where
-    met : (given : Option (List ℕ)) (o : Outcome) → outcome_on top_module stim given ≡ o → TextComes top text_file stim given o
-    met given o e = subst (TextComes top text_file stim given) e (meets top_module read named)
+    met : (given : Option (List ℕ)) (o : Outcome) → outcome_on top_module stim given ≡ o → TextOutcome top text_file stim given o
+    met given o e = subst (TextOutcome top text_file stim given) e (meets top_module read named)
 
     long_given : (b : List ℕ) → length b ≡ 1048577 → outcome_on top_module stim (Some b) ≡ refusal FileTooLong (first_spot stim)
     long_given b l = ap (outcome_of_stimulus top_module (record { name = stim; bytes = b })) (is_long (length b) l)
 
     -- the answers where the stimulus isn't given
     pub stimulus_unasked : (m m' f f' : ℕ) (s : Stopped) → Asked stim held m m' f f' (Err s) → (stim ≡ name → s ≡ stopped.NoMemory)
-        → AnswersBy (TextsCome true top name stim) top held m m' f f' (Err s)
+        → AnswersBy (TextsOutcome true top name stim) top held m m' f f' (Err s)
     stimulus_unasked m m' f f' (stopped.Refused code spot other) q never =
         let b = q.3.0 in
         let o = refusal FileTooLong (first_spot stim) in
@@ -212,7 +212,7 @@ module _ (top name bytes stim : List ℕ) (short : length bytes ≤ 1048576) (he
 
     -- the answers for a stimulus
     pub stimulus_given : (m m' f f' : ℕ) (b : List ℕ) (r : Result (List ℕ) Stopped) → length b ≤ 1048576 → IsHeld held stim b → (stim ≡ name → b ≡ bytes)
-        → Gives (λ o. o ≡ outcome_of_stimulus top_module (record { name = stim; bytes = b }) false) top r → AnswersBy (TextsCome true top name stim) top held m m' f f' r
+        → Gives (λ o. o ≡ outcome_of_stimulus top_module (record { name = stim; bytes = b }) false) top r → AnswersBy (TextsOutcome true top name stim) top held m m' f f' r
     stimulus_given m m' f f' b (Ok trace) l given again g = (
       (two (Some b), (g.0, come_two (Some b) g.0 (whole_part b (omega (arith, l)), λ e. ap Some (again (sym e))) (met (Some b) g.0 (short_given b l ∙ sym g.1)), g.2)),
       λ shelf e. (g.0, come shelf (Some b) g.0 (told shelf e) (given shelf e) (met (Some b) g.0 (short_given b l ∙ sym g.1)), g.2),
@@ -228,10 +228,10 @@ module _ (top name bytes stim : List ℕ) (short : length bytes ≤ 1048576) (he
 
 -- ---- reading and running
 
-no_module : (top : List ℕ) (text : Source) (code : Code) (spot : Spot) (s : Stopped) → ((stim : List ℕ) (given : Option (List ℕ)) → TextComes top text stim given (refusal code spot))
+no_module : (top : List ℕ) (text : Source) (code : Code) (spot : Spot) (s : Stopped) → ((stim : List ℕ) (given : Option (List ℕ)) → TextOutcome top text stim given (refusal code spot))
     → StopsAt code spot s → IsNoModule top text s
 no_module top text code spot (stopped.Refused c p other) comes h =
-    ((λ stim given. subst (λ q. TextComes top text stim given (refusal c q)) (sym h.1) (subst (λ d. TextComes top text stim given (refusal d spot)) (sym h.0) (comes stim given))), h.2)
+    ((λ stim given. subst (λ q. TextOutcome top text stim given (refusal c q)) (sym h.1) (subst (λ d. TextOutcome top text stim given (refusal d spot)) (sym h.0) (comes stim given))), h.2)
 no_module top text code spot stopped.NoMemory comes h = tt
 no_module top text code spot stopped.BadWords comes h = absurd h
 no_module top text code spot (stopped.Missing n) comes h = absurd h
@@ -276,13 +276,13 @@ module _ (m : SvModule) (s : Source) (top : List ℕ) where
 
 -- the answers where the text was read
 pub text_answered : (plain plain' : Bool) (top top' name name' stim stim' : List ℕ) (held held' : Option Shelf) (m0 m m' f0 f f' : ℕ) (r : Result (List ℕ) Stopped) → plain ≡ plain' → top' ≡ top → name' ≡ name
-    → stim' ≡ stim → held' ≡ held → m0 ≤ m → f0 ≤ f → AnswersBy (TextsCome plain' top' name' stim') top' held' m m' f f' r → AnswersBy (TextsCome plain top name stim) top held m0 m' f0 f' r
+    → stim' ≡ stim → held' ≡ held → m0 ≤ m → f0 ≤ f → AnswersBy (TextsOutcome plain' top' name' stim') top' held' m m' f f' r → AnswersBy (TextsOutcome plain top name stim) top held m0 m' f0 f' r
 text_answered plain plain' top top' name name' stim stim' held held' m0 m m' f0 f f' r p a b c same q s x =
-    answers_since (TextsCome plain top name stim) top held held' m0 m m' f0 f f' r same q s
-    (subst (λ d. AnswersBy (TextsCome d top name stim) top held' m m' f f' r) (sym p)
-    (subst (λ d. AnswersBy (TextsCome plain' top name d) top held' m m' f f' r) c
-    (subst (λ d. AnswersBy (TextsCome plain' top d stim') top held' m m' f f' r) b (subst (λ d. AnswersBy (TextsCome plain' d name' stim') d held' m m' f f' r) a x))))
+    answers_since (TextsOutcome plain top name stim) top held held' m0 m m' f0 f f' r same q s
+    (subst (λ d. AnswersBy (TextsOutcome d top name stim) top held' m m' f f' r) (sym p)
+    (subst (λ d. AnswersBy (TextsOutcome plain' top name d) top held' m m' f f' r) c
+    (subst (λ d. AnswersBy (TextsOutcome plain' top d stim') top held' m m' f f' r) b (subst (λ d. AnswersBy (TextsOutcome plain' d name' stim') d held' m m' f f' r) a x))))
 
 pub unasked_answered : (plain : Bool) (top name name' stim : List ℕ) (held : Option Shelf) (m m' f f' : ℕ) (x : Stopped) → name' ≡ name → Asked name' held m m' f f' (Err x)
-    → AnswersBy (TextsCome plain top name stim) top held m m' f f' (Err x)
+    → AnswersBy (TextsOutcome plain top name stim) top held m m' f f' (Err x)
 unasked_answered plain top name name' stim held m m' f f' x b asked = text_unasked plain top name stim held m m' f f' x (subst (λ d. Asked d held m m' f f' (Err x)) b asked)

@@ -1,4 +1,4 @@
--- What a command comes to, by what joining gives.
+-- The outcome of a command, by what joining gives.
 use Rattle.std.proofs.Common.{◌≡◌, ℕ, List, drop, take, map, Option, Some, None, Result, Ok, Err, ap, refl, sym, ◌∙◌, subst, inl, inr, String}
 use Rattle.std.specs.Prelude.{string_bytes, option_map, IfOk, IfErr}
 use Rattle.std.specs.declared.alloc.Global.{Global}
@@ -23,20 +23,21 @@ use Rattle.scc_drive.specs.declared.spots.Spot.{Spot}
 use Rattle.scc_drive.specs.declared.stopped.Stopped.{Stopped}
 use Rattle.scc_drive.specs.declared.stopped.Stopped.TheVariants as stopped
 use Rattle.scc_drive.specs.Answer.{AnswersBy, without}
-use Rattle.scc_drive.specs.Comes.{faulty, FoundComes, FilesCome, RootsCome}
+use Rattle.scc_drive.specs.CommandOutcome.{faulty, RootsOutcome}
+use Rattle.scc_drive.proofs.Derived.{FoundOutcome, by_parts}
 use Rattle.scc_drive.specs.Outcome.{Task, Outcome, refusal, absent}
 use Rattle.scc_drive.specs.Spots.{spot_of}
-use Rattle.scc_drive.specs.Stages.{Gives, Asking, IsJoined, IsUnjoined, ReadComes}
+use Rattle.scc_drive.specs.Stages.{Gives, Asking, IsJoined, IsUnjoined, ReadOutcome}
 use Rattle.scc_drive.specs.Stops.{Stops, StoppedBy, IsFaulty}
 use Rattle.scc_drive.specs.Words.{roots_of}
 use Rattle.scc_drive.proofs.Without.{without_none, all_still}
 
 module _ (roots : List (List ℕ)) (held : Option Shelf) (read : Read) (j : IsJoined roots held read) (task : Task) (top : List ℕ) where
-  come : (shelf : Shelf) (o : Outcome) → HoldsAll (first_part shelf) read.sources → ReadComes task top read o → RootsCome task top roots shelf o
-  come shelf o holds c = subst (λ found. FilesCome task top found o) (sym (j.says (first_part shelf) holds)) c
+  come : (shelf : Shelf) (o : Outcome) → HoldsAll (first_part shelf) read.sources → ReadOutcome task top read o → RootsOutcome task top roots shelf o
+  come shelf o holds c = by_parts task top roots shelf read.names read.sources (Ok read.joined) o (j.says (first_part shelf) holds) c
 
   -- the answers of a command, by those for the files that it joined
-  pub joined_gives : (m m' f f' : ℕ) (r : Result (List ℕ) Stopped) → Gives (ReadComes task top read) top r → AnswersBy (RootsCome task top roots) top held m m' f f' r
+  pub joined_gives : (m m' f f' : ℕ) (r : Result (List ℕ) Stopped) → Gives (ReadOutcome task top read) top r → AnswersBy (RootsOutcome task top roots) top held m m' f f' r
   joined_gives m m' f f' (Ok text) g =
       ((j.somewhere.0, (g.0, come j.somewhere.0 g.0 j.somewhere.1 g.1, g.2)), λ shelf e. (g.0, come shelf g.0 (j.told shelf e) g.1, g.2))
   joined_gives m m' f f' (Err (stopped.Refused code spot other)) g =
@@ -46,7 +47,7 @@ module _ (roots : List (List ℕ)) (held : Option Shelf) (read : Read) (j : IsJo
   joined_gives m m' f f' (Err (stopped.Missing n)) g = absurd g
   joined_gives m m' f f' (Err (stopped.Failed n)) g = absurd g
 
-  pub joined_asking : (m m' f f' : ℕ) (r : Result (List ℕ) Stopped) → Asking (ReadComes task top read) top held m m' f f' r → AnswersBy (RootsCome task top roots) top held m m' f f' r
+  pub joined_asking : (m m' f f' : ℕ) (r : Result (List ℕ) Stopped) → Asking (ReadOutcome task top read) top held m m' f f' r → AnswersBy (RootsOutcome task top roots) top held m m' f f' r
   joined_asking m m' f f' (Ok text) g = joined_gives m m' f f' (Ok text) g
   joined_asking m m' f f' (Err (stopped.Refused code spot other)) g = joined_gives m m' f f' (Err (stopped.Refused code spot other)) g
   joined_asking m m' f f' (Err stopped.NoMemory) g = tt
@@ -96,20 +97,20 @@ module _ (roots : List (List ℕ)) (names : List (List ℕ)) (sources : List Sou
 
   module _ (task : Task) (top : List ℕ) where
     found_come : (shelf : Shelf) (found : Result Joined join.Stopped) (o : Outcome) → join_of (first_part shelf) fixed_names roots ≡ (names, sources, found)
-        → FoundComes task top names sources found o → RootsCome task top roots shelf o
-    found_come shelf found o e c = subst (λ f. FilesCome task top f o) (sym e) c
+        → FoundOutcome task top names sources found o → RootsOutcome task top roots shelf o
+    found_come shelf found o e c = by_parts task top roots shelf names sources found o e c
 
     first_none : (shelf : Shelf) (n : List ℕ) → shelf n ≡ None → first_part shelf n ≡ None
     first_none shelf n e = ap (option_map (take 1048577)) e
 
     lacking : (shelf : Shelf) (n : List ℕ) → (first_part shelf n ≡ None → join_of (first_part shelf) fixed_names roots ≡ (names, sources, Err (join.Absent n))) → shelf n ≡ None
-        → RootsCome task top roots shelf (absent n)
+        → RootsOutcome task top roots shelf (absent n)
     lacking shelf n says e = found_come shelf (Err (join.Absent n)) (absent n) (says (first_none shelf n e)) refl
 
   pub unjoined_faulty : (held : Option Shelf) (m m' f f' : ℕ) (j : Joined) (s : Stopped) → Said roots names sources (Ok j) → ToldAll held sources → Somewhere sources (Ok j) → IsFaulty sources j s
       → IsUnjoined roots held m m' f f' s
   unjoined_faulty held m m' f f' j (stopped.Refused code spot other) says told some h = λ task top.
-      let at : (shelf : Shelf) → HoldsAll (first_part shelf) sources → RootsCome task top roots shelf (refusal code (spot_of sources h.0)) =
+      let at : (shelf : Shelf) → HoldsAll (first_part shelf) sources → RootsOutcome task top roots shelf (refusal code (spot_of sources h.0)) =
       λ shelf holds. found_come task top shelf (Ok j) (refusal code (spot_of sources h.0)) (says (first_part shelf) holds) (faulty code h.0 h.1) in
       ((some.0, (refusal code (spot_of sources h.0), at some.0 some.1, (refl, h.2, h.3))), λ shelf e. (refusal code (spot_of sources h.0), at shelf (told shelf e), (refl, h.2, h.3)))
   unjoined_faulty held m m' f f' j stopped.NoMemory says told some h = λ task top. tt
@@ -125,7 +126,7 @@ module _ (roots : List (List ℕ)) (names : List (List ℕ)) (sources : List Sou
   pub unjoined_refused : (held : Option Shelf) (m m' f f' : ℕ) (x : Refusal) (s : Stopped) → Said roots names sources (Err (fault.Stop (stop.Refused x))) → ToldAll held sources
       → Somewhere sources (Err (fault.Stop (stop.Refused x))) → Stops sources x.place x.code s → IsUnjoined roots held m m' f f' s
   unjoined_refused held m m' f f' x (stopped.Refused code spot other) says told some h = λ task top.
-      let at : (shelf : Shelf) → HoldsAll (first_part shelf) sources → RootsCome task top roots shelf (refusal x.code (spot_of sources x.place)) =
+      let at : (shelf : Shelf) → HoldsAll (first_part shelf) sources → RootsOutcome task top roots shelf (refusal x.code (spot_of sources x.place)) =
       λ shelf holds. found_come task top shelf (Err (join.Refuses x.code x.place)) (refusal x.code (spot_of sources x.place)) (says (first_part shelf) holds).0 refl in
       ((some.0, (refusal x.code (spot_of sources x.place), at some.0 some.1, h)), λ shelf e. (refusal x.code (spot_of sources x.place), at shelf (told shelf e), h))
   unjoined_refused held m m' f f' x stopped.NoMemory says told some h = λ task top. tt
@@ -136,14 +137,14 @@ module _ (roots : List (List ℕ)) (names : List (List ℕ)) (sources : List Sou
   pub unjoined_missing : (held : Option Shelf) (m m' f f' : ℕ) (n : List ℕ) → Said roots names sources (Err (fault.Missing n)) → ToldAll held sources
       → Somewhere sources (Err (fault.Missing n)) → Rose m m' → Told held (λ shelf. shelf n ≡ None) → IsUnjoined roots held m m' f f' (stopped.Missing n)
   unjoined_missing held m m' f f' n says told some rose lacks = λ task top.
-      let at : (shelf : Shelf) → HoldsAll (first_part shelf) sources → shelf n ≡ None → RootsCome task top roots shelf (absent n) =
+      let at : (shelf : Shelf) → HoldsAll (first_part shelf) sources → shelf n ≡ None → RootsOutcome task top roots shelf (absent n) =
       λ shelf holds e. lacking task top shelf n (says (first_part shelf) holds) e in
       (rose, (some.0, (absent n, at some.0 some.1 some.2, refl)), λ shelf e. (absent n, at shelf (told shelf e) (lacks shelf e), refl), lacks)
 
   pub unjoined_failed : (held : Option Shelf) (m m' f f' : ℕ) (n : List ℕ) → Said roots names sources (Err (fault.Failed n)) → ToldAll held sources
       → Somewhere sources (Err (fault.Failed n)) → Rose f f' → IsUnjoined roots held m m' f f' (stopped.Failed n)
   unjoined_failed held m m' f f' n says told some rose = λ task top.
-      let at : (shelf : Shelf) → HoldsAll (first_part shelf) sources → shelf n ≡ None → RootsCome task top roots shelf (absent n) =
+      let at : (shelf : Shelf) → HoldsAll (first_part shelf) sources → shelf n ≡ None → RootsOutcome task top roots shelf (absent n) =
       λ shelf holds e. lacking task top shelf n (says (first_part shelf) holds) e in (
         rose,
         (some.0, (absent n, at some.0 some.1 some.2, refl)),

@@ -3,6 +3,7 @@ pub mod Saying
 pub mod OneVerdict
 pub mod Asking
 pub mod Without
+pub mod Derived
 pub mod Joined
 pub mod Wider
 pub mod Compiled

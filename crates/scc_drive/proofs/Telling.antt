@@ -9,7 +9,7 @@ use Rattle.scc_drive.specs.declared.spots.Spot.{Spot}
 use Rattle.scc_drive.specs.declared.stopped.Stopped.{Stopped}
 use Rattle.scc_drive.specs.declared.stopped.Stopped.TheVariants.{BadWords, Refused, Missing, Failed, NoMemory}
 use Rattle.scc_drive.specs.Answer.{Answers, AnswersBy, ComesFor, Tells, IsDone, IsRefused, IsMissing, HasFailed, IsCutShort, Ends, stopped_text}
-use Rattle.scc_drive.specs.Comes.{Comes}
+use Rattle.scc_drive.specs.CommandOutcome.{CommandOutcome}
 use Rattle.scc_drive.specs.Outcome.{Outcome, bad, refusal, absent, compiles, runs, writes, generated, wider, Task, compiling, forming, listing, simulating, tracing, Kind, kind_of, EndsAs, WritesBy, RefusesBy, MissesBy}
 use Rattle.scc_drive.specs.Said.{Said, SaysFaults, SaysPart}
 use Rattle.scc_drive.specs.Words.{are_words, command_by, word_at}
@@ -153,7 +153,7 @@ module _ (words : List (String Global)) (held : Option Shelf) (m m' f f' : ℕ) 
     absent_of NoMemory a (inl p) three = absurd (let q : 4 ≡ 3 = sym p ∙ three in cc)
     absent_of NoMemory a (inr p) three = absurd (let q : 5 ≡ 3 = sym p.0 ∙ three in cc)
 
-    ends_as : (shelf : Shelf) (o o' : Outcome) → Comes shelf words o → Comes shelf words o' → EndsAs (kind_of o) f f' result → EndsAs (kind_of o') f f' result
+    ends_as : (shelf : Shelf) (o o' : Outcome) → CommandOutcome shelf words o → CommandOutcome shelf words o' → EndsAs (kind_of o) f f' result → EndsAs (kind_of o') f f' result
     ends_as shelf o o' c c' q = subst (λ k. EndsAs k f f' result) (one_kind shelf words o o' c c') q
 
     ends_of : (s : Stopped) → AnswerOf (Err s) → Tells s old new e e' result → (shelf : Shelf) → held ≡ Some shelf → Ends shelf words f f' result

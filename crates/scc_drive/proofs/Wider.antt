@@ -13,8 +13,8 @@ use Rattle.scc_drive.specs.Outcome.{Task, simulating, tracing, Outcome, wider, W
 use Rattle.scc_drive.specs.Spots.{spot_in, first_spot, moved, IsSpotOf}
 use Rattle.scc_drive.specs.declared.joining.Read.{Read}
 use Rattle.scc_drive.specs.Answer.{AnswersBy, Asks, Writes, Refuses, Misses}
-use Rattle.scc_drive.specs.Comes.{RootsCome}
-use Rattle.scc_drive.specs.Stages.{Gives, Asking, Asked, IsJoined, IsOfStimulus, ReadComes}
+use Rattle.scc_drive.specs.CommandOutcome.{RootsOutcome}
+use Rattle.scc_drive.specs.Stages.{Gives, Asking, Asked, IsJoined, IsOfStimulus, ReadOutcome}
 use Rattle.scc_drive.specs.Stops.{RefusesLater, RefusesStimulus, IsLater, is_of_stimulus}
 use Rattle.scc_drive.proofs.Joined.{joined_asking}
 
@@ -125,9 +125,9 @@ answers_since C top held held' m0 m m' f0 f f' (Err (stopped.Missing n)) same p 
 answers_since C top held held' m0 m m' f0 f f' (Err (stopped.Failed n)) same p q a = (rose_later f0 f f' q a.0, a.1, subst (λ h. Told h (Asks C n)) same a.2)
 
 pub simulated_by : (roots : List (List ℕ)) (held held' : Option Shelf) (read : Read) (many : Bool) (stim stim' top top' : List ℕ) (m0 m m' f0 f f' : ℕ) (r : Result (List ℕ) Stopped)
-    → IsJoined roots held read → held' ≡ held → m0 ≤ m → f0 ≤ f → stim' ≡ stim → top' ≡ top → Asking (ReadComes (simulating many stim') top' read) top' held' m m' f f' r
-    → AnswersBy (RootsCome (simulating many stim) top roots) top held m0 m' f0 f' r
+    → IsJoined roots held read → held' ≡ held → m0 ≤ m → f0 ≤ f → stim' ≡ stim → top' ≡ top → Asking (ReadOutcome (simulating many stim') top' read) top' held' m m' f f' r
+    → AnswersBy (RootsOutcome (simulating many stim) top roots) top held m0 m' f0 f' r
 simulated_by roots held held' read many stim stim' top top' m0 m m' f0 f f' r joined same p q e d a =
     joined_asking roots held read joined (simulating many stim) top m0 m' f0 f' r
-    (asking_since (ReadComes (simulating many stim) top read) top held held' m0 m m' f0 f f' r same p q
-    (subst (λ t. Asking (ReadComes (simulating many stim) t read) t held' m m' f f' r) d (subst (λ s. Asking (ReadComes (simulating many s) top' read) top' held' m m' f f' r) e a)))
+    (asking_since (ReadOutcome (simulating many stim) top read) top held held' m0 m m' f0 f f' r same p q
+    (subst (λ t. Asking (ReadOutcome (simulating many stim) t read) t held' m m' f f' r) d (subst (λ s. Asking (ReadOutcome (simulating many s) top' read) top' held' m m' f f' r) e a)))

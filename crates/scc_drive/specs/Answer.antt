@@ -7,7 +7,7 @@ use Rattle.scc_base.specs.declared.code.Code.{Code}
 use Rattle.scc_drive.specs.declared.spots.Spot.{Spot}
 use Rattle.scc_drive.specs.declared.stopped.Stopped.{Stopped}
 use Rattle.scc_drive.specs.declared.stopped.Stopped.TheVariants as stopped
-use Rattle.scc_drive.specs.Comes.{Comes}
+use Rattle.scc_drive.specs.CommandOutcome.{CommandOutcome}
 use Rattle.scc_drive.specs.Outcome.{Outcome, WritesBy, RefusesBy, MissesBy, EndsBy}
 use Rattle.scc_drive.specs.Said.{Said, SaysPart, SaysFaults}
 use Rattle.scc_drive.specs.Texts.{refusal_text, words_text, missing_text, failed_text}
@@ -49,7 +49,7 @@ AnswersBy C top held m m' f f' (Err stopped.NoMemory) = Unit {0}
 
 -- what a command comes to
 abbrev pub ComesFor : List (String Global) → Shelf → Outcome → Type 0
-ComesFor words shelf outcome = Comes shelf words outcome
+ComesFor words shelf outcome = CommandOutcome shelf words outcome
 
 -- what a command answers over files
 abbrev pub Answers : List (String Global) → Option Shelf → (misses misses' faults faults' : ℕ) → Result (List ℕ) Stopped → Type 0
@@ -122,4 +122,4 @@ pub record IsCutShort (words : List (String Global)) (held : Option Shelf) (m m'
 
 -- the status, by whatever the command comes to
 abbrev pub Ends : Shelf → List (String Global) → (faults faults' status : ℕ) → Type 0
-Ends shelf words f f' status = (outcome : Outcome) → Comes shelf words outcome → EndsBy outcome f f' status
+Ends shelf words f f' status = (outcome : Outcome) → CommandOutcome shelf words outcome → EndsBy outcome f f' status

@@ -4,7 +4,7 @@ use Rattle.std.specs.declared.alloc.Global.{Global}
 use Rattle.scc_base.specs.Outside.{Shelf}
 use Rattle.scc_words.specs.declared.command.Command.{Command}
 use Rattle.scc_words.specs.declared.command.Command.TheVariants as command
-use Rattle.scc_drive.specs.Comes.{Comes}
+use Rattle.scc_drive.specs.CommandOutcome.{CommandOutcome}
 use Rattle.scc_drive.specs.Outcome.{Outcome, bad, refusal, absent, compiles, runs, writes, generated, wider}
 use Rattle.scc_drive.specs.Words.{command_by}
 
@@ -33,4 +33,4 @@ AreOne (Some (command.Gen stages source)) o o' = o ≡ o'
 
 -- what a command comes to, where the names hold this, is one
 abbrev pub OneOutcome : Type 0
-OneOutcome = (shelf : Shelf) (words : List (String Global)) (o o' : Outcome) → Comes shelf words o → Comes shelf words o' → AreOne (command_by words) o o'
+OneOutcome = (shelf : Shelf) (words : List (String Global)) (o o' : Outcome) → CommandOutcome shelf words o → CommandOutcome shelf words o' → AreOne (command_by words) o o'

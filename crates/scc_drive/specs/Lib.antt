@@ -4,7 +4,7 @@ pub mod Spots
 pub mod Said
 pub mod Stops
 pub mod Outcome
-pub mod Comes
+pub mod CommandOutcome
 pub mod Answer
 pub mod MainTheorem
 pub mod Stages

@@ -11,7 +11,7 @@ use Rattle.scc_svtree.specs.declared.module.SvModule.{SvModule}
 use Rattle.scc_svtext.specs.Emitted.{SvReads}
 use Rattle.scc_thin.specs.declared.design.Design.{Design}
 use Rattle.scc_thinmodule.specs.Source.{source_of, text_of}
-use Rattle.scc_drive.specs.Comes.{Comes}
+use Rattle.scc_drive.specs.CommandOutcome.{CommandOutcome}
 use Rattle.scc_drive.specs.Outcome.{compiles}
 
 -- A design was compiled: `top` is the name of its top, `name` the name that emitted text has for a location, `own` the names that threads' states and counters
@@ -32,4 +32,4 @@ pub record IsCompiled (top : List ℕ) (name : Location → List ℕ) (own : Lis
 -- If the files that the words name come to a design, the output is its module. Today such a design is that of a thin text: it has neither clock nor register, so
 -- there are no names of threads and no locations that are kept, every start is alike every valuation, and no reset is asked for.
 abbrev pub MainTheorem : Shelf → List (String Global) → (old new : Option (List ℕ)) → Type 0
-MainTheorem shelf words old new = (d : Design) → Comes shelf words (compiles d) → IsCompiled d.top (text_of d) (λ n. false) (λ l. false) (source_of d) old new
+MainTheorem shelf words old new = (d : Design) → CommandOutcome shelf words (compiles d) → IsCompiled d.top (text_of d) (λ n. false) (λ l. false) (source_of d) old new

@@ -12,7 +12,7 @@ use Rattle.scc_drive.specs.declared.joining.Read.{Read}
 use Rattle.scc_drive.specs.declared.stopped.Stopped.{Stopped}
 use Rattle.scc_drive.specs.declared.stopped.Stopped.TheVariants as stopped
 use Rattle.scc_drive.specs.Answer.{AnswersBy}
-use Rattle.scc_drive.specs.Comes.{JoinedComes, RootsCome, TextComes}
+use Rattle.scc_drive.specs.CommandOutcome.{JoinedOutcome, RootsOutcome, TextOutcome}
 use Rattle.scc_drive.specs.Outcome.{Task, Outcome, refusal, WritesBy, RefusesBy, MissesBy}
 use Rattle.scc_drive.specs.Spots.{first_spot}
 use Rattle.scc_drive.specs.Stops.{RefusesStimulus}
@@ -27,7 +27,7 @@ pub record IsJoined (roots : List (List ℕ)) (held : Option Shelf) (read : Read
 
 -- files are not joined, or are no file of the grammar, whatever they are for
 abbrev pub IsUnjoined : List (List ℕ) → Option Shelf → (misses misses' faults faults' : ℕ) → Stopped → Type 0
-IsUnjoined roots held m m' f f' s = (task : Task) (top : List ℕ) → AnswersBy (RootsCome task top roots) top held m m' f f' (Err s)
+IsUnjoined roots held m m' f f' s = (task : Task) (top : List ℕ) → AnswersBy (RootsOutcome task top roots) top held m m' f f' (Err s)
 
 -- what is answered where joined files come to what C says, and no file is asked for
 abbrev pub Gives : (Outcome → Type 0) → List ℕ → Result (List ℕ) Stopped → Type 0
@@ -45,8 +45,8 @@ Asking C top held m m' f f' (Err (stopped.Failed name)) = Rose f f' × ((outcome
 Asking C top held m m' f f' r = Gives C top r
 
 -- what the files were read for comes to
-abbrev pub ReadComes : Task → List ℕ → Read → Outcome → Type 0
-ReadComes task top read = JoinedComes task top read.names read.sources read.joined
+abbrev pub ReadOutcome : Task → List ℕ → Read → Outcome → Type 0
+ReadOutcome task top read = JoinedOutcome task top read.names read.sources read.joined
 
 -- these bytes are in a file of this name
 abbrev pub IsHeld : Option Shelf → List ℕ → List ℕ → Type 0
@@ -74,7 +74,7 @@ Asked name held m m' f f' (Err stopped.BadWords) = ⊥
 -- Why a text is not that of a module of this name, whatever the stimulus holds.
 abbrev pub IsNoModule : List ℕ → Source → Stopped → Type 0
 IsNoModule top text (stopped.Refused code spot other) =
-    ((stim : List ℕ) (given : Option (List ℕ)) → TextComes top text stim given (refusal code spot)) × (other ≡ None)
+    ((stim : List ℕ) (given : Option (List ℕ)) → TextOutcome top text stim given (refusal code spot)) × (other ≡ None)
 IsNoModule top text stopped.NoMemory = Unit {0}
 IsNoModule top text stopped.BadWords = ⊥
 IsNoModule top text (stopped.Missing n) = ⊥

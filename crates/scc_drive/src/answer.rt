@@ -1,7 +1,7 @@
 //! What a command answers over files.
 ghost use Rattle.std.specs.Prelude.{length};
 ghost use Rattle.scc_drive.specs.Answer.{Answers, AnswersBy};
-ghost use Rattle.scc_drive.specs.Comes.{CommandComes};
+ghost use Rattle.scc_drive.specs.CommandOutcome.{CommandOutcomeBy};
 ghost use Rattle.scc_drive.specs.Words.{Within, word_at};
 
 use crate::compile::compiled;
@@ -33,7 +33,7 @@ fn done<F: Files>(
     files: &mut F,
 ) -> Result<Text, Stopped>
     requires { Within command (length words.now) }
-    ensures answers { AnswersBy (CommandComes command words.now) (word_at words.now 1) (F.held files.old) (F.misses files.old) (F.misses files.new) (F.faults files.old) (F.faults files.new) result }
+    ensures answers { AnswersBy (CommandOutcomeBy command words.now) (word_at words.now 1) (F.held files.old) (F.misses files.old) (F.misses files.new) (F.faults files.old) (F.faults files.new) result }
 {
     match command {
         Command::Compile { files: count, form } => compiled(alloc, words, count, form, files),

@@ -4,10 +4,10 @@ ghost use Rattle.scc_stages.specs.Emitted.{IsEmitted};
 ghost use Rattle.scc_thinmodule.specs.Identifiers.{AreIdentifiers};
 ghost use Rattle.scc_syntax.specs.Claim.{IsReadFile};
 ghost use Rattle.scc_drive.specs.Answer.{AnswersBy};
-ghost use Rattle.scc_drive.specs.Comes as comes;
-ghost use Rattle.scc_drive.specs.Comes.{RootsCome, task_of};
+ghost use Rattle.scc_drive.specs.CommandOutcome as outcome;
+ghost use Rattle.scc_drive.specs.CommandOutcome.{RootsOutcome, task_of};
 ghost use Rattle.scc_drive.specs.Outcome.{compiling, forming};
-ghost use Rattle.scc_drive.specs.Stages.{Gives, ReadComes};
+ghost use Rattle.scc_drive.specs.Stages.{Gives, ReadOutcome};
 ghost use Rattle.scc_drive.specs.Stops.{IsLater};
 ghost use Rattle.scc_drive.specs.Words.{word_at, roots_of};
 
@@ -34,7 +34,7 @@ pub fn compiled<F: Files>(
     requires some { 0 < count }
     requires few { count ≤ 64 }
     requires within { count + 2 ≤ length words.now }
-    ensures { AnswersBy (RootsCome (task_of form) (word_at words.now 1) (roots_of words.now count)) (word_at words.now 1) (F.held files.old) (F.misses files.old) (F.misses files.new) (F.faults files.old) (F.faults files.new) result }
+    ensures { AnswersBy (RootsOutcome (task_of form) (word_at words.now 1) (roots_of words.now count)) (word_at words.now 1) (F.held files.old) (F.misses files.old) (F.misses files.new) (F.faults files.old) (F.faults files.new) result }
 {
     let read = read_files(alloc, words, count, files)?;
     formed(alloc, word(words, 1).as_bytes(), &read, form)
@@ -43,7 +43,7 @@ pub fn compiled<F: Files>(
 fn formed(alloc: Global, top: &[u8], read: &Read, form: Form) -> Result<Text, Stopped>
     requires read { IsReadFile read.now.joined read.now.tree }
     requires identifiers { AreIdentifiers read.now.names }
-    ensures { Gives (ReadComes (task_of form) top.now read.now) top.now result }
+    ensures { Gives (ReadOutcome (task_of form) top.now read.now) top.now result }
 {
     match form_of(form) {
         Some(form) => in_form(alloc, top, read, form),
@@ -52,7 +52,7 @@ fn formed(alloc: Global, top: &[u8], read: &Read, form: Form) -> Result<Text, St
 }
 
 fn form_of(form: Form) -> Option<TextForm>
-    ensures { result ≡ comes.form_of form }
+    ensures { result ≡ outcome.form_of form }
 {
     match form {
         Form::Whole => None,
@@ -64,7 +64,7 @@ fn form_of(form: Form) -> Option<TextForm>
 
 fn in_form(alloc: Global, top: &[u8], read: &Read, form: TextForm) -> Result<Text, Stopped>
     requires { IsReadFile read.now.joined read.now.tree }
-    ensures { Gives (ReadComes (forming form) top.now read.now) top.now result }
+    ensures { Gives (ReadOutcome (forming form) top.now read.now) top.now result }
 {
     let front = front_at(alloc, top, read, has_clocks(form))?;
     match form_text(alloc, &read.names, top, front, form) {
@@ -77,7 +77,7 @@ fn in_form(alloc: Global, top: &[u8], read: &Read, form: TextForm) -> Result<Tex
 fn whole(alloc: Global, top: &[u8], read: &Read) -> Result<Text, Stopped>
     requires read { IsReadFile read.now.joined read.now.tree }
     requires identifiers { AreIdentifiers read.now.names }
-    ensures { Gives (ReadComes compiling top.now read.now) top.now result }
+    ensures { Gives (ReadOutcome compiling top.now read.now) top.now result }
 {
     match read_design(alloc, top, &read.names, read.joined.tokens.as_slice()) {
         Ok(design) => printed(alloc, &design),

@@ -1,6 +1,6 @@
 //! `gen`: generated designs.
 ghost use Rattle.std.specs.Prelude.{◌≡◌, ℕ, List};
-ghost use Rattle.scc_drive.specs.Comes.{GeneratedComes};
+ghost use Rattle.scc_drive.specs.CommandOutcome.{GeneratedOutcome};
 ghost use Rattle.scc_drive.specs.Stages.{Gives};
 
 use crate::stopped::Stopped;
@@ -11,7 +11,7 @@ use std::alloc::Global;
 
 /// The source of the generated design of so many stages, or its line.
 pub fn generated(alloc: Global, stages: u32, source: bool) -> Result<Text, Stopped>
-    ensures { (top : List ℕ) → Gives (GeneratedComes stages source) top result }
+    ensures { (top : List ℕ) → Gives (GeneratedOutcome stages source) top result }
 {
     if source {
         Ok(generate(alloc, stages)?)

@@ -1,7 +1,7 @@
 //! Files that are joined and read by the grammar.
 ghost use Rattle.std.specs.Prelude.{◌≡◌, ◌≤◌, ◌<◌, ◌+◌, length, IfOk, IfErr};
 ghost use Rattle.scc_syntax.specs.Claim.{IsReadFile, IsFault};
-ghost use Rattle.scc_drive.specs.Comes.{JoinedComes};
+ghost use Rattle.scc_drive.specs.CommandOutcome.{JoinedOutcome};
 ghost use Rattle.scc_drive.specs.Stages.{IsJoined, IsUnjoined};
 ghost use Rattle.scc_drive.specs.Stops.{Stops, StoppedBy, IsFaulty};
 ghost use Rattle.scc_drive.specs.Words.{roots_of};

@@ -2,10 +2,10 @@
 ghost use Rattle.std.specs.Prelude.{◌≡◌, ◌≤◌, ◌<◌, ◌+◌, length, IfErr};
 ghost use Rattle.scc_syntax.specs.Claim.{IsReadFile};
 ghost use Rattle.scc_drive.specs.Answer.{AnswersBy};
-ghost use Rattle.scc_drive.specs.Comes as comes;
-ghost use Rattle.scc_drive.specs.Comes.{RootsCome};
+ghost use Rattle.scc_drive.specs.CommandOutcome as outcome;
+ghost use Rattle.scc_drive.specs.CommandOutcome.{RootsOutcome};
 ghost use Rattle.scc_drive.specs.Outcome.{listing, simulating};
-ghost use Rattle.scc_drive.specs.Stages.{Gives, Asking, ReadComes, IsOfStimulus};
+ghost use Rattle.scc_drive.specs.Stages.{Gives, Asking, ReadOutcome, IsOfStimulus};
 ghost use Rattle.scc_drive.specs.Words.{word_at, roots_of};
 
 use crate::files::{ask, refused_stimulus};
@@ -31,7 +31,7 @@ pub fn listed<F: Files>(
     requires some { 0 < count }
     requires few { count ≤ 64 }
     requires within { count + 2 ≤ length words.now }
-    ensures { AnswersBy (RootsCome listing (word_at words.now 1) (roots_of words.now count)) (word_at words.now 1) (F.held files.old) (F.misses files.old) (F.misses files.new) (F.faults files.old) (F.faults files.new) result }
+    ensures { AnswersBy (RootsOutcome listing (word_at words.now 1) (roots_of words.now count)) (word_at words.now 1) (F.held files.old) (F.misses files.old) (F.misses files.new) (F.faults files.old) (F.faults files.new) result }
 {
     let read = read_files(alloc, words, count, files)?;
     list_of(alloc, word(words, 1).as_bytes(), &read)
@@ -39,7 +39,7 @@ pub fn listed<F: Files>(
 
 fn list_of(alloc: Global, top: &[u8], read: &Read) -> Result<Text, Stopped>
     requires { IsReadFile read.now.joined read.now.tree }
-    ensures { Gives (ReadComes listing top.now read.now) top.now result }
+    ensures { Gives (ReadOutcome listing top.now read.now) top.now result }
 {
     let front = front_at(alloc, top, read, false)?;
     match commands::listed(alloc, &read.names, &front) {
@@ -58,7 +58,7 @@ fn way_of(way: SimWay) -> Way {
 }
 
 fn has_clocks(way: SimWay) -> bool
-    ensures { result ≡ comes.has_clocks way }
+    ensures { result ≡ outcome.has_clocks way }
 {
     match way {
         SimWay::Whole => false,
@@ -81,7 +81,7 @@ pub fn simulated<F: Files>(
     requires some { 0 < count }
     requires few { count ≤ 64 }
     requires within { count + 2 ≤ length words.now }
-    ensures { AnswersBy (RootsCome (simulating (comes.has_clocks way) (word_at words.now stim)) (word_at words.now 1) (roots_of words.now count)) (word_at words.now 1) (F.held files.old) (F.misses files.old) (F.misses files.new) (F.faults files.old) (F.faults files.new) result }
+    ensures { AnswersBy (RootsOutcome (simulating (outcome.has_clocks way) (word_at words.now stim)) (word_at words.now 1) (roots_of words.now count)) (word_at words.now 1) (F.held files.old) (F.misses files.old) (F.misses files.new) (F.faults files.old) (F.faults files.new) result }
 {
     let read = read_files(alloc, words, count, files)?;
     let top = word(words, 1).as_bytes();
@@ -97,7 +97,7 @@ fn run_on<F: Files>(
     files: &mut F,
 ) -> Result<Text, Stopped>
     requires { IsReadFile read.now.joined read.now.tree }
-    ensures { Asking (ReadComes (simulating (comes.has_clocks way) name.now) top.now read.now) top.now (F.held files.old) (F.misses files.old) (F.misses files.new) (F.faults files.old) (F.faults files.new) result }
+    ensures { Asking (ReadOutcome (simulating (outcome.has_clocks way) name.now) top.now read.now) top.now (F.held files.old) (F.misses files.old) (F.misses files.new) (F.faults files.old) (F.faults files.new) result }
 {
     let front = front_at(alloc, top, read, has_clocks(way))?;
     let stimulus = ask(alloc, files, name)?;

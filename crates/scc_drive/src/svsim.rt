@@ -5,8 +5,8 @@ ghost use Rattle.scc_formsim.specs.Forms.{CanRun};
 ghost use Rattle.scc_svread.specs.Read.{ReadAs};
 ghost use Rattle.scc_drive.specs.declared.stopped.Stopped.TheVariants as stopped;
 ghost use Rattle.scc_drive.specs.Answer.{AnswersBy};
-ghost use Rattle.scc_drive.specs.Comes as comes;
-ghost use Rattle.scc_drive.specs.Comes.{TextsCome, outcome_of_stimulus};
+ghost use Rattle.scc_drive.specs.CommandOutcome as outcome;
+ghost use Rattle.scc_drive.specs.CommandOutcome.{TextsOutcome, outcome_of_stimulus};
 ghost use Rattle.scc_drive.specs.Spots as spots;
 ghost use Rattle.scc_drive.specs.Stages.{Asked, Gives, IsHeld, IsNoModule, IsOfStimulus};
 ghost use Rattle.scc_drive.specs.Stops.{IsOfText, StopsAt, StoppedIn};
@@ -34,7 +34,7 @@ pub fn svsim<F: Files>(
     form: SvForm,
     files: &mut F,
 ) -> Result<Text, Stopped>
-    ensures { AnswersBy (TextsCome (comes.is_plain form) (word_at words.now 1) (word_at words.now 2) (word_at words.now stim)) (word_at words.now 1) (F.held files.old) (F.misses files.old) (F.misses files.new) (F.faults files.old) (F.faults files.new) result }
+    ensures { AnswersBy (TextsOutcome (outcome.is_plain form) (word_at words.now 1) (word_at words.now 2) (word_at words.now stim)) (word_at words.now 1) (F.held files.old) (F.misses files.old) (F.misses files.new) (F.faults files.old) (F.faults files.new) result }
 {
     let text = ask(alloc, files, word(words, 2))?;
     let top = word(words, 1).as_bytes();
@@ -47,7 +47,7 @@ pub fn svsim<F: Files>(
 }
 
 fn is_plain(form: SvForm) -> bool
-    ensures { result ≡ comes.is_plain form }
+    ensures { result ≡ outcome.is_plain form }
 {
     match form {
         SvForm::Whole => true,
@@ -74,7 +74,7 @@ fn on_text<F: Files>(
 ) -> Result<Text, Stopped>
     requires short { length text.now.bytes ≤ 1048576 }
     requires held { IsHeld (F.held files.old) text.now.name text.now.bytes }
-    ensures answers { AnswersBy (TextsCome true top.now text.now.name name.now) top.now (F.held files.old) (F.misses files.old) (F.misses files.new) (F.faults files.old) (F.faults files.new) result }
+    ensures answers { AnswersBy (TextsOutcome true top.now text.now.name name.now) top.now (F.held files.old) (F.misses files.old) (F.misses files.new) (F.faults files.old) (F.faults files.new) result }
     ensures no_fewer_misses { F.misses files.old ≤ F.misses files.new }
     ensures no_fewer_faults { F.faults files.old ≤ F.faults files.new }
 {
@@ -147,7 +147,7 @@ fn on_form<F: Files>(
 ) -> Result<Text, Stopped>
     requires short { length text.now.bytes ≤ 1048576 }
     requires held { IsHeld (F.held files.old) text.now.name text.now.bytes }
-    ensures { AnswersBy (TextsCome false top.now text.now.name name.now) top.now (F.held files.old) (F.misses files.old) (F.misses files.new) (F.faults files.old) (F.faults files.new) result }
+    ensures { AnswersBy (TextsOutcome false top.now text.now.name name.now) top.now (F.held files.old) (F.misses files.old) (F.misses files.new) (F.faults files.old) (F.faults files.new) result }
 {
     let module = module_in_form(alloc, top, text, many)?;
     let stimulus = stimulus_of(alloc, name, text, files)?;

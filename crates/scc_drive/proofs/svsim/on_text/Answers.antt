@@ -1,6 +1,6 @@
 use Rattle.std.proofs.Common.{◌≡◌, subst, false}
 use Rattle.std.proofs.lemmas.Result.{err_from_is_err_and}
-use Rattle.scc_drive.specs.Comes.{outcome_of_stimulus}
+use Rattle.scc_drive.specs.CommandOutcome.{outcome_of_stimulus}
 use Rattle.scc_drive.specs.Stages.{Gives}
 use Rattle.scc_drive.proofs.Emitting.{text_stops, stimulus_unasked, stimulus_given}
 use Rattle.scc_drive.proofs.svsim.on_text.Goals as goal
