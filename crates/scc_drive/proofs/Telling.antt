@@ -9,7 +9,7 @@ use Rattle.scc_drive.specs.declared.spots.Spot.{Spot}
 use Rattle.scc_drive.specs.declared.stopped.Stopped.{Stopped}
 use Rattle.scc_drive.specs.declared.stopped.Stopped.TheVariants.{BadWords, Refused, Missing, Failed, NoMemory}
 use Rattle.scc_drive.specs.Answer.{Answers, AnswersBy, ComesFor, Tells, IsDone, IsRefused, IsMissing, HasFailed, IsCutShort, Ends, stopped_text}
-use Rattle.scc_drive.specs.CommandOutcome.{CommandOutcome}
+use Rattle.scc_drive.specs.CommandOutcome.{CommandOutcome, JoinedOutcome, WordsOutcome, joined, outcome_of_design, reads}
 use Rattle.scc_drive.specs.Outcome.{Outcome, bad, refusal, absent, compiles, runs, writes, generated, wider, Task, compiling, forming, listing, simulating, tracing, Kind, kind_of, EndsAs, WritesBy, RefusesBy, MissesBy}
 use Rattle.scc_drive.specs.Said.{Said, SaysFaults, SaysPart}
 use Rattle.scc_drive.specs.Words.{are_words, command_by, word_at}
@@ -17,7 +17,8 @@ use Rattle.scc_thin.specs.declared.design.Design.{Design}
 use Rattle.scc_words.specs.declared.command.Command.{Command}
 use Rattle.scc_words.specs.declared.command.Command.TheVariants as command
 use Rattle.scc_drive.specs.Laws.{AreOne}
-use Rattle.scc_drive.specs.MainTheorem.{MainTheorem}
+use Rattle.scc_drive.specs.MainTheorem.{IsDesign, IsRead, MainTheorem}
+use Rattle.scc_tree.specs.declared.item.FileTree.{FileTree}
 use Rattle.scc_drive.proofs.OneKind.{of_bad, one_kind, one_outcome, asks_alike}
 
 -- a status that is not 4 or 5 is the one whose text was said
@@ -196,9 +197,18 @@ module _ (words : List (String Global)) (held : Option Shelf) (m m' f f' : ℕ) 
   the_design d (Some (command.List count)) o e = e
   the_design d (Some (command.Gen stages source)) o e = e
 
+  -- a design that a tree has is the outcome
+  design_outcome : (shelf : Shelf) (tree : FileTree) (read : IsRead shelf words tree) (d : Design) → IsDesign read (word_at words 1) d → CommandOutcome shelf words (compiles d)
+  unfolding CommandOutcome
+  design_outcome shelf tree read d e =
+      let found : JoinedOutcome compiling (word_at words 1) read.names read.sources read.joined (compiles d) =
+      subst (JoinedOutcome compiling (word_at words 1) read.names read.sources read.joined) (ap (outcome_of_design read.sources) e) (reads tree read.reads) in
+      subst (λ c. WordsOutcome c words shelf (compiles d)) (sym read.asked) (joined read.names read.sources read.joined (compiles d) read.joins found)
+
   pub is_theorem : (text bytes : List ℕ) (old new : Option (List ℕ)) → Answers words held m m' f f' (Ok text) → bytes ≡ text → Appends old new bytes → (shelf : Shelf) → held ≡ Some shelf
       → MainTheorem shelf words old new
-  is_theorem text bytes old new a same w shelf h d c =
+  is_theorem text bytes old new a same w shelf h tree read d e =
+      let c = design_outcome shelf tree read d e in
       let q = (answer_of (Ok text) a).1 shelf h in
       let p = subst (λ o. WritesBy (word_at words 1) o text) (the_design d (command_by words) q.0 (one_outcome shelf words q.0 (compiles d) q.1 c)) q.2 in
       record { text = text; written = subst (Appends old new) same w; emitted = p.emitted; reads = p.reads; matches = p.matches.whole; shows = p.shows }

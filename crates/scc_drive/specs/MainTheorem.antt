@@ -1,5 +1,5 @@
 -- The main theorem. Each definition is reached from here by the name of its crate and file; docs/DEFINITIONS.md walks through them.
-use Rattle.std.specs.Prelude.{ℕ, List, Bool, false, String, Option}
+use Rattle.std.specs.Prelude.{◌≡◌, ℕ, List, Bool, false, String, Option, Some}
 use Rattle.std.specs.declared.alloc.Global.{Global}
 use Rattle.std.specs.Io.KnownBytes.{Appends}
 use Rattle.scc_base.specs.Outside.{Shelf}
@@ -9,10 +9,19 @@ use Rattle.scc_meaning_text.specs.Matches.{Matches}
 use Rattle.scc_meaning_text.specs.Emitted.{ModuleShows}
 use Rattle.scc_svtree.specs.declared.module.SvModule.{SvModule}
 use Rattle.scc_svtext.specs.Emitted.{SvReads}
+use Rattle.scc_base.specs.Names.{fixed_names}
+use Rattle.scc_directives.specs.declared.file.Source.{Source}
+use Rattle.scc_tokens.specs.declared.joining.Joined.{Joined}
+use Rattle.scc_tokens.specs.Files.{first_part}
+use Rattle.scc_joined.specs.Joined.{JoinsTo}
+use Rattle.scc_tree.specs.declared.item.FileTree.{FileTree}
+use Rattle.scc_syntax.specs.Claim.{IsReadFile}
 use Rattle.scc_thin.specs.declared.design.Design.{Design}
+use Rattle.scc_thin.specs.Thin.{thin_of}
 use Rattle.scc_thinmodule.specs.Source.{source_of, text_of}
-use Rattle.scc_drive.specs.CommandOutcome.{CommandOutcome}
-use Rattle.scc_drive.specs.Outcome.{compiles}
+use Rattle.scc_words.specs.declared.command.Command.TheVariants as command
+use Rattle.scc_words.specs.declared.command.Form.TheVariants as form
+use Rattle.scc_drive.specs.Words.{command_by, roots_of, word_at}
 
 -- A design was compiled: `top` is the name of its top, `name` the name that emitted text has for a location, `own` the names that threads' states and counters
 -- have there, `kept` the locations that may be registers; `old` and `new` are what the output took before and after.
@@ -29,7 +38,23 @@ pub record IsCompiled (top : List ℕ) (name : Location → List ℕ) (own : Lis
   -- first edge finds the resets active, all that the module can show is what the design can show: its outputs and registers, before and behind each edge.
   pub shows : ModuleShows name design emitted
 
--- If the files that the words name come to a design, the output is its module. Today such a design is that of a thin text: it has neither clock nor register, so
--- there are no names of threads and no locations that are kept, every start is alike every valuation, and no reset is asked for.
+-- The words ask for the text of one module, and the files that they name, of each at most its first 1,048,577 bytes, join to tokens that the grammar reads as this
+-- tree.
+pub record IsRead (shelf : Shelf) (words : List (String Global)) (tree : FileTree) : Type 0 where
+  pub count : ℕ
+  pub asked : command_by words ≡ Some (command.Compile count form.Whole)
+  pub names : List (List ℕ)
+  pub sources : List Source
+  pub joined : Joined
+  pub joins : JoinsTo (first_part shelf) fixed_names (roots_of words count) names sources joined
+  pub reads : IsReadFile joined tree
+
+-- The design that a tree has for a top's name. Today it is that of a thin text, which shows in the tokens that the tree was read from.
+abbrev pub IsDesign : {shelf : Shelf} {words : List (String Global)} {tree : FileTree} → IsRead shelf words tree → List ℕ → Design → Type 0
+IsDesign read top d = thin_of read.names top read.joined.tokens ≡ Some d
+
+-- If the files that the words name are read as a tree, and it has a design for the name that the words say, the output is its module. The design of a thin text
+-- has neither clock nor register, so there are no names of threads and no locations that are kept, every start is alike every valuation, and no reset is asked for.
 abbrev pub MainTheorem : Shelf → List (String Global) → (old new : Option (List ℕ)) → Type 0
-MainTheorem shelf words old new = (d : Design) → CommandOutcome shelf words (compiles d) → IsCompiled d.top (text_of d) (λ n. false) (λ l. false) (source_of d) old new
+MainTheorem shelf words old new = (tree : FileTree) (read : IsRead shelf words tree) (d : Design) → IsDesign read (word_at words 1) d
+    → IsCompiled d.top (text_of d) (λ n. false) (λ l. false) (source_of d) old new
