@@ -1,5 +1,5 @@
 //! What construction leaves of a module that makes others in a loop, and clocks of which there may be several.
-use crate::trees::tree_of;
+use crate::trees::{Parsed, tree_of};
 use scc_base::{Names, Path, PathPart, Stop};
 use scc_design::{Design, Object, ObjectNode, Process, Sort};
 use scc_elab::{elaborate, elaborate_many};
@@ -45,9 +45,7 @@ struct Program {
 
 /// The program of a file `a.cpp` with this text and the top `Top`; None where an earlier stage refuses it.
 fn program_of(alloc: Global, source: &str) -> Result<Option<Program>, Fail> {
-    let mut names = Names::new(alloc)?;
-    let top = names.intern("Top")?;
-    let Some(tree) = tree_of(alloc, &mut names, source)? else {
+    let Some(Parsed { names, top, tree }) = tree_of(alloc, "Top", source)? else {
         return Ok(None);
     };
     match plain(alloc, &tree, top) {

@@ -1,8 +1,8 @@
-//! Values of constants, asked for one by one.
-use crate::trees::tree_of;
-use scc_base::{Names, Place, Refusal, Stop};
-use scc_bits::{Kind, Value};
-use scc_templates::Instances;
+//! Values of constants and instances of templates, asked for one by one.
+use crate::trees::{Parsed, tree_of};
+use scc_base::{List, Place, Refusal, Stop};
+use scc_bits::{Kind, Value, Word};
+use scc_templates::{Arg, Args, ClassId, Instances};
 use scc_tree::{Expr, FileTree, ItemNode};
 use std::alloc::{AllocError, Global};
 use std::test::Fail;
@@ -69,8 +69,7 @@ fn last_constant(tree: &FileTree) -> Option<&Expr> {
 
 /// What `const_value` says of the last constant of a source, and how many instances there are then.
 fn value_said(alloc: Global, source: &str) -> Result<String, Fail> {
-    let mut names = Names::new(alloc)?;
-    let Some(tree) = tree_of(alloc, &mut names, source)? else {
+    let Some(Parsed { tree, .. }) = tree_of(alloc, "T", source)? else {
         return Ok(String::from_str(alloc, "no tree")?);
     };
     let Some(e) = last_constant(&tree) else {
@@ -138,6 +137,71 @@ fn works_out_constants(rt: HostRuntime) -> Result<(), Fail> {
     for (source, want) in rows {
         let got = value_said(rt.alloc(), source)?;
         assert_eq!(rt; got.as_str(), *want, "{source}");
+    }
+    Ok(())
+}
+
+// The arguments of a template with a number and a type.
+fn arguments(alloc: Global, number: u128, kind: Kind) -> Result<Args, Fail> {
+    let int = Kind::Native {
+        bits: 32,
+        signed: true,
+    };
+    let mut args = List::new(alloc);
+    if let Some(value) = Value::of(int, Word { bits: number }) {
+        args.push(Arg::Value(value))?;
+    }
+    args.push(Arg::Number(kind))?;
+    Ok(args)
+}
+
+/// What is said of the first class of a source for each of these arguments: the number of its instance, or a refusal; and how many
+/// instances there are then.
+fn instances_said(alloc: Global, source: &str, asked: &[(u128, Kind)]) -> Result<String, Fail> {
+    let Some(Parsed { tree, .. }) = tree_of(alloc, "T", source)? else {
+        return Ok(String::from_str(alloc, "no tree")?);
+    };
+    let mut table = Instances::new(alloc);
+    let mut said = String::new(alloc);
+    for (number, kind) in asked {
+        let args = arguments(alloc, *number, *kind)?;
+        let shown = match table.instantiate(&tree, ClassId(0), &args, Place { file: 0, at: 0 }) {
+            Ok(instance) => format!(in alloc; "{}", instance.0)?,
+            Err(stop) => show_stop(alloc, source.as_bytes(), &stop)?,
+        };
+        said.push_str(shown.as_str())?;
+        said.push_str(", ")?;
+    }
+    let count = table.len();
+    Ok(format!(in alloc; "{said}{count}")?)
+}
+
+/// An instance has one number, whoever asks for it; other arguments make another, and too few make none.
+#[test]
+fn makes_instances(rt: HostRuntime) -> Result<(), Fail> {
+    for (source, wanted) in [
+        ("template<int N, class C> struct S { };", "0, 1, 2, 0, 2, 3"),
+        (
+            "template<int N, class C, int M> struct S { };",
+            "1:1 E307, 1:1 E307, 1:1 E307, 1:1 E307, 1:1 E307, 0",
+        ),
+        (
+            "template<int N, class C, int M = N + 1> struct S { };",
+            "0, 1, 2, 0, 2, 3",
+        ),
+    ] {
+        let said = instances_said(
+            rt.alloc(),
+            source,
+            &[
+                (3, Kind::Bool),
+                (4, Kind::Bool),
+                (3, Kind::Uint(8)),
+                (3, Kind::Bool),
+                (3, Kind::Uint(8)),
+            ],
+        )?;
+        assert_eq!(rt; said.as_str(), wanted, "of {source}");
     }
     Ok(())
 }

@@ -1,6 +1,6 @@
 //! Thin texts have a path of their own in `run`, which carries the main theorem: the stages give the same bytes for them.
-use crate::trees::tree_of;
-use scc_base::{CalmFiles, CalmSink, Names, Text};
+use crate::trees::{Parsed, tree_of};
+use scc_base::{CalmFiles, CalmSink, Text};
 use scc_drive::run;
 use scc_stages::compile;
 use std::alloc::Global;
@@ -47,8 +47,7 @@ fn by_run(alloc: Global, source: &str) -> Result<CalmSink, Fail> {
 
 /// What the stages give; None where one refuses.
 fn by_stages(alloc: Global, source: &str) -> Result<Option<Text>, Fail> {
-    let mut names = Names::new(alloc)?;
-    let Some(tree) = tree_of(alloc, &mut names, source)? else {
+    let Some(Parsed { names, tree, .. }) = tree_of(alloc, "And", source)? else {
         return Ok(None);
     };
     Ok(compile(alloc, &names, &tree, b"And").ok())
