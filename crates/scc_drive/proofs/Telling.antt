@@ -198,7 +198,7 @@ module _ (words : List (String Global)) (held : Option Shelf) (m m' f f' : ℕ) 
   the_design d (Some (command.Gen stages source)) o e = e
 
   -- a design that a tree has is the outcome
-  design_outcome : (shelf : Shelf) (tree : FileTree) (read : IsRead shelf words tree) (d : Design) → IsDesign read (word_at words 1) d → CommandOutcome shelf words (compiles d)
+  design_outcome : (shelf : Shelf) (tree : FileTree) (read : IsRead shelf words tree) (d : Design) → IsDesign read.names read.joined tree (word_at words 1) d → CommandOutcome shelf words (compiles d)
   unfolding CommandOutcome
   design_outcome shelf tree read d e =
       let found : JoinedOutcome compiling (word_at words 1) read.names read.sources read.joined (compiles d) =

@@ -49,12 +49,12 @@ pub record IsRead (shelf : Shelf) (words : List (String Global)) (tree : FileTre
   pub joins : JoinsTo (first_part shelf) fixed_names (roots_of words count) names sources joined
   pub reads : IsReadFile joined tree
 
--- The design that a tree has for a top's name. Today it is that of a thin text, which shows in the tokens that the tree was read from.
-abbrev pub IsDesign : {shelf : Shelf} {words : List (String Global)} {tree : FileTree} → IsRead shelf words tree → List ℕ → Design → Type 0
-IsDesign read top d = thin_of read.names top read.joined.tokens ≡ Some d
+-- The design that a tree has for a top's name, by the names that were met and the tokens that the tree was read from. Today it is that of a thin text.
+abbrev pub IsDesign : List (List ℕ) → Joined → FileTree → List ℕ → Design → Type 0
+IsDesign names joined tree top d = thin_of names top joined.tokens ≡ Some d
 
 -- If the files that the words name are read as a tree, and it has a design for the name that the words say, the output is its module. The design of a thin text
 -- has neither clock nor register, so there are no names of threads and no locations that are kept, every start is alike every valuation, and no reset is asked for.
 abbrev pub MainTheorem : Shelf → List (String Global) → (old new : Option (List ℕ)) → Type 0
-MainTheorem shelf words old new = (tree : FileTree) (read : IsRead shelf words tree) (d : Design) → IsDesign read (word_at words 1) d
+MainTheorem shelf words old new = (tree : FileTree) (read : IsRead shelf words tree) (d : Design) → IsDesign read.names read.joined tree (word_at words 1) d
     → IsCompiled d.top (text_of d) (λ n. false) (λ l. false) (source_of d) old new
