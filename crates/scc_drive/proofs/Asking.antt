@@ -1,10 +1,9 @@
 -- Files that are asked for.
-use Rattle.std.proofs.Common.{◌≡◌, ◌≤◌, ℕ, List, length, Option, Some, None, Result, Ok, Err, ap, sym, subst, ◌∙◌}
+use Rattle.std.proofs.Common.{◌≡◌, ◌≤◌, ℕ, List, length, Option, Some, Result, Ok, Err, ap, sym, subst, ◌∙◌}
 use Rattle.std.specs.Prelude.{option_map, take}
 use Rattle.scc_base.specs.Outside.{Shelf, Told, HoldsFirst}
 use Rattle.scc_directives.specs.declared.file.Source.{Source}
 use Rattle.scc_tokens.specs.Files.{first_part}
-use Rattle.scc_drive.specs.declared.spots.Spot.{Spot}
 use Rattle.scc_drive.specs.declared.stopped.Stopped.{Stopped}
 use Rattle.scc_drive.specs.declared.stopped.Stopped.TheVariants as stopped
 use Rattle.scc_drive.specs.Stages.{Asked, IsFound, IsHeld}

@@ -1,14 +1,13 @@
 -- What a command comes to, by its words.
-use Rattle.std.proofs.Common.{◌≡◌, ◌≤◌, ◌<◌, ◌+◌, ◌-◌, ℕ, Bool, true, false, List, [], ◌∷◌, length, map, Option, Some, None, Result, Ok, Err, String, ap, refl, sym, ◌∙◌, subst, inl, inr, arith, true≢false}
-use Rattle.std.specs.Prelude.{string_bytes, is_some}
+use Rattle.std.proofs.Common.{◌≡◌, ℕ, true, false, List, Option, Some, None, Result, Ok, Err, String, ap, sym, subst, inl, inr}
+use Rattle.std.specs.Prelude.{is_some}
 use Rattle.std.specs.declared.alloc.Global.{Global}
-use Rattle.scc_base.specs.Outside.{Shelf, Told}
+use Rattle.scc_base.specs.Outside.{Shelf}
 use Rattle.scc_words.specs.declared.command.Command.{Command}
-use Rattle.scc_words.specs.declared.command.Command.TheVariants as command
 use Rattle.scc_drive.specs.declared.stopped.Stopped.{Stopped}
 use Rattle.scc_drive.specs.declared.stopped.Stopped.TheVariants as stopped
 use Rattle.scc_drive.specs.Answer.{AnswersBy, Answers, Asks, ComesFor, without}
-use Rattle.scc_drive.specs.CommandOutcome.{CommandOutcome, WordsOutcome, CommandOutcomeBy, GeneratedOutcome}
+use Rattle.scc_drive.specs.CommandOutcome.{CommandOutcome, WordsOutcome, CommandOutcomeBy}
 use Rattle.scc_drive.specs.Outcome.{Outcome}
 use Rattle.scc_drive.specs.Stages.{Gives}
 use Rattle.scc_drive.specs.Words.{command_by, are_words, word_at}

@@ -1,5 +1,5 @@
 -- The files of a command are words.
-use Rattle.std.proofs.Common.{◌≡◌, ◌≤◌, ◌<◌, ◌+◌, ◌-◌, ◌⊎◌, ℕ, Bool, true, false, List, [], ◌∷◌, length, map, Option, Some, None, String, ap, refl, sym, ◌∙◌, subst, inl, inr, arith, true≢false}
+use Rattle.std.proofs.Common.{◌≡◌, ◌≤◌, ◌<◌, ◌+◌, ◌-◌, ℕ, Bool, true, false, List, [], ◌∷◌, length, map, Option, Some, None, String, ap, refl, sym, subst, arith, true≢false}
 use Rattle.std.specs.Prelude.{string_bytes, is_some, unwrap_or, if◌then◌else◌, ◌&&◌, ◌||◌, not, nat_le, nat_eq, bytes_eq, codes, drop}
 use Rattle.std.specs.List.{prefix_len}
 use Rattle.std.proofs.lemmas.Bool.{leb-true}

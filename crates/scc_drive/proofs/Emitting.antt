@@ -1,10 +1,10 @@
 -- What an emitted text and a stimulus come to.
-use Rattle.std.proofs.Common.{◌≡◌, ◌≢◌, ◌≤◌, ◌<◌, ◌^◌, ℕ, Bool, true, false, List, [], ◌∷◌, length, Option, Some, None, Result, Ok, Err, ap, refl, sym, ◌∙◌, subst, inl, inr, arith, true≢false}
+use Rattle.std.proofs.Common.{◌≡◌, ◌≢◌, ◌≤◌, ℕ, Bool, true, false, List, [], ◌∷◌, length, Option, Some, None, Result, Ok, Err, ap, refl, sym, ◌∙◌, subst, inl, inr, arith, true≢false}
 use Rattle.std.proofs.lemmas.List.{take_all}
 use Rattle.std.proofs.lemmas.Bool.{le-ltb}
 use Rattle.std.proofs.lemmas.Slice.Eq.{bytes_eq-Decides}
-use Rattle.std.specs.Prelude.{take, option_map, bytes_eq, nat_lt, IfOk, IfErr, if◌then◌else◌, unwrap_or, is_some}
-use Rattle.scc_base.specs.Outside.{Shelf, Told, Rose}
+use Rattle.std.specs.Prelude.{take, option_map, bytes_eq, nat_lt, if◌then◌else◌, unwrap_or, is_some}
+use Rattle.scc_base.specs.Outside.{Shelf, Told}
 use Rattle.scc_base.specs.declared.code.Code.{Code}
 use Rattle.scc_base.specs.declared.code.Code.TheVariants.{FileTooLong, SvName}
 use Rattle.scc_base.specs.declared.refusal.Refusal.{Refusal}
@@ -22,7 +22,7 @@ use Rattle.scc_drive.specs.declared.stopped.Stopped.{Stopped}
 use Rattle.scc_drive.specs.declared.stopped.Stopped.TheVariants as stopped
 use Rattle.scc_drive.specs.Answer.{AnswersBy, without}
 use Rattle.scc_drive.specs.CommandOutcome.{TextOutcome, unread, misnamed, meets, outcome_on, outcome_of_stimulus, outcome_of_steps, LongTextOutcome, TextFileOutcome, TextsOutcome}
-use Rattle.scc_drive.specs.Outcome.{Outcome, refusal, absent, runs, wider, tracing, RefusesBy, WritesBy, MissesBy}
+use Rattle.scc_drive.specs.Outcome.{Outcome, refusal, absent, runs, wider, tracing, RefusesBy}
 use Rattle.scc_drive.specs.Spots.{spot_in, first_spot}
 use Rattle.scc_drive.specs.Stages.{Gives, Asking, Asked, IsHeld, IsNoModule}
 use Rattle.scc_drive.specs.Stops.{StopsAt, StoppedIn, IsOfText}

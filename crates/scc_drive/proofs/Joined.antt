@@ -1,10 +1,9 @@
 -- The outcome of a command, by what joining gives.
-use Rattle.std.proofs.Common.{◌≡◌, ℕ, List, drop, take, map, Option, Some, None, Result, Ok, Err, ap, refl, sym, ◌∙◌, subst, inl, inr, String}
+use Rattle.std.proofs.Common.{◌≡◌, ℕ, List, drop, take, map, Option, None, Result, Ok, Err, ap, refl, sym, ◌∙◌, subst, inl, inr, String}
 use Rattle.std.specs.Prelude.{string_bytes, option_map, IfOk, IfErr}
 use Rattle.std.specs.declared.alloc.Global.{Global}
 use Rattle.scc_base.specs.Names.{fixed_names}
 use Rattle.scc_base.specs.Outside.{Shelf, Told, Rose}
-use Rattle.scc_base.specs.declared.code.Code.{Code}
 use Rattle.scc_base.specs.declared.refusal.Refusal.{Refusal}
 use Rattle.scc_base.specs.declared.refusal.Stop.TheVariants as stop
 use Rattle.scc_directives.specs.declared.file.Source.{Source}
@@ -14,12 +13,9 @@ use Rattle.scc_tokens.specs.declared.joining.JoinFault.TheVariants as fault
 use Rattle.scc_tokens.specs.Files.{HoldsAll, ToldAll, first_part}
 use Rattle.scc_tokens.specs.Join.{join_of, JoinSays, Somewhere}
 use Rattle.scc_directives.specs.Steps as join
-use Rattle.scc_tree.specs.declared.item.FileTree.{FileTree}
 use Rattle.scc_syntax.specs.Claim.{IsReadFile}
-use Rattle.scc_thinmodule.specs.Identifiers.{AreIdentifiers}
 use Rattle.scc_thinmodule.proofs.Known.{joined_names}
 use Rattle.scc_drive.specs.declared.joining.Read.{Read}
-use Rattle.scc_drive.specs.declared.spots.Spot.{Spot}
 use Rattle.scc_drive.specs.declared.stopped.Stopped.{Stopped}
 use Rattle.scc_drive.specs.declared.stopped.Stopped.TheVariants as stopped
 use Rattle.scc_drive.specs.Answer.{AnswersBy, without}

@@ -1,5 +1,5 @@
 -- A command has one outcome.
-use Rattle.std.proofs.Common.{◌≡◌, ◌≢◌, ◌⊎◌, ℕ, Bool, true, false, List, String, Option, Some, None, Result, Ok, Err, ap, refl, sym, ◌∙◌, subst, inl, inr, nat_lt, length, true≢false}
+use Rattle.std.proofs.Common.{◌≡◌, ℕ, Bool, true, false, List, String, Option, Some, None, Result, Ok, Err, ap, refl, sym, ◌∙◌, subst, inl, inr, nat_lt, length, true≢false}
 use Rattle.std.specs.Prelude.{is_some}
 use Rattle.std.specs.declared.alloc.Global.{Global}
 use Rattle.scc_base.specs.Names.{fixed_names}
@@ -7,9 +7,7 @@ use Rattle.scc_base.specs.Outside.{Shelf}
 use Rattle.scc_base.specs.declared.refusal.Refusal.{Refusal}
 use Rattle.scc_base.specs.declared.refusal.Stop.TheVariants as stop
 use Rattle.scc_svtree.specs.declared.module.SvModule.{SvModule}
-use Rattle.scc_svtree.specs.Sound.{IsSound}
 use Rattle.scc_svgrammar.specs.Grammar.{Reads}
-use Rattle.scc_svgrammar.specs.Levels.{deep}
 use Rattle.scc_svread.specs.Read.{ReadAs, ReadBack, Answered}
 use Rattle.scc_svtrace.specs.Ports.{in_ports}
 use Rattle.scc_svwritten.specs.Written.{raw_of}
@@ -25,8 +23,8 @@ use Rattle.scc_trace.specs.Stimulus.{stim_of}
 use Rattle.scc_trace.specs.declared.stim.StimStep.{StimStep}
 use Rattle.scc_words.specs.declared.command.Command.{Command}
 use Rattle.scc_words.specs.declared.command.Command.TheVariants as command
-use Rattle.scc_drive.specs.CommandOutcome.{CommandOutcome, WordsOutcome, CommandOutcomeBy, GeneratedOutcome, RootsOutcome, JoinedOutcome, reads, faulty, outcome_of_file, outcome_of_design, task_of, has_clocks, is_plain, TextOutcome, unread, misnamed, meets, TextOutcomeBy, LongTextOutcome, TextFileOutcome, TextsOutcome, outcome_on, outcome_of_stimulus, outcome_of_steps}
-use Rattle.scc_drive.specs.Outcome.{Task, compiling, forming, listing, simulating, tracing, Outcome, bad, refusal, absent, compiles, runs, writes, generated, wider, Kind, kind_of, kind_of_task}
+use Rattle.scc_drive.specs.CommandOutcome.{CommandOutcome, WordsOutcome, CommandOutcomeBy, GeneratedOutcome, RootsOutcome, JoinedOutcome, reads, faulty, outcome_of_file, outcome_of_design, task_of, has_clocks, is_plain, TextOutcome, unread, misnamed, meets, TextOutcomeBy, LongTextOutcome, TextFileOutcome, outcome_on, outcome_of_stimulus, outcome_of_steps}
+use Rattle.scc_drive.specs.Outcome.{Task, compiling, forming, listing, simulating, tracing, Outcome, bad, refusal, absent, compiles, runs, writes, generated, wider, kind_of, kind_of_task}
 use Rattle.scc_drive.specs.Spots.{spot_of}
 use Rattle.scc_drive.specs.Laws.{AreAlike, AreOne, is_refusal}
 use Rattle.scc_drive.specs.Words.{command_by, are_words, word_at, roots_of}

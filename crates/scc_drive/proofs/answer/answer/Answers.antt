@@ -1,4 +1,4 @@
-use Rattle.std.proofs.Common.{◌≡◌, ◌∙◌, sym, inl, refl}
+use Rattle.std.proofs.Common.{◌∙◌, sym, inl, refl}
 use Rattle.scc_drive.proofs.Commanded.{command_answers, bad_words}
 use Rattle.scc_drive.proofs.Counted.{within_words}
 use Rattle.scc_drive.proofs.answer.answer.Goals as goal

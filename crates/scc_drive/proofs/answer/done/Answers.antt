@@ -1,4 +1,4 @@
-use Rattle.std.proofs.Common.{◌≡◌, sym, subst}
+use Rattle.std.proofs.Common.{sym, subst}
 use Rattle.scc_drive.specs.Answer.{AnswersBy}
 use Rattle.scc_drive.specs.CommandOutcome.{CommandOutcomeBy, GeneratedOutcome}
 use Rattle.scc_drive.specs.Words.{word_at}

@@ -1,4 +1,4 @@
-use Rattle.std.proofs.Common.{◌≡◌, subst}
+use Rattle.std.proofs.Common.{subst}
 use Rattle.scc_drive.specs.CommandOutcome.{task_if}
 use Rattle.scc_drive.specs.Stages.{Gives, ReadOutcome}
 use Rattle.scc_drive.proofs.compile.formed.Goals as goal

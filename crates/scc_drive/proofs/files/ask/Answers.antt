@@ -1,4 +1,4 @@
-use Rattle.std.proofs.Common.{◌≡◌, ◌∙◌, sym, subst}
+use Rattle.std.proofs.Common.{◌∙◌, subst}
 use Rattle.scc_drive.specs.Stages.{IsFound}
 use Rattle.scc_drive.proofs.Asking.{is_held, asked_found}
 use Rattle.scc_drive.proofs.files.ask.Goals as goal

@@ -1,4 +1,4 @@
-use Rattle.std.proofs.Common.{◌≡◌, ◌∙◌, sym, ap, refl, subst, rules, true, false}
+use Rattle.std.proofs.Common.{sym, refl, subst}
 use Rattle.scc_trace.specs.Source.{source_of}
 use Rattle.scc_drive.specs.CommandOutcome.{GeneratedOutcome}
 use Rattle.scc_drive.specs.Outcome.{writes, generated}

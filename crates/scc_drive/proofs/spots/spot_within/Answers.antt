@@ -1,5 +1,4 @@
-use Rattle.std.proofs.Common.{◌≡◌, rules, refl}
-use Rattle.std.specs.Prelude.{IfOk, Result, Ok, Err, ◌∷◌, []}
+use Rattle.std.proofs.Common.{rules}
 use Rattle.scc_drive.proofs.Wider.{spots_within}
 use Rattle.scc_drive.proofs.spots.spot_within.Goals as goal
 

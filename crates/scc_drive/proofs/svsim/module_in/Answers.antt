@@ -1,4 +1,4 @@
-use Rattle.std.proofs.Common.{◌≡◌, ◌∙◌, Err, subst, sym, false, true≢false}
+use Rattle.std.proofs.Common.{◌∙◌, Err, subst, sym, false, true≢false}
 use Rattle.std.proofs.lemmas.Slice.Eq.{bytes_eq-Decides}
 use Rattle.scc_svread.specs.Read.{ReadAs, RefusedAs, ReadBack}
 use Rattle.scc_drive.proofs.Emitting.{is_unread, is_misnamed}

@@ -1,4 +1,4 @@
-use Rattle.std.proofs.Common.{◌≡◌, [], ◌∷◌, Err, refl}
+use Rattle.std.proofs.Common.{[], ◌∷◌, Err, refl}
 use Rattle.std.proofs.lemmas.Result.{err_from_is_err_and}
 use Rattle.scc_drive.specs.Outcome.{tracing}
 use Rattle.scc_drive.proofs.Emitting.{FormComes, form_answers, form_stops}

@@ -1,4 +1,4 @@
-use Rattle.std.proofs.Common.{◌≡◌, ◌<◌, ◌≤◌, ◌^◌, ◌∙◌, sym, subst, length, arith, false}
+use Rattle.std.proofs.Common.{◌<◌, ◌≤◌, ◌^◌, sym, subst, length, arith, false}
 use Rattle.scc_svtrace.specs.Traced.{IsTrace, IsUntraced}
 use Rattle.scc_svsim.proofs.Taken.{sound_many, few_variables}
 use Rattle.scc_drive.proofs.Emitting.{trace_given, trace_refused}
