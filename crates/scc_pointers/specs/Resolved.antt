@@ -1,5 +1,5 @@
 -- What resolving pointers keeps of a core, and how it refuses.
-use Rattle.std.specs.Prelude.{◌≡◌, ◌⊎◌, Bool, true, false, not, List, map, filter}
+use Rattle.std.specs.Prelude.{◌≡◌, ◌⊎◌, ℕ, ◌+◌, min, Bool, true, false, not, List, [], ◌∷◌, map, filter, Option, Some, option_map, slice_get, if◌then◌else◌}
 use Rattle.scc_base.specs.declared.code.Code.TheVariants as code
 use Rattle.scc_base.specs.declared.refusal.Place.{Place}
 use Rattle.scc_base.specs.declared.refusal.Refusal.{Refusal}
@@ -10,6 +10,8 @@ use Rattle.scc_core.specs.declared.program.CellSort.TheVariants.{Pointer}
 use Rattle.scc_core.specs.declared.program.Core.{Core}
 use Rattle.scc_core.specs.declared.program.CoreProcess.{CoreProcess}
 use Rattle.scc_core.specs.declared.program.Sort2.{Sort2}
+use Rattle.scc_core.specs.declared.program.Edge2.{Edge2}
+use Rattle.scc_core.specs.declared.program.Reset2.{Reset2}
 
 abbrev pub is_of_pointer : CellSort → Bool
 is_of_pointer (Pointer target) = true
@@ -18,21 +20,49 @@ is_of_pointer _ = false
 abbrev pub is_pointer : Cell → Bool
 is_pointer c = is_of_pointer c.sort
 
--- what of a process speaks of no cell
+-- what stands in the place of a number where the cell goes
+abbrev pub gone : ℕ
+gone = 4294967295
+
+-- the new numbers of cells: those that stay are counted, from n on
+abbrev pub new_numbers : ℕ → List Cell → List ℕ
+new_numbers n [] = []
+new_numbers n (c ∷ cs) = if is_pointer c then gone ∷ new_numbers n cs else min n gone ∷ new_numbers (n + 1) cs
+
+-- what of a process stays: all but its body, and of each cell its new number
 pub record Title : Type 0 where
   pub sort : Sort2
   pub name : CellName
   pub place : Place
+  pub senses : List (Option ℕ)
+  -- the clock, and whether it rises
+  pub edge : Option (Option ℕ × Bool)
+  -- the signal, the level at which it is active, and whether it is asynchronous
+  pub reset : Option (Option ℕ × Bool × Bool)
 
+abbrev pub edge_by : (ℕ → Option ℕ) → Edge2 → Option ℕ × Bool
+edge_by f e = (f e.cell, e.rising)
+
+abbrev pub reset_by : (ℕ → Option ℕ) → Reset2 → Option ℕ × Bool × Bool
+reset_by f r = (f r.cell, r.level, r.asynchronous)
+
+abbrev pub title_by : (ℕ → Option ℕ) → CoreProcess → Title
+title_by f p =
+    record { sort = p.sort; name = p.name; place = p.place; senses = map f p.senses; edge = option_map (edge_by f) p.edge; reset = option_map (reset_by f) p.reset }
+
+-- a process as it is, and as it is told by new numbers
 abbrev pub title_of : CoreProcess → Title
-title_of p = record { sort = p.sort; name = p.name; place = p.place }
+title_of = title_by Some
 
--- the top and the vectors stay, the cells that are no pointers, and the sorts, names and places of the processes
+abbrev pub title_in : List ℕ → CoreProcess → Title
+title_in numbers = title_by (slice_get numbers)
+
+-- the top and the vectors stay, the cells that are no pointers, and all of the processes but their bodies, with the cells' new numbers
 pub record KeepsObjects (c m : Core) : Type 0 where
   pub top : m.top ≡ c.top
   pub cells : m.cells ≡ filter (λ x. not (is_pointer x)) c.cells
   pub vectors : m.vectors ≡ c.vectors
-  pub processes : map title_of m.processes ≡ map title_of c.processes
+  pub processes : map title_of m.processes ≡ map (title_in (new_numbers 0 c.cells)) c.processes
 
 -- null is followed, a pointer is assigned, or an object is chosen by an index that isn't static
 abbrev pub IsOfPointers : Refusal → Type 0

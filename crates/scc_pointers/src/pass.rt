@@ -1,8 +1,8 @@
 //! The pass.
-ghost use Rattle.std.specs.Prelude.{◌≡◌, Err, IfOk, filter, map, not};
+ghost use Rattle.std.specs.Prelude.{◌≡◌, Err, IfOk, Some, filter, map, not, slice_get};
 ghost use Rattle.scc_base.specs.declared.refusal.Refusal.{Refusal};
 ghost use Rattle.scc_base.specs.declared.refusal.Stop.TheVariants as stop;
-ghost use Rattle.scc_pointers.specs.Resolved.{KeepsObjects, IsOfPointers, is_pointer, title_of};
+ghost use Rattle.scc_pointers.specs.Resolved.{KeepsObjects, IsOfPointers, is_pointer, new_numbers, title_in, title_of};
 
 use crate::held::Resolver;
 use crate::stmt::resolved_stmts;
@@ -60,7 +60,7 @@ fn all(
     processes: List<CoreProcess>,
     numbers: &[u32],
 ) -> Result<List<CoreProcess>, Stop>
-    ensures titles { IfOk result (λ out. map title_of out ≡ map title_of processes) }
+    ensures titles { IfOk result (λ out. map title_of out ≡ map (title_in numbers.now) processes) }
     ensures stop { (q : Refusal) → result ≡ Err (stop.Refused q) → IsOfPointers q }
 {
     let mut out = List::new(alloc);
@@ -85,7 +85,9 @@ fn new_body(
 }
 
 // The new numbers of the cells that stay.
-fn numbers_of(alloc: Global, cells: &[Cell]) -> Result<Vec<u32>, NoMemory> {
+fn numbers_of(alloc: Global, cells: &[Cell]) -> Result<Vec<u32>, NoMemory>
+    ensures { IfOk result (λ v. v.items ≡ new_numbers 0 cells.now) }
+{
     let mut numbers = Vec::new(alloc);
     let mut next = 0u32;
     for cell in cells {
@@ -114,7 +116,9 @@ fn kept(alloc: Global, cells: List<Cell>) -> Result<List<Cell>, NoMemory>
     Ok(out)
 }
 
-fn number(numbers: &[u32], cell: u32) -> Result<u32, NoMemory> {
+fn number(numbers: &[u32], cell: u32) -> Result<u32, NoMemory>
+    ensures { IfOk result (λ n. slice_get numbers.now cell ≡ Some n) }
+{
     match numbers.get(cell as usize) {
         Some(n) if *n != GONE => Ok(*n),
         Some(_) | None => Err(lost()),
@@ -128,7 +132,7 @@ fn renumbered_process(
     new: List<CoreStmt>,
     numbers: &[u32],
 ) -> Result<CoreProcess, NoMemory>
-    ensures { IfOk result (λ q. title_of q ≡ title_of p) }
+    ensures { IfOk result (λ q. title_of q ≡ title_in numbers.now p) }
 {
     let CoreProcess {
         sort,

@@ -1,4 +1,4 @@
-use Rattle.std.proofs.Common.{ℕ, ◌+◌, ◌*◌}
+use Rattle.std.proofs.Common.{◌+◌, ◌*◌}
 use Rattle.scc_pointers.proofs.walk.+resolve.Given as goal
 
 abbrev pub decreases-expr_in : goal.decreases-expr_in
