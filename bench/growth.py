@@ -187,7 +187,7 @@ def run(words, folder, program=PROGRAM):
 def measured(words, folder, program=PROGRAM):
     """The fastest of some runs, which all answer the same."""
     best = run(words, folder, program)
-    for _ in range(9 if best[2] < 0.2 else 2):
+    for _ in range(9 if best[2] < 0.5 else 2):
         again = run(words, folder, program)
         if again[:2] != best[:2]:
             sys.exit(f"{program} {' '.join(words)}: one run answers {best[:2]}, another {again[:2]}")
