@@ -5,11 +5,13 @@
 
 The program is that of SCC, else crates/scc/out/scc. Fails where an answer is another than the shape's, or where
 twice the source takes more than 2.2 times as long (times under 20 milliseconds aren't compared), however often both
-are measured again (four times at most).
+are measured again (four times at most), and where valgrind is installed more than 2.2 times as many instructions too.
 """
 import os
 import pathlib
+import re
 import resource
+import shutil
 import subprocess
 import sys
 import tempfile
@@ -214,6 +216,22 @@ def is_steep(half, now):
     return now[2] > 0.02 and now[2] > 2.2 * half[2]
 
 
+def instructions(words, folder):
+    """How many instructions a run has by valgrind, None where that isn't installed."""
+    if shutil.which("valgrind") is None:
+        return None
+    p = subprocess.run(["valgrind", "--tool=callgrind", "--callgrind-out-file=/dev/null", PROGRAM, *words], cwd=folder,
+                       stdout=subprocess.DEVNULL, stderr=subprocess.PIPE, text=True, errors="replace")
+    counted = re.search(r"Collected : (\d+)", p.stderr)
+    return int(counted.group(1)) if counted else None
+
+
+def has_few_instructions(half, now):
+    """Whether twice the source is seen to take at most 2.2 times as many instructions, whatever else the machine does."""
+    counts = [instructions(words, folder) for words, folder, _ in (half, now)]
+    return None not in counts and counts[1] <= 2.2 * counts[0]
+
+
 def main():
     stage, wanted = sys.argv[1], sys.argv[2:]
     failed = False
@@ -239,8 +257,9 @@ def main():
                     print(f"{name}: status {status}: {said[:200].strip()}")
                     failed = True
                 if half is not None and name not in PRINTED and is_steep(half, now):
-                    print(f"{name}: not linear")
-                    failed = True
+                    is_linear = has_few_instructions(half, now)
+                    print(f"{name}: {'twice the instructions' if is_linear else 'not linear'}")
+                    failed = failed or not is_linear
                 half = now
     sys.exit(failed)
 
