@@ -10,13 +10,14 @@ use Rattle.scc_lexer.specs.declared.token.TokenKind.{TokenKind}
 use Rattle.scc_lexer.specs.declared.token.TokenKind.TheVariants as kind
 use Rattle.scc_directives.specs.Directive.{first_refusal}
 use Rattle.scc_directives.specs.Macros.{Table}
+use Rattle.scc_directives.specs.declared.numbers.TheConstants.{PAREN_OPEN}
 use Rattle.scc_directives.specs.Out.{is_mark_kind}
 use Rattle.scc_directives.specs.Steps.{Step, goes, stops}
 
 -- whether a `(` stands right behind a name
 abbrev pub adjoins : Token → List Token → Bool
 adjoins name [] = false
-adjoins name (t ∷ ts) = is_mark_kind t.kind 2 && t.place.at == name.place.at + name.len
+adjoins name (t ∷ ts) = is_mark_kind t.kind PAREN_OPEN && t.place.at == name.place.at + name.len
 
 -- a refusal of a token of the line comes after one of the line
 abbrev pub set_where : Option (Code × Place) → ℕ → Option (List Token) → Table → Step Table

@@ -7,6 +7,7 @@ use Rattle.scc_base.specs.declared.code.Code.TheVariants as code
 use Rattle.scc_base.specs.declared.names.Name.{Name}
 use Rattle.scc_base.specs.declared.refusal.Place.{Place}
 use Rattle.scc_directives.specs.declared.directive.Words.{Words}
+use Rattle.scc_directives.specs.declared.numbers.TheConstants.{ELSE}
 use Rattle.scc_directives.specs.declared.directive.Directive.{Directive}
 use Rattle.scc_directives.specs.declared.directive.Directive.TheVariants as directive
 use Rattle.scc_lexer.specs.declared.token.Token.{Token}
@@ -76,7 +77,7 @@ named_directive w n =
 -- what a directive does, by its first token; `else` is a word that the subset keeps for itself
 abbrev pub directive_of : Words → TokenKind → Directive
 directive_of w (kind.Ident n) = named_directive w n.0
-directive_of w (kind.Word i) = if i == 10 then directive.Else else directive.Unknown
+directive_of w (kind.Word i) = if i == ELSE then directive.Else else directive.Unknown
 directive_of w _ = directive.Unknown
 
 -- the refusal of a token wherever it is active: a number of no form or too large, a character literal, a word that is left out

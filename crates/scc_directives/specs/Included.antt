@@ -7,6 +7,7 @@ use Rattle.scc_directives.specs.declared.included.Operand.TheVariants.{Own, Quot
 use Rattle.scc_lexer.specs.declared.token.Token.{Token}
 use Rattle.scc_lexer.specs.declared.token.TokenKind.{TokenKind}
 use Rattle.scc_lexer.specs.declared.token.TokenKind.TheVariants as kind
+use Rattle.scc_directives.specs.declared.numbers.TheConstants.{DOT, GREATER, LESS}
 use Rattle.scc_directives.specs.Out.{is_mark_kind}
 
 abbrev pub is_mark : Token → ℕ → Bool
@@ -31,9 +32,9 @@ abbrev pub operand_of : Words → List Token → Operand
 operand_of w [] = Other
 operand_of w (a ∷ []) = if is_text a then Quoted a else Other
 operand_of w (a ∷ b ∷ []) = Other
-operand_of w (a ∷ b ∷ c ∷ []) = if is_mark a 6 && is_ident b w.systemc.0 && is_mark c 7 then Own else Other
+operand_of w (a ∷ b ∷ c ∷ []) = if is_mark a LESS && is_ident b w.systemc.0 && is_mark c GREATER then Own else Other
 operand_of w (a ∷ b ∷ c ∷ d ∷ []) = Other
-operand_of w (a ∷ b ∷ c ∷ d ∷ e ∷ []) = if is_mark a 6 && is_ident b w.systemc.0 && is_mark c 12 && is_ident d w.h.0 && is_mark e 7 then Own else Other
+operand_of w (a ∷ b ∷ c ∷ d ∷ e ∷ []) = if is_mark a LESS && is_ident b w.systemc.0 && is_mark c DOT && is_ident d w.h.0 && is_mark e GREATER then Own else Other
 operand_of w (a ∷ b ∷ c ∷ d ∷ e ∷ f ∷ fs) = Other
 
 -- the bytes between the quotes of a text of a file

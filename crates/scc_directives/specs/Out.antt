@@ -2,6 +2,7 @@
 use Rattle.std.specs.Prelude.{ℕ, ◌+◌, [], ◌∷◌, ◌++◌, length, Bool, false, ◌&&◌, ◌||◌, ◌==◌, nat_lt, if◌then◌else◌, Option, Some, None, is_some}
 use Rattle.scc_base.specs.declared.code.Code.TheVariants.{TooManyTokens}
 use Rattle.scc_base.specs.declared.refusal.Place.{Place}
+use Rattle.scc_directives.specs.declared.numbers.TheConstants.{SC_CORE, SC_DT, SCOPE}
 use Rattle.scc_directives.specs.declared.out.Out.{Out}
 use Rattle.scc_lexer.specs.declared.token.Token.{Token}
 use Rattle.scc_lexer.specs.declared.token.TokenKind.{TokenKind}
@@ -18,11 +19,11 @@ is_mark_kind _ n = false
 
 -- `sc_core` or `sc_dt`
 abbrev pub is_scope_word : Token → Bool
-is_scope_word t = is_word_kind t.kind 61 || is_word_kind t.kind 62
+is_scope_word t = is_word_kind t.kind SC_CORE || is_word_kind t.kind SC_DT
 
 -- `::`
 abbrev pub is_scope_mark : Token → Bool
-is_scope_mark t = is_mark_kind t.kind 11
+is_scope_mark t = is_mark_kind t.kind SCOPE
 
 abbrev pub pushed : Out → Token → Step Out
 pushed o t = if nat_lt (length o.tokens) 262144 then goes (record o { tokens = o.tokens ++ t ∷ [] }) else stops o TooManyTokens t.place

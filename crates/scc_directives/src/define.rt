@@ -6,6 +6,7 @@ ghost use Rattle.scc_directives.specs.Define.{defined, undefined, with_once, adj
 use crate::directive::{Words, first_refusal, is_named};
 use crate::halt::Halt;
 use crate::macros::Macros;
+use crate::numbers::PAREN_OPEN;
 use scc_base::{Code, List, NoMemory};
 use scc_lexer::{Token, TokenKind, Tokens};
 use std::alloc::Global;
@@ -36,7 +37,7 @@ fn adjoins(name: Token, body: &[Token]) -> bool
     let [first, ..] = body else {
         return false;
     };
-    matches!(first.kind, TokenKind::Mark(2))
+    matches!(first.kind, TokenKind::Mark(PAREN_OPEN))
         && u64::from(first.place.at) == u64::from(name.place.at) + u64::from(name.len)
 }
 

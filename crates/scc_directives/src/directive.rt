@@ -3,6 +3,7 @@ ghost use Rattle.std.specs.Prelude.{◌≡◌, ◌<◌, ◌≤◌, ◌+◌, ◌^
 ghost use Rattle.scc_base.specs.Names.{Keeps, with_name};
 ghost use Rattle.scc_directives.specs.Directive.{directive_of, named_directive, refusal_of, first_refusal, is_named, IsWords, HasThree, with_names, word_texts, is_line_end, line_len};
 
+use crate::numbers::ELSE;
 use scc_base::{Code, Name, Names, NoMemory, Place};
 use scc_lexer::{Token, TokenKind};
 
@@ -125,7 +126,7 @@ pub fn directive_of(words: &Words, first: TokenKind) -> Directive
 {
     match first {
         TokenKind::Ident(name) => named_directive(words, name),
-        TokenKind::Word(10) => Directive::Else,
+        TokenKind::Word(ELSE) => Directive::Else,
         _ => Directive::Unknown,
     }
 }

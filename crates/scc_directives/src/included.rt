@@ -4,6 +4,7 @@ ghost use Rattle.std.specs.List.{suffix_len};
 ghost use Rattle.scc_directives.specs.Included.{is_mark, is_ident, is_text, operand_of, quoted, folder_of, is_own, included_name};
 
 use crate::directive::Words;
+use crate::numbers::{DOT, GREATER, LESS};
 use scc_base::{Name, NoMemory, Text};
 use scc_lexer::{Token, TokenKind};
 use std::alloc::Global;
@@ -49,15 +50,15 @@ pub fn operand_of(words: &Words, rest: &[Token]) -> Operand
 {
     match rest {
         [t] if is_text(*t) => Operand::Quoted(*t),
-        [a, b, c] if is_mark(*a, 6) && is_ident(*b, words.systemc) && is_mark(*c, 7) => {
+        [a, b, c] if is_mark(*a, LESS) && is_ident(*b, words.systemc) && is_mark(*c, GREATER) => {
             Operand::Own
         }
         [a, b, c, d, e]
-            if is_mark(*a, 6)
+            if is_mark(*a, LESS)
                 && is_ident(*b, words.systemc)
-                && is_mark(*c, 12)
+                && is_mark(*c, DOT)
                 && is_ident(*d, words.h)
-                && is_mark(*e, 7) => { Operand::Own }
+                && is_mark(*e, GREATER) => { Operand::Own }
         _ => Operand::Other,
     }
 }

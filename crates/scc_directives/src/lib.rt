@@ -13,6 +13,7 @@ mod included;
 mod laws;
 mod lines;
 mod macros;
+mod numbers;
 mod out;
 mod sides;
 

@@ -4,6 +4,7 @@ ghost use Rattle.scc_directives.specs.Steps.{Does};
 ghost use Rattle.scc_directives.specs.Out.{pushed, flushed, put_token, counted, is_scope_word, is_scope_mark};
 
 use crate::halt::Halt;
+use crate::numbers::{SC_CORE, SC_DT, SCOPE};
 use scc_base::{Code, List, Place};
 use scc_lexer::{Token, TokenKind, Tokens};
 use std::alloc::Global;
@@ -27,13 +28,13 @@ pub struct Out {
 fn is_scope_word(t: Token) -> bool
     ensures { result ≡ is_scope_word t }
 {
-    matches!(t.kind, TokenKind::Word(61 | 62))
+    matches!(t.kind, TokenKind::Word(SC_CORE | SC_DT))
 }
 
 fn is_scope_mark(t: Token) -> bool
     ensures { result ≡ is_scope_mark t }
 {
-    matches!(t.kind, TokenKind::Mark(11))
+    matches!(t.kind, TokenKind::Mark(SCOPE))
 }
 
 impl Out {

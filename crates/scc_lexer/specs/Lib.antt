@@ -1,6 +1,7 @@
 pub mod Answers
 pub mod Bytes
 pub mod Enclosed
+pub mod Keywords
 pub mod Laws
 pub mod Lexes
 pub mod Named

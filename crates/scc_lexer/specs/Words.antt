@@ -1,5 +1,5 @@
 -- Words and marks by their numbers in the lists of the source.
-use Rattle.std.specs.Prelude.{ℕ, List, take, length, min, Bool, Option, Some, None, option_map, position, bytes_eq, is_some}
+use Rattle.std.specs.Prelude.{ℕ, List, take, length, min, Bool, Option, Some, None, option_map, position, bytes_eq, is_some, slice_get}
 use Rattle.scc_lexer.specs.declared.words.TheConstants.{WORDS, OUTSIDE_WORDS, MARKS}
 
 -- the number of a word that the subset keeps for itself
@@ -13,6 +13,13 @@ is_outside text = is_some (position (λ w. bytes_eq w.now text) OUTSIDE_WORDS)
 -- the number of a mark
 abbrev pub mark_index : List ℕ → Option ℕ
 mark_index text = position (λ w. bytes_eq w.now text) MARKS
+
+-- the text of a word and of a mark, by its number
+abbrev pub word_text : ℕ → Option (List ℕ)
+word_text i = option_map (λ w. w.now) (slice_get WORDS i)
+
+abbrev pub mark_text : ℕ → Option (List ℕ)
+mark_text i = option_map (λ w. w.now) (slice_get MARKS i)
 
 -- the mark that the first bytes are, at most so many, with its length
 abbrev pub mark_of : List ℕ → ℕ → Option (ℕ × ℕ)

@@ -3,6 +3,7 @@
 
 mod bytes;
 mod enclosed;
+mod keyword;
 mod laws;
 mod lexer;
 mod number;
@@ -11,6 +12,7 @@ mod slots;
 mod token;
 mod words;
 
+pub use keyword::{Keyword, Punct};
 pub use laws::text_has_one_reading;
 pub use lexer::{lex, scanned};
 pub use token::{Token, TokenKind, Tokens};

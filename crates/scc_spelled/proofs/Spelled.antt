@@ -7,6 +7,7 @@ use Rattle.scc_lexer.specs.declared.token.TokenKind.TheVariants as kind
 use Rattle.scc_lexer.specs.Words.{word_index, mark_index}
 use Rattle.scc_terminals.specs.View.{word_of, mark_of}
 use Rattle.scc_directives.specs.declared.directive.Directive.TheVariants as directive
+use Rattle.scc_directives.specs.declared.numbers.TheConstants.{DOT, GREATER, LESS}
 use Rattle.scc_directives.specs.Directive.{directive_of}
 use Rattle.scc_directives.specs.declared.included.Operand.TheVariants.{Own, Other}
 use Rattle.scc_directives.specs.Out.{is_scope_word, is_scope_mark}
@@ -48,22 +49,22 @@ parameters_are_spelled name t ts text i e =
     by_number (λ w. w.now) (λ i. adjoins name (as_mark t i ∷ ts)) (λ s. bytes_eq s (codes "(") && t.place.at == name.place.at + name.len) lexer.MARKS text i refl e
 
 -- the marks of headers
-less : (t : Token) (text : List ℕ) (i : ℕ) → mark_index text ≡ Some i → is_mark (as_mark t i) 6 ≡ bytes_eq text (codes "<")
-less t text i e = by_number (λ w. w.now) (λ i. is_mark (as_mark t i) 6) (λ s. bytes_eq s (codes "<")) lexer.MARKS text i refl e
+less : (t : Token) (text : List ℕ) (i : ℕ) → mark_index text ≡ Some i → is_mark (as_mark t i) LESS ≡ bytes_eq text (codes "<")
+less t text i e = by_number (λ w. w.now) (λ i. is_mark (as_mark t i) LESS) (λ s. bytes_eq s (codes "<")) lexer.MARKS text i refl e
 
-greater : (t : Token) (text : List ℕ) (i : ℕ) → mark_index text ≡ Some i → is_mark (as_mark t i) 7 ≡ bytes_eq text (codes ">")
-greater t text i e = by_number (λ w. w.now) (λ i. is_mark (as_mark t i) 7) (λ s. bytes_eq s (codes ">")) lexer.MARKS text i refl e
+greater : (t : Token) (text : List ℕ) (i : ℕ) → mark_index text ≡ Some i → is_mark (as_mark t i) GREATER ≡ bytes_eq text (codes ">")
+greater t text i e = by_number (λ w. w.now) (λ i. is_mark (as_mark t i) GREATER) (λ s. bytes_eq s (codes ">")) lexer.MARKS text i refl e
 
-dot : (t : Token) (text : List ℕ) (i : ℕ) → mark_index text ≡ Some i → is_mark (as_mark t i) 12 ≡ bytes_eq text (codes ".")
-dot t text i e = by_number (λ w. w.now) (λ i. is_mark (as_mark t i) 12) (λ s. bytes_eq s (codes ".")) lexer.MARKS text i refl e
+dot : (t : Token) (text : List ℕ) (i : ℕ) → mark_index text ≡ Some i → is_mark (as_mark t i) DOT ≡ bytes_eq text (codes ".")
+dot t text i e = by_number (λ w. w.now) (λ i. is_mark (as_mark t i) DOT) (λ s. bytes_eq s (codes ".")) lexer.MARKS text i refl e
 
 pub header_is_spelled : HeaderIsSpelled
 header_is_spelled w a b c opens closes i j e f =
-    ap (λ x. if x && is_ident b w.systemc.0 && is_mark (as_mark c j) 7 then Own else Other) (less a opens i e)
+    ap (λ x. if x && is_ident b w.systemc.0 && is_mark (as_mark c j) GREATER then Own else Other) (less a opens i e)
     ∙ ap (λ y. if bytes_eq opens (codes "<") && is_ident b w.systemc.0 && y then Own else Other) (greater c closes j f)
 
 pub old_header_is_spelled : OldHeaderIsSpelled
 old_header_is_spelled w a b c d e opens between closes i j k p q r =
-    ap (λ x. if x && is_ident b w.systemc.0 && is_mark (as_mark c j) 12 && is_ident d w.h.0 && is_mark (as_mark e k) 7 then Own else Other) (less a opens i p)
-    ∙ (ap (λ y. if bytes_eq opens (codes "<") && is_ident b w.systemc.0 && y && is_ident d w.h.0 && is_mark (as_mark e k) 7 then Own else Other) (dot c between j q)
+    ap (λ x. if x && is_ident b w.systemc.0 && is_mark (as_mark c j) DOT && is_ident d w.h.0 && is_mark (as_mark e k) GREATER then Own else Other) (less a opens i p)
+    ∙ (ap (λ y. if bytes_eq opens (codes "<") && is_ident b w.systemc.0 && y && is_ident d w.h.0 && is_mark (as_mark e k) GREATER then Own else Other) (dot c between j q)
     ∙ ap (λ z. if bytes_eq opens (codes "<") && is_ident b w.systemc.0 && bytes_eq between (codes ".") && is_ident d w.h.0 && z then Own else Other) (greater e closes k r))

@@ -7,4 +7,6 @@ mod walk;
 
 pub use joining::{JoinFault, Joined, join};
 pub use scc_directives::{Source, macros_are_expanded};
-pub use scc_lexer::{MARKS, Token, TokenKind, Tokens, WORDS, lex, text_has_one_reading};
+pub use scc_lexer::{
+    Keyword, MARKS, Punct, Token, TokenKind, Tokens, WORDS, lex, text_has_one_reading,
+};
