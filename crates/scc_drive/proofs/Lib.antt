@@ -8,7 +8,6 @@ pub mod Joined
 pub mod Wider
 pub mod Compiled
 pub mod Emitting
-pub mod Counted
 pub mod Commanded
 pub mod OneModule
 pub mod OneKind

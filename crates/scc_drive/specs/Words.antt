@@ -1,8 +1,7 @@
 -- The words of a command.
-use Rattle.std.specs.Prelude.{ℕ, ◌<◌, ◌≤◌, ◌+◌, List, [], map, take, drop, slice_get, option_map, unwrap_or, Option, Bool, is_some, string_bytes, String}
+use Rattle.std.specs.Prelude.{ℕ, List, [], map, take, drop, slice_get, option_map, unwrap_or, Option, Bool, is_some, string_bytes, String}
 use Rattle.std.specs.declared.alloc.Global.{Global}
 use Rattle.scc_words.specs.declared.command.Command.{Command}
-use Rattle.scc_words.specs.declared.command.Command.TheVariants as command
 use Rattle.scc_words.specs.Commands.{command_of}
 
 -- the command that the words make
@@ -20,11 +19,3 @@ word_at ws i = unwrap_or (option_map string_bytes (slice_get ws i)) []
 -- the names of the files that are joined: so many words from word 2 on
 abbrev pub roots_of : List (String Global) → ℕ → List (List ℕ)
 roots_of words count = map string_bytes (take count (drop 2 words))
-
--- the files of a command are words
-abbrev pub Within : Command → ℕ → Type 0
-Within (command.Compile count f) n = (0 < count) × (count ≤ 64) × (count + 2 ≤ n)
-Within (command.Sim count stim way) n = (0 < count) × (count ≤ 64) × (count + 2 ≤ n)
-Within (command.List count) n = (0 < count) × (count ≤ 64) × (count + 2 ≤ n)
-Within (command.Svsim stim f) n = Unit {0}
-Within (command.Gen stages source) n = Unit {0}

@@ -40,6 +40,10 @@ pub from_zero : {B : Type 0} (f : ℕ → B) (o : Option ℕ) → option_map f o
 from_zero f None = refl
 from_zero f (Some i) = ap (λ n. Some (f n)) (omega arith)
 
+pub same_number : (o : Option ℕ) → o ≡ option_map (λ i. 0 + i) o
+same_number None = refl
+same_number (Some i) = ap Some (omega arith)
+
 -- what f gives of the place of a text is what stands beside that text
 pub beside : {A B : Type 0} (text_of : A → List ℕ) (f : ℕ → B) (k : ℕ) (ws : List A) (text : List ℕ)
     → option_map (λ i. f (k + i)) (position (λ w. bytes_eq (text_of w) text) ws) ≡ option_map (λ r. r.1) (find (λ r. bytes_eq r.0 text) (zip (map text_of ws) (numbered f k ws)))

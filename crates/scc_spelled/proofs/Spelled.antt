@@ -4,7 +4,7 @@ use Rattle.std.specs.List.{zip}
 use Rattle.scc_lexer.specs.declared.words.TheConstants as lexer
 use Rattle.scc_lexer.specs.declared.token.Token.{Token}
 use Rattle.scc_lexer.specs.declared.token.TokenKind.TheVariants as kind
-use Rattle.scc_lexer.specs.Words.{word_index, mark_index}
+use Rattle.scc_lexer.specs.Words.{word_index, mark_index, word_text, mark_text}
 use Rattle.scc_terminals.specs.View.{word_of, mark_of}
 use Rattle.scc_directives.specs.declared.directive.Directive.TheVariants as directive
 use Rattle.scc_directives.specs.declared.numbers.TheConstants.{DOT, GREATER, LESS}
@@ -13,9 +13,9 @@ use Rattle.scc_directives.specs.declared.included.Operand.TheVariants.{Own, Othe
 use Rattle.scc_directives.specs.Out.{is_scope_word, is_scope_mark}
 use Rattle.scc_directives.specs.Define.{adjoins}
 use Rattle.scc_directives.specs.Included.{is_ident, is_mark}
-use Rattle.scc_spelled.specs.Spelling.{words, marks, word_text, mark_text, terminal_of}
-use Rattle.scc_spelled.specs.Laws.{WordsAreSpelled, MarksAreSpelled, WordsHaveOneSpelling, MarksHaveOneSpelling, ElseIsSpelled, ScopesAreSpelled, ScopeMarkIsSpelled, ParametersAreSpelled, HeaderIsSpelled, OldHeaderIsSpelled, as_word, as_mark}
-use Rattle.scc_spelled.proofs.Finding.{beside, by_number, from_zero, numbered}
+use Rattle.scc_spelled.specs.Spelling.{words, marks, keywords, puncts, named_by}
+use Rattle.scc_spelled.specs.Laws.{WordsAreSpelled, MarksAreSpelled, KeywordsAreSpelled, PunctsAreSpelled, WordsHaveOneSpelling, MarksHaveOneSpelling, ElseIsSpelled, ScopesAreSpelled, ScopeMarkIsSpelled, ParametersAreSpelled, HeaderIsSpelled, OldHeaderIsSpelled, as_word, as_mark}
+use Rattle.scc_spelled.proofs.Finding.{beside, by_number, from_zero, numbered, same_number}
 
 word_rows : zip (map (λ w. w.now) lexer.WORDS) (numbered word_of 0 lexer.WORDS) ≡ words
 word_rows = refl
@@ -24,10 +24,22 @@ mark_rows : zip (map (λ w. w.now) lexer.MARKS) (numbered mark_of 0 lexer.MARKS)
 mark_rows = refl
 
 pub words_are_spelled : WordsAreSpelled
-words_are_spelled text = from_zero word_of (word_index text) ∙ beside (λ w. w.now) word_of 0 lexer.WORDS text ∙ ap (λ rows. terminal_of rows text) word_rows
+words_are_spelled text = from_zero word_of (word_index text) ∙ beside (λ w. w.now) word_of 0 lexer.WORDS text ∙ ap (λ rows. named_by rows text) word_rows
 
 pub marks_are_spelled : MarksAreSpelled
-marks_are_spelled text = from_zero mark_of (mark_index text) ∙ beside (λ w. w.now) mark_of 0 lexer.MARKS text ∙ ap (λ rows. terminal_of rows text) mark_rows
+marks_are_spelled text = from_zero mark_of (mark_index text) ∙ beside (λ w. w.now) mark_of 0 lexer.MARKS text ∙ ap (λ rows. named_by rows text) mark_rows
+
+keyword_rows : zip (map (λ w. w.now) lexer.WORDS) (numbered (λ i. i) 0 lexer.WORDS) ≡ keywords
+keyword_rows = refl
+
+punct_rows : zip (map (λ w. w.now) lexer.MARKS) (numbered (λ i. i) 0 lexer.MARKS) ≡ puncts
+punct_rows = refl
+
+pub keywords_are_spelled : KeywordsAreSpelled
+keywords_are_spelled text = same_number (word_index text) ∙ beside (λ w. w.now) (λ i. i) 0 lexer.WORDS text ∙ ap (λ rows. named_by rows text) keyword_rows
+
+pub puncts_are_spelled : PunctsAreSpelled
+puncts_are_spelled text = same_number (mark_index text) ∙ beside (λ w. w.now) (λ i. i) 0 lexer.MARKS text ∙ ap (λ rows. named_by rows text) punct_rows
 
 pub words_have_one : WordsHaveOneSpelling
 words_have_one text i e = by_number (λ w. w.now) word_text Some lexer.WORDS text i refl e

@@ -1,6 +1,6 @@
 -- What is said of every text that is a word or a mark.
 use Rattle.std.specs.Prelude.{◌≡◌, ℕ, ◌+◌, List, [], ◌∷◌, map, Some, option_map, bytes_eq, codes, ◌==◌, ◌&&◌, ◌||◌, if◌then◌else◌}
-use Rattle.scc_lexer.specs.Words.{word_index, mark_index}
+use Rattle.scc_lexer.specs.Words.{word_index, mark_index, word_text, mark_text}
 use Rattle.scc_lexer.specs.declared.token.Token.{Token}
 use Rattle.scc_lexer.specs.declared.token.TokenKind.TheVariants as kind
 use Rattle.scc_terminals.specs.View.{word_of, mark_of}
@@ -13,14 +13,21 @@ use Rattle.scc_directives.specs.Out.{is_scope_word, is_scope_mark}
 use Rattle.scc_directives.specs.Define.{adjoins}
 use Rattle.scc_directives.specs.Included.{is_ident, operand_of}
 use Rattle.scc_spelled.specs.declared.thin.TheConstants.{THIN_WORDS, THIN_MARKS}
-use Rattle.scc_spelled.specs.Spelling.{words, marks, terminal_of, word_text, mark_text}
+use Rattle.scc_spelled.specs.Spelling.{words, marks, keywords, puncts, named_by}
 
 -- The grammar takes a text that is a word, or a mark, for the terminal that stands beside it in the table of spellings, and no other text.
 abbrev pub WordsAreSpelled : Type 0
-WordsAreSpelled = (text : List ℕ) → option_map word_of (word_index text) ≡ terminal_of words text
+WordsAreSpelled = (text : List ℕ) → option_map word_of (word_index text) ≡ named_by words text
 
 abbrev pub MarksAreSpelled : Type 0
-MarksAreSpelled = (text : List ℕ) → option_map mark_of (mark_index text) ≡ terminal_of marks text
+MarksAreSpelled = (text : List ℕ) → option_map mark_of (mark_index text) ≡ named_by marks text
+
+-- The number of a text that is a word, or a mark, is that of the name that stands beside it.
+abbrev pub KeywordsAreSpelled : Type 0
+KeywordsAreSpelled = (text : List ℕ) → word_index text ≡ named_by keywords text
+
+abbrev pub PunctsAreSpelled : Type 0
+PunctsAreSpelled = (text : List ℕ) → mark_index text ≡ named_by puncts text
 
 -- a number has one spelling
 abbrev pub WordsHaveOneSpelling : Type 0

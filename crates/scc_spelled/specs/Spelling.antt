@@ -1,27 +1,28 @@
 -- Words and marks by their spelling (C++, "Keywords", "Operators and punctuators"; IEEE 1666-2011).
-use Rattle.std.specs.Prelude.{ℕ, List, map, Option, option_map, bytes_eq, slice_get}
+use Rattle.std.specs.Prelude.{ℕ, List, map, Option, option_map, bytes_eq}
 use Rattle.std.specs.List.{find}
+use Rattle.scc_lexer.specs.Keywords.{keyword_number, punct_number}
 use Rattle.scc_terminals.specs.declared.terminal.Terminal.{Terminal}
-use Rattle.scc_lexer.specs.declared.words.TheConstants as lexer
 use Rattle.scc_spelled.specs.declared.table.TheConstants.{WORDS, MARKS}
 
--- a text, and the terminal that it is
-abbrev pub Row : Type 0
-Row = List ℕ × Terminal
+-- a text, and what it is
+abbrev pub Row : Type 0 → Type 0
+Row X = List ℕ × X
 
-abbrev pub words : List Row
-words = map (λ r. (r.0.now, r.1)) WORDS
+-- the terminal of each word, and of each mark
+abbrev pub words : List (Row Terminal)
+words = map (λ r. (r.0.now, r.2)) WORDS
 
-abbrev pub marks : List Row
-marks = map (λ r. (r.0.now, r.1)) MARKS
+abbrev pub marks : List (Row Terminal)
+marks = map (λ r. (r.0.now, r.2)) MARKS
 
--- the terminal that a text is, by a table of spellings
-abbrev pub terminal_of : List Row → List ℕ → Option Terminal
-terminal_of rows text = option_map (λ r. r.1) (find (λ r. bytes_eq r.0 text) rows)
+-- the number that the name of each word, and of each mark, has
+abbrev pub keywords : List (Row ℕ)
+keywords = map (λ r. (r.0.now, keyword_number r.1)) WORDS
 
--- the text of a word and of a mark, by its number
-abbrev pub word_text : ℕ → Option (List ℕ)
-word_text i = option_map (λ w. w.now) (slice_get lexer.WORDS i)
+abbrev pub puncts : List (Row ℕ)
+puncts = map (λ r. (r.0.now, punct_number r.1)) MARKS
 
-abbrev pub mark_text : ℕ → Option (List ℕ)
-mark_text i = option_map (λ w. w.now) (slice_get lexer.MARKS i)
+-- what a text is, by a table of spellings
+abbrev pub named_by : {X : Type 0} → List (Row X) → List ℕ → Option X
+named_by rows text = option_map (λ r. r.1) (find (λ r. bytes_eq r.0 text) rows)

@@ -1,5 +1,5 @@
 //! Laws over the tables of words and marks, each the clause of a function that does nothing.
-ghost use Rattle.scc_spelled.specs.Laws.{WordsAreSpelled, MarksAreSpelled, WordsHaveOneSpelling, MarksHaveOneSpelling, ThinWordsAreSpelled, ThinMarksAreSpelled, ElseIsSpelled, ScopesAreSpelled, ScopeMarkIsSpelled, ParametersAreSpelled, HeaderIsSpelled, OldHeaderIsSpelled};
+ghost use Rattle.scc_spelled.specs.Laws.{WordsAreSpelled, MarksAreSpelled, KeywordsAreSpelled, PunctsAreSpelled, WordsHaveOneSpelling, MarksHaveOneSpelling, ThinWordsAreSpelled, ThinMarksAreSpelled, ElseIsSpelled, ScopesAreSpelled, ScopeMarkIsSpelled, ParametersAreSpelled, HeaderIsSpelled, OldHeaderIsSpelled};
 
 /// The grammar takes each text that is a word for the terminal of that spelling.
 #[tactic(auto, using(crate::proofs::Spelled::words_are_spelled))]
@@ -11,6 +11,18 @@ pub fn words_are_spelled()
 #[tactic(auto, using(crate::proofs::Spelled::marks_are_spelled))]
 pub fn marks_are_spelled()
     ensures spelled { MarksAreSpelled }
+{}
+
+/// A text that is a word has the number of the keyword of that spelling.
+#[tactic(auto, using(crate::proofs::Spelled::keywords_are_spelled))]
+pub fn keywords_are_spelled()
+    ensures spelled { KeywordsAreSpelled }
+{}
+
+/// A text that is a mark has the number of the punctuator of that spelling.
+#[tactic(auto, using(crate::proofs::Spelled::puncts_are_spelled))]
+pub fn puncts_are_spelled()
+    ensures spelled { PunctsAreSpelled }
 {}
 
 /// A number of a word or mark has one spelling.

@@ -7,8 +7,8 @@ mod table;
 mod thin;
 
 pub use laws::{
-    directives_are_spelled, marks_are_spelled, numbers_have_one_spelling, thin_texts_are_spelled,
-    words_are_spelled,
+    directives_are_spelled, keywords_are_spelled, marks_are_spelled, numbers_have_one_spelling,
+    puncts_are_spelled, thin_texts_are_spelled, words_are_spelled,
 };
 pub use table::{MARKS, WORDS};
 pub use thin::{THIN_MARKS, THIN_WORDS};

@@ -1,10 +1,11 @@
-//! What each word and mark of the source language is to the grammar, by its spelling (C++, "Keywords", "Operators and punctuators";
-//! IEEE 1666-2011).
+//! What each word and mark of the source language is, by its spelling: its name, and what it is to the grammar (C++, "Keywords",
+//! "Operators and punctuators"; IEEE 1666-2011).
 use scc_bits::Op;
+use scc_lexer::{Keyword, Punct};
 use scc_terminals::terminal::{Holder, Terminal};
 use scc_tree::{Family, UnaryOp};
 
-/// The words that the subset keeps for itself, each with what it is to the grammar.
+/// The words that the subset keeps for itself, each with its name and what it is to the grammar.
 pub const WORDS: [(&str, Keyword, Terminal); 69] = [
     ("bool", Keyword::Bool, Terminal::Bool),
     ("break", Keyword::Break, Terminal::Break),
@@ -113,7 +114,7 @@ pub const WORDS: [(&str, Keyword, Terminal); 69] = [
     ),
 ];
 
-/// The marks, each with what it is to the grammar. `#` begins directives alone.
+/// The marks, each with its name and what it is to the grammar. `#` begins directives alone.
 pub const MARKS: [(&str, Punct, Terminal); 47] = [
     ("{", Punct::BraceOpen, Terminal::BraceOpen),
     ("}", Punct::BraceClose, Terminal::BraceClose),

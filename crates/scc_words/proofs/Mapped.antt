@@ -1,5 +1,5 @@
 -- Front parts of lists, and lists that are mapped.
-use Rattle.std.proofs.Common.{◌≡◌, List, [], ◌∷◌, Bool, map, ap, sym, refl, suc, ◌∙◌, ◌+◌, length, drop, zero, cond, ℕ}
+use Rattle.std.proofs.Common.{◌≡◌, List, [], ◌∷◌, Bool, map, ap, refl, suc, ◌+◌, length, drop, zero, cond, ℕ}
 use Rattle.std.specs.List.{prefix_len}
 
 pub prefix_len_map : {X Y : Type 0} (p : Y → Bool) (f : X → Y) (xs : List X) → prefix_len (λ x. p (f x)) xs ≡ prefix_len p (map f xs)

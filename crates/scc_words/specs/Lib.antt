@@ -1,3 +1,4 @@
 pub mod Classes
 pub mod Commands
 pub mod Options
+pub mod Within

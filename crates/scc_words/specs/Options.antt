@@ -1,5 +1,5 @@
 -- The options and flags of a command, read word by word.
-use Rattle.std.specs.Prelude.{ℕ, List, [], ◌∷◌, ◌-◌, length, Option, Some, None, Bool, true, false, if◌then◌else◌, bytes_eq, codes, is_some}
+use Rattle.std.specs.Prelude.{ℕ, List, [], ◌∷◌, ◌-◌, length, Option, Some, None, true, false, if◌then◌else◌, bytes_eq, codes, is_some}
 use Rattle.scc_words.specs.declared.options.Options.{Options}
 use Rattle.scc_words.specs.declared.options.Awaiting.{Awaiting}
 use Rattle.scc_words.specs.declared.options.Awaiting.TheVariants as awaiting

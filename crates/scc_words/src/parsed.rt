@@ -1,6 +1,7 @@
 //! Words by clap.
-ghost use Rattle.std.specs.Prelude.{◌≡◌, IfOk, map, string_bytes};
+ghost use Rattle.std.specs.Prelude.{◌≡◌, IfOk, IfSome, length, map, string_bytes};
 ghost use Rattle.scc_words.specs.Commands.{command_of};
+ghost use Rattle.scc_words.specs.Within.{Within};
 
 use crate::command::{Command, command_of};
 use clap::{Arg, ArgAction, ArgMatches, Command as Parser};
@@ -64,8 +65,10 @@ fn agrees(m: &ArgMatches<'_>, words: &[String], command: Command) -> bool {
 
 /// The command that words make; None where they break the rules on words. Clap reads words that keep the rules, and takes all
 /// such words.
+#[tactic(auto, using(crate::proofs::Counted::within_words))]
 pub fn read_command(alloc: Global, words: &[String]) -> Result<Option<Command>, NoMemory>
-    ensures { IfOk result (λ c. c ≡ command_of (map string_bytes words.now)) }
+    ensures value { IfOk result (λ c. c ≡ command_of (map string_bytes words.now)) }
+    ensures within { IfOk result (λ c. IfSome c (λ d. Within d (length words.now))) }
 {
     let Some(command) = command_of(words) else {
         return Ok(None);

@@ -12,7 +12,7 @@ use Rattle.scc_words.specs.declared.options.Options.{Options}
 use Rattle.scc_words.specs.Classes.{is_top, is_plain, count_of}
 use Rattle.scc_words.specs.Commands.{command_of, finished, command_by, compile_by, sim_by, svsim_by, list_by, gen_by, form_of, way_of, sv_form_of, has_flag, has_option, names_module, is_nothing}
 use Rattle.scc_words.specs.Options.{no_options, options_of, ◌>>=◌}
-use Rattle.scc_drive.specs.Words.{Within}
+use Rattle.scc_words.specs.Within.{Within}
 
 -- every command of an option has its files among so many words
 record AllWithin (len : ℕ) (x : Option Command) : Type 0 where
