@@ -1,4 +1,4 @@
--- The numbers of words and marks, by their names.
+-- The numbers of keywords and punctuators, by their names.
 use Rattle.std.specs.Prelude.{ℕ}
 use Rattle.scc_lexer.specs.declared.keyword.Keyword.{Keyword}
 use Rattle.scc_lexer.specs.declared.keyword.Keyword.TheVariants as keyword

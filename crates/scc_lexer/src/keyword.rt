@@ -1,11 +1,11 @@
-//! Words and marks by name: the numbers that tokens have (C++, "Keywords", "Operators and punctuators"; IEEE 1666-2011).
+//! Keywords and punctuators by name; tokens have their numbers (C++, "Keywords", "Operators and punctuators"; IEEE 1666-2011).
 ghost use Rattle.std.specs.Prelude.{◌≡◌, Some};
 ghost use Rattle.scc_lexer.specs.Keywords.{keyword_number, punct_number};
 ghost use Rattle.scc_lexer.specs.Words.{word_text, mark_text};
 
 use crate::words::{MARKS, WORDS};
 
-/// A word that the subset keeps for itself. As a number it is its place in `WORDS`.
+/// A keyword: a word that the subset keeps for itself. As a number it is its place in `WORDS`.
 #[derive(Clone, Copy, Debug)]
 pub enum Keyword {
     Bool,
@@ -90,7 +90,7 @@ impl Keyword {
     }
 }
 
-/// A mark. As a number it is its place in `MARKS`.
+/// A punctuator. As a number it is its place in `MARKS`.
 #[derive(Clone, Copy, Debug)]
 pub enum Punct {
     /// `{`

@@ -24,9 +24,9 @@ pub struct Token {
 /// What a token is (C++, "Tokens").
 #[derive(Clone, Copy, Debug, PartialEq, Eq)]
 pub enum TokenKind {
-    /// A word that the subset keeps for itself, by its number in their list.
+    /// A keyword, a word that the subset keeps for itself, by the number of its `Keyword`.
     Word(u8),
-    /// A mark, by its number in their list.
+    /// A punctuator, by the number of its `Punct`.
     Mark(u8),
     /// An identifier that is none of the words.
     Ident(Name),
