@@ -5,6 +5,7 @@ pub mod Lowered
 pub mod Turns
 pub mod Places
 pub mod Tied
+pub mod Comes
 pub mod Passed
 pub mod Rounds
 pub mod Names

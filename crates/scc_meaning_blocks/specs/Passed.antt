@@ -2,12 +2,6 @@
 use Rattle.std.specs.Prelude.{◌≡◌, ℕ, Bool, true, false, not, List, [], ◌∷◌, ◌++◌, map, filter, flat_map, Option, Some, None, option_map, slice_get}
 use Rattle.scc_base.specs.declared.refusal.Place.{Place}
 use Rattle.scc_meaning.specs.Location.{Location}
-use Rattle.scc_running.specs.Body as machine
-use Rattle.scc_running.specs.Design as running
-use Rattle.scc_running.specs.Machine.{Frames, Stop, Go, Suspended, after}
-use Rattle.scc_running.specs.Process.{first_frames}
-use Rattle.scc_running.specs.Value.{Held}
-use Rattle.scc_running.specs.Start.{IsProper}
 use Rattle.scc_running.specs.Same.{SameDesign}
 use Rattle.scc_meaning_core.specs.Term.{CellName}
 use Rattle.scc_meaning_core.specs.Code.{Code, End, Put, Aim, If, Block, Loop, Exit, Wait, waits_in}
@@ -23,36 +17,7 @@ use Rattle.scc_meaning_core.specs.Kept.{OneOf, written_by, kept}
 use Rattle.scc_meaning_core.specs.Segments.{Segment, all_segments, counts}
 use Rattle.scc_meaning_core.specs.Sizes.{live_body}
 use Rattle.scc_meaning_core.specs.Source.{Home, source_of}
-
--- the next statement assigns a pointer, and isn't its declaration; or it is a wait
-abbrev pub next_points : Frames → Bool
-next_points Stop = false
-next_points (Go mark m machine.End k) = next_points k
-next_points (Go mark m (machine.Point declares l t r) k) = not declares
-next_points f = false
-
-abbrev pub next_waits : Frames → Bool
-next_waits Stop = false
-next_waits (Go mark m machine.End k) = next_waits k
-next_waits (Go mark m (machine.Wait number count r) k) = true
-next_waits f = false
-
-abbrev pub fresh : (Location → ℕ) → (Location → Option Location) → Held
-fresh words targets = record { store = record { words = words; targets = targets }; requests = [] }
-
--- what a process comes to, statement by statement; behind a wait it goes on with any proper words
-pub data Comes (d : running.Design) (i : ℕ) (p : running.Process) (signals : Location → ℕ) : Frames → Held → Type 0 where
-  begins : (words : Location → ℕ) → IsProper d words → Comes d i p signals (first_frames i p) (fresh words d.targets)
-  goes_on : {f g : Frames} {h k : Held} → Comes d i p signals f h → next_waits f ≡ false → after d.places d.functions signals 1 f h ≡ Suspended g k → Comes d i p signals g k
-  resumes : {f g : Frames} {h k : Held} → (words : Location → ℕ) → IsProper d words → Comes d i p signals f h → next_waits f ≡ true → after d.places d.functions signals 1 f h ≡ Suspended g k
-      → Comes d i p signals g (fresh words k.store.targets)
-
--- Along whatever its processes come to, fixed locations keep their words, and no pointer is assigned behind its declaration.
-pub record Keeps (d : running.Design) : Type 0 where
-  pub fixed : (i : ℕ) (p : running.Process) (signals : Location → ℕ) (f : Frames) (h : Held) (l : Location) (w : ℕ)
-      → slice_get d.processes i ≡ Some p → IsProper d signals → Comes d i p signals f h → d.fixed l ≡ Some w → h.store.words l ≡ w
-  pub pointers : (i : ℕ) (p : running.Process) (signals : Location → ℕ) (f : Frames) (h : Held)
-      → slice_get d.processes i ≡ Some p → IsProper d signals → Comes d i p signals f h → next_points f ≡ false
+use Rattle.scc_meaning_blocks.specs.Comes.{Keeps}
 
 -- the cells that are no pointers
 abbrev pub plain_cells : Program → List Cell

@@ -8,6 +8,7 @@ use Rattle.scc_meaning_core.specs.Segments.{Segment, all_segments}
 use Rattle.scc_meaning_core.specs.Sizes.{live_body}
 use Rattle.scc_meaning_core.specs.Kept.{written_by, is_kept}
 use Rattle.scc_meaning_core.specs.Uses.{has_sort, among}
+use Rattle.scc_meaning_core.specs.Constants.{written, constant_if}
 use Rattle.scc_meaning_blocks.specs.Acting.{Acting, latest, calm}
 use Rattle.scc_meaning_blocks.specs.Effect.{Place, Ran, Waits, Ends, Fails, effect, Fell, Left_out, Lost, Effect, run_segment}
 
@@ -21,13 +22,18 @@ abbrev pub is_clocked : Option Edge → Bool
 is_clocked e = is_some e
 
 -- Whether a process finds a cell's word in the registers: that of a root, of a variable that it doesn't write or that it keeps as a clocked method, and what a thread
--- keeps. Others are 0 when it begins.
+-- keeps.
 abbrev pub lasts : Cells → ℕ → Process → ℕ → Bool
 lasts cs i q c = has_sort is_root cs c || (if has_sort is_local cs c then q.is_thread && is_kept cs i q c
     else not (among c (written_by cs q)) || (if q.is_thread then is_kept cs i q c else is_clocked q.edge))
 
+-- what no process writes holds its constant, and has no register
+abbrev pub constant_at : Program → ℕ → Option ℕ
+constant_at p c = option_and_then (λ x. constant_if (among c (written p)) x.sort) (slice_get p.cells c)
+
+-- the words that a process finds when it begins; others are 0
 abbrev pub found : Program → ℕ → Process → Regs → Acting
-found p i q g = calm (λ c. if lasts p.cells i q c then g.word c else 0)
+found p i q g = calm (λ c. unwrap_or (constant_at p c) (if lasts p.cells i q c then g.word c else 0))
 
 -- what a process leaves: the words that it asked for and wrote, and its place
 pub record Left : Type 0 where

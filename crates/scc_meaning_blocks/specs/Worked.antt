@@ -15,7 +15,7 @@ use Rattle.scc_meaning_core.specs.Worked.{here, cell, byte, named, put, load, fo
 use Rattle.scc_meaning_core.specs.WorkedRules.{a_process, with_cells, put_at, at, clock}
 use Rattle.scc_meaning_core.specs.WorkedRun.{counting, design}
 use Rattle.scc_meaning_blocks.specs.Turns.{Regs, begun, edged}
-use Rattle.scc_meaning_blocks.specs.Passed.{fresh}
+use Rattle.scc_meaning_blocks.specs.Comes.{fresh}
 
 -- the counting thread from registers that hold anything
 abbrev pub anything : Regs
@@ -64,6 +64,11 @@ two_outputs = with_cells (cell 0 kind.Bool Input ∷ cell 1 kind.Bool Input ∷ 
 -- `q.write(0); wait(); while (true) { q.write(t); wait(); }` with a local t in cell 3 that no statement writes to which a path comes
 abbrev pub unwritten_local : Program
 unwritten_local = with_cells local_cells (clocked_thread (Block here (put 1 (byte 0) (Wait here 0 1 (forever (put 1 (load 3) (Wait here 0 1 End)) End))) End) ∷ [])
+
+-- `q.write(0); wait(); while (true) { q.write(n); wait(); }` with a member `n` in cell 3, which construction leaves at 3 and no process writes
+abbrev pub unwritten_member : Program
+unwritten_member = with_cells (cell 0 kind.Bool Input ∷ cell 1 kind.Bool Input ∷ cell 2 (kind.Uint 8) Output ∷ cell 3 (kind.Uint 8) (Variable 3 false) ∷ [])
+    (clocked_thread (Block here (put 2 (byte 0) (Wait here 0 1 (forever (put 2 (load 3) (Wait here 0 1 End)) End))) End) ∷ [])
 
 -- the frames with which its first resume is suspended
 abbrev pub frames_of : Outcome → Option Frames

@@ -29,7 +29,7 @@ ghost use Rattle.scc_trace.specs.Text.{hex_text};
 ghost use Rattle.scc_meaning_blocks.specs.Traced.{trace_from, IsTrace, IsClockedTrace, generated_line};
 ghost use Rattle.scc_meaning_blocks.specs.Built.{Acts, AtEdge, owners, constant_outputs, InOrder, HasRegisters, IsBounded};
 ghost use Rattle.scc_svtree.specs.declared.module.SvModule.{SvModule};
-ghost use Rattle.scc_meaning_blocks.specs.Worked.{anything, first_edge, second_edge, first_frames_in, registers_after, words_after, waiting_thread, waiting_body, count_first, two_outputs, unwritten_local, reader_first, some_cells, early_code};
+ghost use Rattle.scc_meaning_blocks.specs.Worked.{anything, first_edge, second_edge, first_frames_in, registers_after, words_after, waiting_thread, waiting_body, count_first, two_outputs, unwritten_local, unwritten_member, reader_first, some_cells, early_code};
 ghost use Rattle.scc_meaning_core.specs.Source.{Home};
 
 /// The counting thread on registers: 0 at its reset, 1 behind the next edge; it stands behind wait 0, then behind wait 1.
@@ -42,7 +42,7 @@ pub fn registers_count()
 {}
 
 /// Threads on registers: a wait for five edges that a reset ends, at which the thread stands behind wait 1 with two edges to wait for; an output that is read
-/// shows what was written before; a local that is read and that nothing writes is a register.
+/// shows what was written before; a local that is read and that nothing writes is a register; a member that no process writes has its constant, and no register.
 pub fn registers_wait_and_are_reset()
     ensures waits { words_after 2 waiting_thread (1 ∷ 0 ∷ 0 ∷ 0 ∷ 1 ∷ 0 ∷ 0 ∷ 0 ∷ 0 ∷ 0 ∷ 0 ∷ []) ≡ 0 ∷ 1 ∷ 1 ∷ 1 ∷ 0 ∷ 1 ∷ 1 ∷ 1 ∷ 1 ∷ 1 ∷ 0 ∷ [] }
     ensures place { map (λ g. g.place 0) (registers_after waiting_thread (1 ∷ 0 ∷ 0 ∷ 0 ∷ []) anything) ≡
@@ -51,6 +51,8 @@ pub fn registers_wait_and_are_reset()
     ensures written { words_after 2 two_outputs (1 ∷ 0 ∷ 0 ∷ []) ≡ 0 ∷ 3 ∷ 3 ∷ [] }
     ensures read { words_after 3 two_outputs (1 ∷ 0 ∷ 0 ∷ []) ≡ 0 ∷ 0 ∷ 3 ∷ [] }
     ensures unwritten { registers unwritten_local ≡ 1 ∷ 3 ∷ [] }
+    ensures constant { words_after 2 unwritten_member (1 ∷ 0 ∷ 0 ∷ []) ≡ 0 ∷ 3 ∷ 3 ∷ [] }
+    ensures member { registers unwritten_member ≡ 2 ∷ [] }
 {}
 
 /// The frames of its first suspension are those of its place; the registers are tied to a state, and mirrored by a valuation.
