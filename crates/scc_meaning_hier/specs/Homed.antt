@@ -1,6 +1,6 @@
--- Which module objects a design has, and in which of them each block of its module stands: that whose constructor declared the block's process (IEEE 1666-2011, 5.2.9;
--- that a block stands there is this project's own).
-use Rattle.std.specs.Prelude.{◌≡◌, ℕ, Bool, true, false, List, [], ◌∷◌, ◌++◌, map, filter, flat_map, position, length, Option, Some, None, option_map, option_and_then, slice_get, unwrap_or, is_some, if◌then◌else◌}
+-- Which module objects a design has, and in which of them each block of its module stands: in that around the object whose constructor declared the
+-- block's process (IEEE 1666-2011, 5.2.9; that a block stands there is this project's own).
+use Rattle.std.specs.Prelude.{◌≡◌, ℕ, zero, suc, nat_eq, Bool, true, false, ◌||◌, List, [], ◌∷◌, ◌++◌, map, filter, flat_map, take, position, length, Option, Some, None, option_map, option_and_then, slice_get, unwrap_or, is_some, if◌then◌else◌}
 use Rattle.std.specs.List.{range_with_len}
 use Rattle.scc_meaning.specs.Location.{Part, same_path}
 use Rattle.scc_svtree.specs.declared.module.SvModule.{SvModule}
@@ -13,9 +13,9 @@ use Rattle.scc_meaning_plain.specs.Cells.{path_of}
 use Rattle.scc_hiertext.specs.declared.tree.Hier.{Hier}
 use Rattle.scc_meaning_hier.specs.Homes.{IsSplitUp}
 
--- an object of a class that is derived from `sc_module`; objects of other classes are parts of the module object around them
+-- The top, and objects of classes that are derived from `sc_module`. Objects of other classes are parts of the module object around them.
 abbrev pub is_module_object : Plain → Object → Bool
-is_module_object p o = unwrap_or (option_map (λ c. c.is_module) (option_and_then (slice_get p.classes) (class_of o.node))) false
+is_module_object p o = nat_eq (length o.path) 0 || unwrap_or (option_map (λ c. c.is_module) (option_and_then (slice_get p.classes) (class_of o.node))) false
 
 -- the top first, then the others in construction order
 abbrev pub module_objects : Plain → Design → List Object
@@ -35,10 +35,15 @@ clocked c = filter (of_process false (λ q. is_some q.edge) c) (range_with_len 0
 abbrev pub processes_of : core.Program → (order : List ℕ) → Bool → List (Option ℕ)
 processes_of c order constants = (if constants then None ∷ [] else []) ++ (map Some order ++ flat_map (λ i. Some i ∷ Some i ∷ []) (clocked c))
 
--- the module object of a process: its own, where that is one
+-- the module object around a path: that whose path is the longest front part of it, of so many parts at most
+abbrev pub around : List Object → List Part → ℕ → ℕ
+around os path zero = unwrap_or (number_of os []) 0
+around os path (suc n) = unwrap_or (number_of os (take (suc n) path)) (around os path n)
+
+-- the module object of a process: that of its object, which is a module object itself or a part of one
 abbrev pub home_in : Plain → Design → Option ℕ → ℕ
 home_in p d None = 0
-home_in p d (Some i) = unwrap_or (option_and_then (λ q. number_of (module_objects p d) (path_of d q.object)) (slice_get d.processes i)) 0
+home_in p d (Some i) = unwrap_or (option_map (λ q. let path = path_of d q.object in around (module_objects p d) path (length path)) (slice_get d.processes i)) 0
 
 -- The paths and homes are those of a design, by its core and its module: as many blocks, and each at home in the object of its process.
 pub record AreHomesOf (text : ℕ → List ℕ) (p : Plain) (d : Design) (c : core.Program) (m : SvModule) (paths : List (List ℕ)) (homes : List ℕ) : Type 0 where
@@ -48,8 +53,6 @@ pub record AreHomesOf (text : ℕ → List ℕ) (p : Plain) (d : Design) (c : co
   pub constants : Bool
   pub as_many : length m.blocks ≡ length (processes_of c order constants)
   pub homed : homes ≡ map (home_in p d) (processes_of c order constants)
-  -- each process is one of a module object
-  pub placed : (i : ℕ) → (q : core.Process) → slice_get c.processes i ≡ Some q → is_some (option_and_then (λ r. number_of (module_objects p d) (path_of d r.object)) (slice_get d.processes i)) ≡ true
 
 -- The modules are a design's module split up by its module objects.
 pub record IsSplitByObjects (text : ℕ → List ℕ) (p : Plain) (d : Design) (c : core.Program) (m : SvModule) (h : Hier) : Type 0 where

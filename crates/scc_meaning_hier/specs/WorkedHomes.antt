@@ -1,5 +1,6 @@
--- A top with two module objects, of which each has a method, and an object of another class: `SC_MODULE(M)`, `struct C { int n; }`, and a top `M a; C c; M b;`.
-use Rattle.std.specs.Prelude.{ℕ, Bool, true, false, List, [], ◌∷◌, None}
+-- A top with two module objects, of which each has a method, and objects of another class that have one each: `SC_MODULE(M) { C part; .. }`, `struct C { .. }`,
+-- and a top `M a; C c; M b;`.
+use Rattle.std.specs.Prelude.{ℕ, Bool, true, false, List, [], ◌∷◌, map, None}
 use Rattle.scc_meaning.specs.Location.{Member}
 use Rattle.scc_meaning_plain.specs.Program.{Class, Plain}
 use Rattle.scc_meaning_plain.specs.Design.{Design, Process, Object, Module}
@@ -8,16 +9,27 @@ use Rattle.scc_meaning_plain.specs.Worked.{here}
 abbrev pub class_named : ℕ → Bool → Class
 class_named n m = record { name = n; place = here; is_module = m; members = []; constructor = None }
 
+abbrev pub with_top : Class → Plain
+with_top c = record { top = 0; functions = []; classes = c ∷ class_named 21 true ∷ class_named 22 false ∷ [] }
+
 abbrev pub program : Plain
-program = record { top = 0; functions = []; classes = class_named 20 true ∷ class_named 21 true ∷ class_named 22 false ∷ [] }
+program = with_top (class_named 20 true)
+
+-- a top of a class that isn't derived from `sc_module`
+abbrev pub loose : Plain
+loose = with_top (class_named 20 false)
 
 abbrev pub object : List ℕ → ℕ → Object
-object [] c = record { path = []; place = here; node = Module c }
-object (n ∷ ns) c = record { path = Member n ∷ []; place = here; node = Module c }
+object path c = record { path = map Member path; place = here; node = Module c }
 
 abbrev pub method_in : ℕ → Process
 method_in o = record { object = o; function = 0; place = here; is_thread = false; senses = []; edge = None; reset = None }
 
--- the method of b comes first
+-- the method of b comes first; then that of a, that of the part of b, and that of c
 abbrev pub design : Design
-design = record { objects = object [] 0 ∷ object (1 ∷ []) 1 ∷ object (2 ∷ []) 2 ∷ object (3 ∷ []) 1 ∷ []; processes = method_in 3 ∷ method_in 1 ∷ []; targets = []; vectors = [] }
+design = record {
+  objects = object [] 0 ∷ object (1 ∷ []) 1 ∷ object (1 ∷ 4 ∷ []) 2 ∷ object (2 ∷ []) 2 ∷ object (3 ∷ []) 1 ∷ object (3 ∷ 4 ∷ []) 2 ∷ [];
+  processes = method_in 4 ∷ method_in 1 ∷ method_in 5 ∷ method_in 3 ∷ [];
+  targets = [];
+  vectors = [];
+}

@@ -14,7 +14,7 @@ ghost use Rattle.scc_meaning_core.specs.WorkedRun.{counting};
 ghost use Rattle.scc_meaning_plain.specs.Program.{Plain};
 ghost use Rattle.scc_meaning_plain.specs.Design as plain;
 ghost use Rattle.scc_meaning_hier.specs.Homed.{AreHomesOf, IsSplitByObjects, home_in, paths_of, processes_of};
-ghost use Rattle.scc_meaning_hier.specs.WorkedHomes.{program, design};
+ghost use Rattle.scc_meaning_hier.specs.WorkedHomes.{program, loose, design};
 ghost use Rattle.scc_meaning_hier.specs.Worked.{two, outer, inverts, written};
 
 /// Two inverters in a row: the variables are those of the top, and each instance has its block.
@@ -33,11 +33,12 @@ pub fn modules_show_what_their_flattening_shows()
     ensures objects { (m : SvModule) (paths : List (List ℕ)) (homes : List ℕ) (h : Hier) (s : IsSplitUp m paths homes h) → length (of_top h s.top).instances ≡ length (drop 1 paths) }
 {}
 
-/// Two module objects with a method each, and an object of another class between them: the paths of the module objects, and where blocks are at home. A design's
-/// modules have the paths of its module objects.
+/// Two module objects with a method each, and objects of another class in them and between them: the paths of the module objects, and where blocks are at home; a
+/// method of a part is at home in the module object around it. The top is a module object whatever its class. A design's modules have the paths of its module objects.
 pub fn blocks_are_at_home_in_objects()
     ensures paths { paths_of (λ n. n ∷ []) program design ≡ [] ∷ (1 ∷ []) ∷ (3 ∷ []) ∷ [] }
-    ensures homes { map (home_in program design) (None ∷ Some 1 ∷ Some 0 ∷ []) ≡ 0 ∷ 1 ∷ 2 ∷ [] }
+    ensures top { paths_of (λ n. n ∷ []) loose design ≡ [] ∷ (1 ∷ []) ∷ (3 ∷ []) ∷ [] }
+    ensures homes { map (home_in program design) (None ∷ Some 1 ∷ Some 0 ∷ Some 2 ∷ Some 3 ∷ []) ≡ 0 ∷ 1 ∷ 2 ∷ 2 ∷ 0 ∷ [] }
     ensures methods { processes_of (record { top = 0; cells = []; vectors = []; processes = [] }) (1 ∷ 0 ∷ []) true ≡ None ∷ Some 1 ∷ Some 0 ∷ [] }
     ensures clocked { processes_of counting [] false ≡ Some 0 ∷ Some 0 ∷ [] }
     ensures design { (text : ℕ → List ℕ) (p : Plain) (d : plain.Design) (c : core.Program) (m : SvModule) (paths : List (List ℕ)) (homes : List ℕ) → AreHomesOf text p d c m paths homes → paths ≡ paths_of text p d }
