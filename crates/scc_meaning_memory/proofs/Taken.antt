@@ -5,10 +5,10 @@ use Rattle.scc_svtree.specs.declared.expr.SvLeft.TheVariants.{Whole}
 use Rattle.scc_meaning_text.specs.Renamed.{BlockCode, Comb, Edge, Register, ResetCode, block_code}
 use Rattle.std.proofs.lemmas.Fmt.{decimal_digit}
 use Rattle.scc_svtree.specs.declared.module.SvVar.{SvVar}
-use Rattle.scc_meaning_memory.specs.Array.{Array, IsNamed, element_name, elements_from, nexts_of, var_named, whole, width_of}
+use Rattle.scc_meaning_memory.specs.Array.{Array, IsNamed, element_name, elements_from, nexts_of, var_named, tree, whole, width_of}
 use Rattle.scc_meaning_memory.specs.Uses.{Reads, other, chosen, Writes, ends, another, by_number}
-use Rattle.scc_meaning_memory.specs.Taken.{IsTaken, Uses, comb, edge, Every, SetFits, own_set, reset_free, starts, without_starts}
-use Rattle.scc_meaning_memory.specs.WorkedTaken.{puts, buffer, buffer_vars, buffer_uses, buffer_blocks, buffer_edge, clearing}
+use Rattle.scc_meaning_memory.specs.Taken.{IsTaken, Uses, comb, edge, Every, SetsFit, no_more, own, set_other, reset_free, starts, without_starts}
+use Rattle.scc_meaning_memory.specs.WorkedTaken.{puts, buffer, buffer_vars, buffer_uses, buffer_blocks, buffer_edge, choosing_edge, clearing}
 
 abbrev widths : ℕ → ℕ
 widths = width_of buffer_vars
@@ -46,11 +46,8 @@ abbrev set_by : List ℕ → ℕ → List ℕ
 set_by ks (suc zero) = ks
 set_by ks k = []
 
-fits : (width : ℕ → ℕ) (k : ℕ) (s : Register) → slice_get (record { target = 0; value = whole 1 } ∷ record { target = 2; value = whole 3 } ∷ []) k ≡ Some s
-    → SetFits buffer width s (own_set buffer s)
-fits width zero s e = subst (λ s. SetFits buffer width s (own_set buffer s)) (ap (or_this (record { target = 0; value = whole 1 })) e) tt
-fits width (suc zero) s e = subst (λ s. SetFits buffer width s (own_set buffer s)) (ap (or_this (record { target = 2; value = whole 3 })) e) tt
-fits width (suc (suc k)) s e = cc
+fits : (width : ℕ → ℕ) → SetsFit buffer width (record { target = 0; value = whole 1 } ∷ record { target = 2; value = whole 3 } ∷ []) false
+fits width = own 0 [] refl (own 1 [] refl no_more)
 
 every_two : Every 2 (0 ∷ 1 ∷ [])
 every_two zero h = refl
@@ -121,6 +118,12 @@ buffer_is_taken m vs bs = record {
     used zero b e = subst first_block (ap (or_this (buffer_edge None)) e) at_first
     used (suc zero) b e = subst (λ b. Uses m buffer b [] (0 ∷ 1 ∷ []) false) (ap (or_this (buffer_edge None)) e) (edge refl refl (fits (width_of m.vars)))
     used (suc (suc k)) b e = cc
+
+pub edge_chooses : (m : SvModule) → m.vars ≡ buffer_vars → Uses m buffer choosing_edge [] (0 ∷ 1 ∷ []) true
+edge_chooses m vs = edge refl refl (own 0 [] refl (own 1 [] refl (set_other refl refl chosen_by_index no_more)))
+  where
+    chosen_by_index : Reads buffer (width_of m.vars) None (tree buffer 4 1 2) true
+    chosen_by_index = subst (λ xs. Reads buffer (width_of xs) None (tree buffer 4 1 2) true) (sym vs) (chosen 4 2 (omega arith) (omega arith) (inl (omega arith)) (plain 4))
 
 -- what an edge's use tells of its reset
 free : {m : SvModule} {a : Array} {rising : Bool} {clock : ℕ} {reset : Option ResetCode} {sets : List Register} {begun set : List ℕ} {b : Bool}

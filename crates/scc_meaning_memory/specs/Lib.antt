@@ -4,6 +4,7 @@ pub mod Taken
 pub mod Memory
 pub mod Edges
 pub mod Steps
+pub mod HasMemories
 pub mod Matches
 pub mod Text
 pub mod Worked

@@ -1,17 +1,15 @@
 -- Steps of a module with memories, and what it shows of a design (IEEE 1800-2017, 9.2.2.4). A step is that of any module.
-use Rattle.std.specs.Prelude.{◌≡◌, ◌<◌, ◌≤◌, ◌^◌, ◌*◌, ◌-◌, codes, ℕ, ◌+◌, nat_eq, Bool, true, false, not, cond, ◌&&◌, ◌||◌, List, [], ◌∷◌, map, flat_map, length, Option, Some, None, option_and_then, slice_get, position, bytes_eq, if◌then◌else◌}
+use Rattle.std.specs.Prelude.{◌≡◌, ℕ, ◌+◌, nat_eq, Bool, true, false, not, cond, ◌&&◌, ◌||◌, List, [], ◌∷◌, map, flat_map, Option, Some, None, option_and_then, position, bytes_eq, if◌then◌else◌}
 use Rattle.std.specs.List.{list_any, range_with_len}
 use Rattle.scc_meaning.specs.Location.{Location}
 use Rattle.scc_running.specs.Run as run
 use Rattle.scc_running.specs.Statement.{Shot, Seen}
 use Rattle.scc_svtree.specs.Steps.{StepInput, input_at}
 use Rattle.scc_running.specs.Design.{Design}
-use Rattle.scc_svtree.specs.declared.module.SvModule.{SvModule}
 use Rattle.scc_svtree.specs.declared.module.SvVar.{SvVar}
 use Rattle.scc_meaning_text.specs.Emitted.{outputs_from, has_edge, is_clock_name}
-use Rattle.scc_meaning_text.specs.Emitted as plain
-use Rattle.scc_meaning_memory.specs.Array.{Array, element_name, with_part, is_of, var_named, width_of}
-use Rattle.scc_meaning_memory.specs.Taken.{IsTaken, name_at}
+use Rattle.scc_meaning_memory.specs.Array.{element_name, var_named}
+use Rattle.scc_meaning_memory.specs.Taken.{name_at}
 use Rattle.scc_meaning_memory.specs.Memory.{MemModule, MemBlock, Comb, Edge, Memory, Valuation, IsSettled}
 use Rattle.scc_meaning_memory.specs.Edges.{after_resets, after_edges}
 
@@ -95,59 +93,3 @@ AreSeen text m _ _ = ⊥
 
 abbrev pub Runs : (Location → List ℕ) → Design → MemModule → Valuation → List run.Step → List Seen → Type 0
 Runs text d m x steps seen = (xss : List (List Valuation)) × Steps m x (map (step_of text d m) steps) xss × AreSeen text m xss seen
-
--- A memory stands for a taken array.
-pub record StandsFor (m : SvModule) (b : Memory) (a : Array) : Type 0 where
-  pub taken : IsTaken m a
-  pub name : b.name ≡ a.name
-  pub size : b.size ≡ length a.elements
-  pub width : (v : ℕ) → list_any (nat_eq v) a.elements ≡ true → width_of m.vars v ≡ b.width
-
-abbrev pub SameShot : Shot → Shot → Type 0
-SameShot a b = (a.outputs ≡ b.outputs) × ((l : Location) (w : ℕ) → a.registers l ≡ Some w → b.registers l ≡ Some w)
-
-abbrev pub SameAfter : Option Shot → Option Shot → Type 0
-SameAfter None None = Unit {0}
-SameAfter (Some a) (Some b) = SameShot a b
-SameAfter _ _ = ⊥
-
-abbrev pub AllSame : List Seen → List Seen → Type 0
-AllSame [] [] = Unit {0}
-AllSame (a ∷ more) (b ∷ rest) = SameShot a.before b.before × SameAfter a.after b.after × AllSame more rest
-AllSame _ _ = ⊥
-
--- Valuations agree in all registers: word i of a memory is that of its element i, and every other register has one word, whatever the names of locations are, so
--- that those of threads' states and counters are among them.
-abbrev pub Agree : SvModule → MemModule → (ℕ → ℕ) → Valuation → Type 0
-Agree m n x y = (text : Location → List ℕ) (l : Location) (w : ℕ) → plain.register text m x l ≡ Some w → register text n y l ≡ Some w
-
--- Of an array that gave way to a memory no element and no next value is left.
-abbrev pub IsGone : MemModule → Array → Type 0
-IsGone n a = (k : ℕ) → k < length a.elements → (var_named n.vars (element_name a.name k) ≡ None) × (var_named n.vars (with_part (element_name a.name k) (codes "n")) ≡ None)
-
--- What writes a memory: one bit, the fewest bits that hold the number of the last element, and an element's bits; `$$w`, `$$a` and `$$d` behind the name.
-pub record HasParts (n : MemModule) (b : Memory) : Type 0 where
-  pub write : var_named n.vars (with_part b.name (codes "w")) ≡ Some b.write
-  pub address : var_named n.vars (with_part b.name (codes "a")) ≡ Some b.address
-  pub value : var_named n.vars (with_part b.name (codes "d")) ≡ Some b.value
-  pub one_bit : width_of n.vars b.write ≡ 1
-  pub holds_last : b.size - 1 < 2 ^ width_of n.vars b.address
-  pub fewest : 2 ^ width_of n.vars b.address ≤ 2 * (b.size - 1)
-  pub element_wide : width_of n.vars b.value ≡ b.width
-
--- A module with its taken arrays as memories, and no other. Elements and next values are gone, every other variable stays; word i of a memory is that of its
--- element i. From valuations that agree both go through the same steps and show the same, in outputs and in all registers.
-pub record HasMemories (m : SvModule) (n : MemModule) : Type 0 where
-  pub only : (k : ℕ) (b : Memory) → slice_get n.memories k ≡ Some b → (a : Array) × StandsFor m b a
-  pub all : (a : Array) → IsTaken m a → (k : ℕ) × (b : Memory) × (slice_get n.memories k ≡ Some b) × StandsFor m b a
-  pub apart : (j k : ℕ) (b c : Memory) → slice_get n.memories j ≡ Some b → slice_get n.memories k ≡ Some c → b.name ≡ c.name → j ≡ k
-  pub parts : (k : ℕ) (b : Memory) → slice_get n.memories k ≡ Some b → HasParts n b
-  pub name : n.name ≡ m.name
-  pub gone : (a : Array) → IsTaken m a → IsGone n a
-  pub others : (v : ℕ) (x : SvVar) → slice_get m.vars v ≡ Some x → ((a : Array) → IsTaken m a → is_of a v ≡ false) → (u : ℕ) × (slice_get n.vars u ≡ Some x)
-  pub words : (x : ℕ → ℕ) (y : Valuation) → Agree m n x y → (k i v : ℕ) (b : Memory) (a : Array) → slice_get n.memories k ≡ Some b → StandsFor m b a
-      → slice_get a.elements i ≡ Some v → y.elements k i ≡ x v
-  pub runs : (x : ℕ → ℕ) (y : Valuation) → Agree m n x y → (text : Location → List ℕ) (d : Design) (steps : List run.Step) (a : List Seen) → plain.Runs text d m x steps a
-      → (b : List Seen) × Runs text d n y steps b
-  pub same : (x : ℕ → ℕ) (y : Valuation) → Agree m n x y → (text : Location → List ℕ) (d : Design) (steps : List run.Step) (a b : List Seen) → plain.Runs text d m x steps a → Runs text d n y steps b
-      → AllSame a b

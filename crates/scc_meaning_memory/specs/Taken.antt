@@ -1,5 +1,5 @@
 -- Arrays that can be memories: at each edge at most one element gets a new value. This project's own.
-use Rattle.std.specs.Prelude.{◌≡◌, ℕ, ◌≤◌, ◌<◌, nat_eq, Bool, true, false, not, ◌&&◌, List, [], ◌∷◌, ◌++◌, map, length, Option, Some, None, option_map, slice_get, unwrap_or, bytes_eq, codes, if◌then◌else◌}
+use Rattle.std.specs.Prelude.{◌≡◌, ℕ, ◌≤◌, ◌<◌, nat_eq, Bool, true, false, not, ◌&&◌, ◌||◌, List, [], ◌∷◌, ◌++◌, map, length, Option, Some, None, option_map, slice_get, unwrap_or, bytes_eq, codes, if◌then◌else◌}
 use Rattle.std.specs.List.{list_all, range_with_len}
 use Rattle.scc_svtree.specs.declared.module.SvModule.{SvModule}
 use Rattle.scc_svtree.specs.declared.module.SvVar.{SvVar}
@@ -47,7 +47,7 @@ without_starts vars a seen (Assign (Whole v) e r) = if is_start vars v.0 e && no
     then kept_if (own_start a v.0 e) (Assign (Whole v) e) (without_starts vars a (v.0 ∷ seen) r) else Assign (Whole v) e r
 without_starts vars a seen c = c
 
--- what an edge sets: an element its own next value; or another variable a value that reads well
+-- the number of the element to which an edge gives its own next value
 abbrev pub own_set : Array → Register → List ℕ
 own_set a s = own_start_of s.value
   where
@@ -67,9 +67,12 @@ abbrev pub own_sets : Array → List Register → List ℕ
 own_sets a [] = []
 own_sets a (s ∷ ss) = own_set a s ++ own_sets a ss
 
-abbrev pub SetFits : Array → (ℕ → ℕ) → Register → List ℕ → Type 0
-SetFits a width s (k ∷ ks) = Unit {0}
-SetFits a width s [] = (is_of a s.target ≡ false) × ((b : Bool) × Reads a width None s.value b)
+-- What an edge sets: elements their own next values, and other variables values that read well. The flag says whether a choice by a variable stands there.
+pub data SetsFit (a : Array) (width : ℕ → ℕ) : List Register → Bool → Type 0 where
+  no_more : SetsFit a width [] false
+  own : {s : Register} {ss : List Register} {b : Bool} → (k : ℕ) (ks : List ℕ) → own_set a s ≡ k ∷ ks → SetsFit a width ss b → SetsFit a width (s ∷ ss) b
+  set_other : {s : Register} {ss : List Register} {b c : Bool} → own_set a s ≡ [] → is_of a s.target ≡ false → Reads a width None s.value b
+      → SetsFit a width ss c → SetsFit a width (s ∷ ss) (b || c)
 
 abbrev pub reset_free : Array → Option ResetCode → Bool
 reset_free a None = true
@@ -78,8 +81,8 @@ reset_free a (Some r) = not (is_of a r.signal) && list_all (λ l. not (is_of a l
 -- How a block uses the array: the elements that it begins, those that it sets, and whether a variable chooses among them.
 pub data Uses (m : SvModule) (a : Array) : BlockCode → (begun set : List ℕ) → Bool → Type 0 where
   comb : {c : Code} {b : Bool} {n : ℕ} → Writes a (width_of m.vars) (without_starts m.vars a [] c) b n → n ≤ 1 → Uses m a (Comb c) (starts m.vars a [] c) [] b
-  edge : {rising : Bool} {clock : ℕ} {reset : Option ResetCode} {sets : List Register} → is_of a clock ≡ false → reset_free a reset ≡ true
-      → ((k : ℕ) (s : Register) → slice_get sets k ≡ Some s → SetFits a (width_of m.vars) s (own_set a s)) → Uses m a (Edge rising clock reset sets) [] (own_sets a sets) false
+  edge : {rising : Bool} {clock : ℕ} {reset : Option ResetCode} {sets : List Register} {b : Bool} → is_of a clock ≡ false → reset_free a reset ≡ true
+      → SetsFit a (width_of m.vars) sets b → Uses m a (Edge rising clock reset sets) [] (own_sets a sets) b
 
 abbrev pub Every : ℕ → List ℕ → Type 0
 Every n ks = (k : ℕ) → k < n → among k ks ≡ true

@@ -1,6 +1,6 @@
 -- A buffer of two elements of 4 bits, as code: `m[i] = d; x = m[i];` for an index i of one bit, and an edge that keeps both; and the same edge where a reset clears
 -- the elements.
-use Rattle.std.specs.Prelude.{ℕ, true, List, [], ◌∷◌, Option, codes}
+use Rattle.std.specs.Prelude.{ℕ, true, List, [], ◌∷◌, Option, None, codes}
 use Rattle.scc_svtree.specs.declared.module.SvVar.{SvVar}
 use Rattle.scc_svtree.specs.declared.expr.SvLeft.TheVariants.{Whole}
 use Rattle.scc_svtree.specs.Term.{Term}
@@ -26,6 +26,10 @@ buffer_uses = Case (whole 4) (Arm 1 0 (puts 1 (whole 5) End) (Arm 1 1 (puts 3 (w
 
 abbrev pub buffer_edge : Option ResetCode → BlockCode
 buffer_edge reset = Edge true 7 reset (record { target = 0; value = whole 1 } ∷ record { target = 2; value = whole 3 } ∷ [])
+
+-- an edge that keeps both, and gives x the element at i
+abbrev pub choosing_edge : BlockCode
+choosing_edge = Edge true 7 None (record { target = 0; value = whole 1 } ∷ record { target = 2; value = whole 3 } ∷ record { target = 6; value = tree buffer 4 1 2 } ∷ [])
 
 abbrev pub buffer_blocks : Option ResetCode → List BlockCode
 buffer_blocks reset = Comb (puts 1 (whole 0) (puts 3 (whole 2) buffer_uses)) ∷ buffer_edge reset ∷ []

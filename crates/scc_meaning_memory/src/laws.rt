@@ -6,14 +6,14 @@ ghost use Rattle.scc_svtree.specs.declared.module.SvModule.{SvModule};
 ghost use Rattle.scc_svtree.specs.declared.expr.SvBinary.TheVariants.{Lt};
 ghost use Rattle.scc_svtree.specs.Term.{Cond, Binary, Literal};
 ghost use Rattle.scc_meaning_memory.specs.Array.{Array, IsNamed, element_name, with_part, width_of, tree, whole};
-ghost use Rattle.scc_meaning_memory.specs.Taken.{IsTaken};
+ghost use Rattle.scc_meaning_memory.specs.Taken.{IsTaken, Uses};
 ghost use Rattle.scc_meaning_memory.specs.Memory.{Edge, Element, End, MemModule, Memory, Part, run};
 ghost use Rattle.scc_meaning_memory.specs.Edges.{after_edges};
-ghost use Rattle.scc_meaning_memory.specs.Steps.{HasMemories, HasParts, IsGone, StandsFor};
+ghost use Rattle.scc_meaning_memory.specs.HasMemories.{HasMemories, HasParts, IsGone, StandsFor};
 ghost use Rattle.scc_meaning_memory.specs.Matches.{MemoryShows};
 ghost use Rattle.scc_meaning_memory.specs.Text.{IsBlockText, IsCodeText, IsTermText, MemReads, Spelled, memory_text, spelled_in};
 ghost use Rattle.scc_svtree.specs.declared.expr.SvLeft.TheVariants.{Whole};
-ghost use Rattle.scc_meaning_memory.specs.WorkedTaken.{buffer, buffer_vars, buffer_blocks, clearing};
+ghost use Rattle.scc_meaning_memory.specs.WorkedTaken.{buffer, buffer_vars, buffer_blocks, choosing_edge, clearing};
 ghost use Rattle.scc_meaning_text.specs.Renamed.{block_code};
 ghost use Rattle.scc_meaning_memory.specs.Worked.{vars, array, memory, read_code, with_memory, here};
 
@@ -46,6 +46,11 @@ pub fn modules_with_memories_show_designs()
 /// A buffer that a variable reads and writes is taken, whatever module has it.
 pub fn buffers_are_taken()
     ensures { (m : SvModule) → m.vars ≡ buffer_vars → map block_code m.blocks ≡ buffer_blocks None → IsTaken m buffer }
+{}
+
+/// What an edge chooses counts: a variable takes the element that another variable chooses.
+pub fn an_edge_chooses_an_element()
+    ensures { (m : SvModule) → m.vars ≡ buffer_vars → Uses m buffer choosing_edge [] (0 ∷ 1 ∷ []) true }
 {}
 
 /// The same with a reset that clears its elements isn't.
