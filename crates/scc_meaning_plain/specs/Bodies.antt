@@ -91,10 +91,6 @@ abbrev pub is_first : Here → List ℕ → Left → Bool
 is_first h before (Local p n) = nat_le h.function.params n && (not (among n (plain_declared h.function.body)) && not (among n before))
 is_first h before l = false
 
-abbrev pub cell_number : core.Left → Option ℕ
-cell_number (core.Cell p n) = Some n
-cell_number l = None
-
 abbrev pub pointed : Bool → core.Left → stmt.Pointed
 pointed true (core.Cell p n) = stmt.Declared n
 pointed declares l = stmt.Assigned l

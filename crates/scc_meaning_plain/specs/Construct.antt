@@ -8,7 +8,7 @@ use Rattle.scc_base.specs.declared.code.Code.TheVariants as reason
 use Rattle.scc_meaning.specs.Location.{Location, Part, Element, Root, Top, same_path}
 use Rattle.scc_meaning_core.specs.First.{refused}
 use Rattle.scc_meaning_core.specs.Resolved.{Tried, Made, Stopped, and_made, made_map}
-use Rattle.scc_meaning_plain.specs.Term.{Left, Argument}
+use Rattle.scc_meaning_plain.specs.Term.{Left, Index, Argument}
 use Rattle.scc_meaning_plain.specs.Program.{Base, Code, End, Declare, Assign, Point, Write, Call, If, Loop, Block, Exit, Return, Wait, Make, Bind, Process, Sensitive, Quiet, Reset, Member}
 use Rattle.scc_meaning_plain.specs.Types.{declared_at, is_direct}
 use Rattle.scc_meaning_plain.specs.Bodies.{elements}
@@ -85,7 +85,9 @@ abbrev pub make_at : Making → Site → Place → Base → Bool → List Argume
 make_at make s p base vector args None = Made s.now
 make_at make s p base vector args (Some l) = made_at make s p base vector args l l.root
 
+-- whether a pointer is one to a vector, be it an element of an array
 abbrev pub ends_in_vector : Site → Left → Bool
+ends_in_vector s (Index l e) = ends_in_vector s l
 ends_in_vector s l = unwrap_or (option_map (λ m. m.shape.vector) (declared_at s.plain s.function l)) false
 
 -- `sensitive`, `dont_initialize` and a reset speak of the last process that this constructor declared (E406)
@@ -99,10 +101,6 @@ most_turns = 65537
 abbrev pub is_true : ℕ → Bool
 is_true zero = false
 is_true (suc n) = true
-
-abbrev pub choose : ℕ → Ran → Ran → Ran
-choose zero a b = b
-choose (suc n) a b = a
 
 -- A turn begins where the loop's own test lets it in; the 65,537th of the whole construction is refused (E412).
 abbrev pub turned : Place → Now → (Now → Ran) → Ran

@@ -51,9 +51,6 @@ abbrev pub size_here : List ℕ → ℕ
 size_here [] = unknown
 size_here (n ∷ ns) = n
 
-abbrev pub called_name : Here → ℕ → ℕ
-called_name h n = 0
-
 module _ (h : Here) (result_of : ℕ → CellName) where
   abbrev mutual
     -- with what it stands in; what it names by itself is its cell behind that

@@ -1,12 +1,12 @@
 -- `struct C { int n; C(int k) : n(k) {} };` and a top `C* q; C r; int* z;` whose constructor is
--- `T() : r(3), z(&r.n) { for (int i = 0; i < 2; i++) *z = *z + i; q = new C(*z + 4); }`.
+-- `T() : r(3), z(&r.n) { for (int i = 0; i < 2; i++) *z = *z + i; q = new C(*z + 4); }`. And a top with an array of two pointers to vectors.
 use Rattle.std.specs.Prelude.{ℕ, true, false, List, [], ◌∷◌, map, Option, Some, None}
 use Rattle.scc_kinds.specs.declared.op.Op.TheVariants as op
 use Rattle.scc_kinds.specs.declared.kind.Kind.TheVariants as kind
 use Rattle.scc_meaning_core.specs.Resolved.{Tried, Made}
-use Rattle.scc_meaning_plain.specs.Term.{Term, Left, Literal, Load, Binary, Local, This, Follow, Whole, Value, Address}
+use Rattle.scc_meaning_plain.specs.Term.{Term, Left, Literal, Load, Binary, Local, This, Follow, Index, Whole, Value, Address}
 use Rattle.scc_meaning_plain.specs.Term as term
-use Rattle.scc_meaning_plain.specs.Program.{Base, Number, OfClass, Pointer, Member, End, Assign, Point, If, Loop, Block, Exit, Make, Function, Plain}
+use Rattle.scc_meaning_plain.specs.Program.{Base, Number, OfClass, Signal, Pointer, Member, End, Assign, Point, If, Loop, Block, Exit, Make, Function, Plain}
 use Rattle.scc_meaning_plain.specs.Design.{Design, Node}
 use Rattle.scc_meaning_plain.specs.Worked.{here, int, member, number}
 
@@ -59,6 +59,20 @@ pointers = record {
   classes =
       record { name = 34; place = here; is_module = false; members = member 35 (Number int) ∷ []; constructor = Some 0 }
       ∷ record { name = 36; place = here; is_module = true; members = pointer 37 (OfClass 0) ∷ member 38 (OfClass 0) ∷ pointer 39 (Number int) ∷ []; constructor = Some 1 } ∷ [];
+}
+
+-- `sc_vector<sc_signal<int> >* v[2]; T() { v[0] = new sc_vector<sc_signal<int> >("a", 3); }`
+abbrev pub to_vectors : Plain
+to_vectors = record {
+  top = 0;
+  functions = record { name = 40; place = here; class = Some 0; params = 0; locals = []; result = None; inits = End; body = Make here (Index (own 0) (number 0)) (Signal int) (Value (number 3) ∷ []) End } ∷ [];
+  classes = record {
+    name = 41;
+    place = here;
+    is_module = true;
+    members = record { name = 42; place = here; shape = record { base = Signal int; reach = Pointer; vector = true; sizes = 2 ∷ [] } } ∷ [];
+    constructor = Some 0;
+  } ∷ [];
 }
 
 -- the nodes of the objects that are left

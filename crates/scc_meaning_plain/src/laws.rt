@@ -9,7 +9,7 @@ ghost use Rattle.scc_meaning_plain.specs.Grown.{nothing};
 ghost use Rattle.scc_meaning_plain.specs.Made.{built, none_given, grown_of};
 ghost use Rattle.scc_meaning_plain.specs.Elaborated.{elaborated};
 ghost use Rattle.scc_meaning_core.specs.Resolved.{and_made, made_map, Made};
-ghost use Rattle.scc_meaning_plain.specs.WorkedMade.{pointers, nodes_of};
+ghost use Rattle.scc_meaning_plain.specs.WorkedMade.{pointers, to_vectors, nodes_of};
 ghost use Rattle.scc_meaning_plain.specs.WorkedRun.{word_after};
 ghost use Rattle.scc_meaning_plain.specs.Design as design;
 ghost use Rattle.scc_meaning_plain.specs.Stages.{accepted, compiled};
@@ -42,6 +42,11 @@ pub fn pointers_lead_to_what_is_made()
     ensures { nodes_of (elaborated false pointers) ≡ design.Module 1 ∷ design.Pointer (Some 5) ∷ design.Module 0 ∷ design.Variable int 4 ∷ design.Pointer (Some 3) ∷ design.Module 0 ∷ design.Variable int 8 ∷ [] }
 {}
 
+/// What is made for an element of an array of pointers to vectors is a vector: two pointers and three signals, and no object at the vector's own path.
+pub fn an_element_leads_to_a_vector()
+    ensures { nodes_of (elaborated false to_vectors) ≡ design.Module 0 ∷ design.Pointer None ∷ design.Pointer None ∷ design.Signal int ∷ design.Signal int ∷ design.Signal int ∷ [] }
+{}
+
 /// The method runs its calls: 1 and 0 are 1.
 pub fn a_method_with_calls_runs()
     ensures { word_after ≡ Some 1 }
@@ -60,5 +65,5 @@ pub fn the_stages_accept()
 
 /// No statements make nothing of what is made, in a constructor and by the machine.
 pub fn constructors_and_processes_agree()
-    ensures { (make : Making) (s : Site) → Agrees make s End → Agrees make s End }
+    ensures { (make : Making) (s : Site) → Agrees make s End }
 {}
