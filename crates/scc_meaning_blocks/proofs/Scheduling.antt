@@ -1,7 +1,6 @@
 -- The schedule of the reader and the writer of a signal.
-use Rattle.std.proofs.Common.{◌≡◌, ℕ, zero, suc, Bool, true, false, ◌||◌, ◌⊎◌, inl, inr, ◌≢◌, nat_eq, List, [], ◌∷◌, Option, Some, None, refl, sym, ap, ◌∙◌, arith, true≢false}
+use Rattle.std.proofs.Common.{◌≡◌, ℕ, zero, suc, true, false, ◌||◌, ◌⊎◌, inl, inr, ◌≢◌, nat_eq, List, [], ◌∷◌, Option, Some, None, refl, sym, ap, ◌∙◌, arith, true≢false}
 use Rattle.std.proofs.lemmas.Bool.Decides.{eqb_tells}
-use Rattle.scc_meaning.specs.Location.{Location}
 use Rattle.scc_running.specs.Design.{Process}
 use Rattle.scc_running.specs.Process.{State}
 use Rattle.scc_running.specs.Run.{Shown, observed, restarts}

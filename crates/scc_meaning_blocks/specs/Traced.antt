@@ -1,6 +1,5 @@
 -- The trace of a design on a stimulus: what its steps show from storage 0, line by line; and the line of a generated design. This project's own.
-use Rattle.std.specs.Prelude.{◌≡◌, ℕ, ◌+◌, Bool, true, false, nat_eq, List, [], ◌∷◌, ◌++◌, map, flat_map, length, sum, filter, Option, Some, None, unwrap_or, option_map, codes, decimal, Ok, if◌then◌else◌}
-use Rattle.std.specs.List.{list_any}
+use Rattle.std.specs.Prelude.{◌≡◌, ℕ, ◌+◌, Bool, true, false, nat_eq, List, [], ◌∷◌, ◌++◌, map, length, sum, filter, Option, Some, None, unwrap_or, option_map, codes, decimal, Ok, if◌then◌else◌}
 use Rattle.scc_kinds.specs.declared.kind.Word.{Word}
 use Rattle.scc_meaning.specs.Location.{Location}
 use Rattle.scc_running.specs.Design.{Design, inputs, outputs, clocks}
