@@ -108,9 +108,6 @@ module _ (s : Source) (w : World Answer) where
   abbrev pub program_in : ℕ → Tried code.Plain
   program_in top = unless_refused (refusal_of (walks top)) (plain_of (staged (walks top)).tally.queue)
 
-abbrev pub walks_of : Source → ℕ → Walks
-walks_of s top = walks s (outermost s) top
-
 -- the plain program of a source and the name of a top, or the first refusal
 abbrev pub program_of : Source → ℕ → Tried code.Plain
 program_of s top = program_in s (outermost s) top

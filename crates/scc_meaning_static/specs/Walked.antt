@@ -1,4 +1,5 @@
--- A value with the walk that finds it: parts, and what comes behind them. There is a value exactly where the walk meets no fault.
+-- A value with the walk that finds it: parts, and what comes behind them. There is a value exactly where the walk meets no fault. This
+-- project's own.
 use Rattle.std.specs.Prelude.{List, [], ◌∷◌, ◌++◌, Option, Some, None, option_and_then}
 use Rattle.scc_base.specs.declared.refusal.Place.{Place}
 use Rattle.scc_base.specs.declared.code.Code.{Code as Reason}
@@ -28,8 +29,3 @@ behind (Some x) f = f x
 
 abbrev pub and_walk : {A B : Type 0} → Walked A → (A → Walked B) → Walked B
 and_walk x f = record { value = option_and_then (λ a. (f a).value) x.value; walk = x.walk ++ behind x.value (λ a. (f a).walk) }
-
--- all of a list, from the left
-abbrev pub all_walked : {A B : Type 0} → (A → Walked B) → List A → Walked (List B)
-all_walked f [] = pure []
-all_walked f (x ∷ xs) = and_walk (f x) (λ y. and_walk (all_walked f xs) (λ ys. pure (y ∷ ys)))
