@@ -1,4 +1,4 @@
--- The statements of copied bodies.
+-- The statements of copied bodies (ISO C++ [stmt], [expr.call]); that calls are copied is this project's own.
 use Rattle.std.specs.Prelude.{ℕ, suc, Bool, true, false, not, ◌&&◌, nat_eq, nat_le, List, [], ◌∷◌, ◌++◌, map, flat_map, Option, Some, None, option_map, option_and_then, slice_get, unwrap_or, if◌then◌else◌}
 use Rattle.std.specs.List.{list_any, range_with_len}
 use Rattle.scc_base.specs.declared.refusal.Place.{Place}

@@ -1,4 +1,5 @@
--- The declarations of a source's tree. A class's member variables go among its other members, each before the first of those that stand behind it in the text.
+-- The declarations of a source's tree. A class's member variables go among its other members, each before the first of those that stand behind it in the
+-- text. This project's own.
 use Rattle.std.specs.Prelude.{ℕ, suc, ◌+◌, nat_le, Bool, List, [], ◌∷◌, ◌++◌, length, map, take_while, drop, Option, Some, None, option_map}
 use Rattle.scc_base.specs.declared.refusal.Place.{Place}
 use Rattle.scc_base.specs.declared.names.Name.{Name}

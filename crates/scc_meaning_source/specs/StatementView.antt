@@ -1,4 +1,4 @@
--- The statements of a source's tree, without their boxes. An empty statement leaves none.
+-- The statements of a source's tree, without their boxes. An empty statement leaves none. This project's own.
 use Rattle.std.specs.Prelude.{List, [], ◌∷◌, map, Option, Some, None, option_map}
 use Rattle.scc_base.specs.declared.refusal.Place.{Place}
 use Rattle.scc_tree.specs.declared.local.LocalDecl.{LocalDecl}

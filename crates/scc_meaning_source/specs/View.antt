@@ -1,4 +1,4 @@
--- The expressions and types of a source's tree, without their boxes.
+-- The expressions and types of a source's tree, without their boxes. This project's own.
 use Rattle.std.specs.Prelude.{Bool, true, false, List, [], ◌∷◌, map, Option, Some, None}
 use Rattle.scc_base.specs.declared.refusal.Place.{Place}
 use Rattle.scc_tree.specs.declared.expr.Expr.{Expr, fold-Expr}
