@@ -1,4 +1,4 @@
--- The bound on the steps of a process, as far as a number of 64 bits goes.
+-- The bound on the steps of a process, as far as a number of 64 bits goes. This project's own.
 use Rattle.std.specs.Prelude.{ℕ, ◌+◌, ◌*◌, ◌-◌, ◌^◌, min, max, Bool, true, false, ◌||◌}
 use Rattle.scc_core.specs.declared.program.CoreProcess.{CoreProcess}
 use Rattle.scc_meaning_core.specs.Code.{Code, size, holds_wait}

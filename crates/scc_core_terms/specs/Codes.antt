@@ -1,4 +1,4 @@
--- The code that a core's statements stand for.
+-- The code that a core's statements stand for. This project's own.
 use Rattle.std.specs.Prelude.{List, [], ◌∷◌, map, Option, Some, None}
 use Rattle.scc_base.specs.declared.refusal.Place.{Place}
 use Rattle.scc_core.specs.declared.stmt.CoreStmt.{CoreStmt, fold-CoreStmt}

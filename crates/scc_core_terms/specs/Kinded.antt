@@ -1,5 +1,5 @@
 -- What a tree says of a load is the kind of what is taken of it, a bit of `x[3]`. A term's load has the kind of what stands there, so that the bits
--- of a variable are those of its word.
+-- of a variable are those of its word. This project's own.
 use Rattle.std.specs.Prelude.{option_map, option_and_then, unwrap_or}
 use Rattle.scc_kinds.specs.declared.kind.Kind.{Kind}
 use Rattle.scc_meaning_core.specs.Static.{Cells, first_of, found}

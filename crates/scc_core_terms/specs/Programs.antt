@@ -1,4 +1,4 @@
--- The program that a core stands for.
+-- The program that a core stands for. This project's own.
 use Rattle.std.specs.Prelude.{Bool, true, false, List, map, option_map}
 use Rattle.scc_base.specs.declared.path.PathPart.{PathPart}
 use Rattle.scc_core.specs.declared.program.Core.{Core}

@@ -1,4 +1,4 @@
--- The terms that a core's expressions stand for, and the locations: what the trees say, without their boxes.
+-- The terms that a core's expressions stand for, and the locations: what the trees say, without their boxes. This project's own.
 use Rattle.std.specs.Prelude.{ℕ, List, [], ◌∷◌, map, Option, Some, None}
 use Rattle.scc_base.specs.declared.refusal.Place.{Place}
 use Rattle.scc_base.specs.declared.names.Name.{Name}

@@ -1,4 +1,4 @@
--- Locations: what a design's names name.
+-- Locations: what a design's names name. This project's own.
 use Rattle.std.specs.Prelude.{ℕ, List, [], ◌∷◌, ◌++◌, Bool, true, false, ◌&&◌, nat_eq}
 
 -- a step of a path: a member by the number of its name, or an element by its index

@@ -1,5 +1,5 @@
 -- What values of expressions rest on; the values themselves are in scc_running. Values are words in the expressions' kinds. None: a null pointer was followed,
--- or an operator has no rule for its operands.
+-- or an operator has no rule for its operands. This project's own.
 use Rattle.std.specs.Prelude.{ℕ, zero, suc, Bool, true, false, List, Option, Some, None, option_and_then, if◌then◌else◌, nat_lt, unwrap_or}
 use Rattle.scc_kinds.specs.declared.kind.Kind.{Kind}
 use Rattle.scc_kinds.specs.declared.kind.Kind.TheVariants as kind

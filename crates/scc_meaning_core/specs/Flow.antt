@@ -1,5 +1,5 @@
 -- One walk forward with sets of cells, those that some path to here hasn't written whole; and the loops through whose bodies a path
--- goes without a wait. What they tell of paths is said by `TellsMisses`, `TellsEarly` and `TellsIdle`.
+-- goes without a wait. What they tell of paths is said by `TellsMisses`, `TellsEarly` and `TellsIdle`. This project's own.
 use Rattle.std.specs.Prelude.{◌≡◌, ℕ, suc, Bool, true, false, ◌||◌, ◌&&◌, not, nat_eq, List, [], ◌∷◌, ◌++◌, filter, map, Some, slice_get}
 use Rattle.std.specs.List.{list_any}
 use Rattle.scc_base.specs.declared.refusal.Place.{Place}

@@ -1,4 +1,4 @@
--- Names by patterns: which cells a location may name, whatever its indices that are not static are.
+-- Names by patterns: which cells a location may name, whatever its indices that are not static are. This project's own.
 use Rattle.std.specs.Prelude.{ℕ, ◌+◌, ◌*◌, Bool, true, false, not, ◌&&◌, nat_eq, nat_lt, List, [], ◌∷◌, ◌++◌, map, Option, Some, None, if◌then◌else◌}
 use Rattle.scc_meaning.specs.Location.{Part}
 use Rattle.scc_meaning.specs.Location as location

@@ -1,4 +1,4 @@
--- A core without pointers: the cells that are no pointers keep their order and are numbered anew.
+-- A core without pointers: the cells that are no pointers keep their order and are numbered anew. This project's own.
 use Rattle.std.specs.Prelude.{ℕ, Bool, not, List, [], ◌∷◌, map, filter, length, take, option_map}
 use Rattle.scc_meaning_core.specs.Term.{Term, Literal, Load, Read, Convert, Unary, Binary, Choose, Bit, Range, Join, Left, Cell, Prefix, Null, Follow, Member, Index, Pick, Whole, OneBit, Bits}
 use Rattle.scc_meaning_core.specs.Code.{Code, Count, Pointed, Declared, Assigned, End, Put, Aim, If, Block, Loop, Exit, Wait}

@@ -1,5 +1,5 @@
 -- The rules of processes, code by code in the order of their numbers, within a code process by process and statement by statement.
--- What they read and write is taken from live parts, E507 and E513 from whole bodies.
+-- What they read and write is taken from live parts, E507 and E513 from whole bodies. This project's own.
 use Rattle.std.specs.Prelude.{ℕ, Bool, ◌&&◌, ◌||◌, not, nat_eq, List, [], ◌∷◌, ◌++◌, flat_map, Option, Some, None, if◌then◌else◌}
 use Rattle.std.specs.List.{list_any}
 use Rattle.scc_base.specs.declared.refusal.Place.{Place}
@@ -95,7 +95,6 @@ abbrev pub end_reached : Program → Option Refusal
 end_reached p = each p (λ q. when (q.is_thread && (alive p.cells q.body).ends) (refused reason.EndReached q.place))
 
 -- E513: an index that isn't static chooses a signal or port, on the left side after its own indices
-
 abbrev pub chosen_root : Cells → Use → Option Refusal
 chosen_root cs u = when (not (is_single cs u.left) && list_any (has_sort is_root cs) (cells_of cs u.left)) (refused reason.SignalIndex u.place)
 

@@ -1,8 +1,8 @@
 -- Segments of a live body: the code from a point to the next wait. This project's own way from `wait` (IEEE 1666-2011, 5.2.11) to states.
-use Rattle.std.specs.Prelude.{ℕ, zero, suc, ◌+◌, max, Bool, true, false, not, ◌||◌, nat_lt, List, [], ◌∷◌, ◌++◌, map, sum}
+use Rattle.std.specs.Prelude.{ℕ, zero, suc, ◌+◌, Bool, true, false, not, ◌||◌, nat_lt, List, [], ◌∷◌, ◌++◌, map, sum}
 use Rattle.scc_base.specs.declared.refusal.Place.{Place}
 use Rattle.scc_meaning_core.specs.Term.{Term}
-use Rattle.scc_meaning_core.specs.Code.{Code, End, Put, Aim, If, Block, Loop, Exit, Wait, size, height}
+use Rattle.scc_meaning_core.specs.Code.{Code, End, Put, Aim, If, Block, Loop, Exit, Wait, size}
 
 pub data Segment : Type 0 where
   -- a statement without a wait, which leaves no block that is open
@@ -85,12 +85,6 @@ segment_size (Plain c s) = size c + segment_size s
 segment_size (Test p t a b) = 1 + (segment_size a + segment_size b)
 segment_size (Halt p l n) = 1
 segment_size Finish = 0
-
-abbrev pub segment_height : Segment → ℕ
-segment_height (Plain c s) = max (height c) (segment_height s)
-segment_height (Test p t a b) = 1 + max (segment_height a) (segment_height b)
-segment_height (Halt p l n) = 1
-segment_height Finish = 0
 
 -- a segment as code: its waits are its ends
 abbrev pub segment_code : Segment → Code

@@ -1,5 +1,5 @@
 -- Resolved processes: statements in their order, each with its left side before its value. A pointer that is declared leads where it is given,
--- and an empty block stands in its place.
+-- and an empty block stands in its place. This project's own.
 use Rattle.std.specs.Prelude.{ℕ, Bool, true, false, ◌&&◌, nat_eq, Option, Some, None, option_map, unwrap_or, if◌then◌else◌}
 use Rattle.scc_base.specs.declared.refusal.Place.{Place}
 use Rattle.scc_base.specs.declared.refusal.Refusal.{Refusal}

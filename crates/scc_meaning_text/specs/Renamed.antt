@@ -1,4 +1,4 @@
--- The code of a module's blocks, and the same code with other numbers for its variables.
+-- The code of a module's blocks, and the same code with other numbers for its variables. This project's own.
 use Rattle.std.specs.Prelude.{ℕ, Bool, List, map, Option, option_map}
 use Rattle.scc_svtree.specs.declared.expr.SvLeft.{SvLeft}
 use Rattle.scc_svtree.specs.declared.expr.SvLeft.TheVariants.{Whole, Bit, Range}
