@@ -2,6 +2,7 @@
 #![tactic(auto)]
 
 pub mod halt;
+mod macros;
 pub mod marks;
 pub mod next;
 pub mod nodes;
