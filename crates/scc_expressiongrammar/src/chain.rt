@@ -9,23 +9,22 @@ ghost use Rattle.scc_syntax.specs.ParseStatements.{inner};
 ghost use Rattle.scc_terminals.specs.Text.{next_says};
 ghost use Rattle.scc_reading.specs.Reading.{pure, repeat};
 
-use crate::first::*;
-use crate::opening::*;
-use crate::postfix::*;
-use crate::primary::*;
-use crate::types::*;
-use scc_base::{List, Name, NoMemory, Place};
-use scc_bits::{Kind, Word};
-use scc_terminals::halt::{Halt, place_of};
-use scc_terminals::marks::*;
-use scc_terminals::next::*;
-use scc_terminals::nodes::*;
-use scc_terminals::part::{Bracketed, Placed, Sort, TypeRead};
+use crate::first::{
+    begins_operated, begins_operator, begins_type, goes_on, operator_at, unary_operator_at,
+};
+use crate::opening::{open_bracketed, open_expr, open_unary};
+use crate::postfix::{after_open, cargs, postfix_after};
+use crate::primary::{after_base, primary};
+use crate::types::{base_at, is_constant, type_at};
+use scc_base::{List, Place};
+use scc_terminals::marks::{colon, paren_close, paren_open, question};
+use scc_terminals::next::{begins_new_word, begins_paren_open, begins_question};
+use scc_terminals::nodes::chain_of;
+use scc_terminals::part::{Bracketed, Placed, TypeRead};
 use scc_terminals::reader::{Read, Reader};
-use scc_terminals::terminal::{Holder, Seen, Terminal};
-use scc_terminals::words::*;
-use scc_tree::{Expr, ExprNode, Family, Link, Part, PartNode, Ty, TyArg, TyNode};
-use std::alloc::Global;
+use scc_terminals::terminal::Seen;
+use scc_terminals::words::new_word;
+use scc_tree::{Expr, ExprNode, Link};
 
 /// An operand with the operators before it.
 #[tactic(auto, unfolding(scc_syntax::specs::ParseExpressions::unary))]

@@ -9,21 +9,14 @@ ghost use Rattle.scc_syntax.specs.ParseStatements.{inner};
 ghost use Rattle.scc_terminals.specs.Text.{next_says};
 ghost use Rattle.scc_reading.specs.Reading.{pure, repeat};
 
-use crate::chain::*;
-use crate::first::*;
-use crate::types::*;
-use scc_base::{List, Name, NoMemory, Place};
-use scc_bits::{Kind, Word};
+use crate::chain::{additive, argument, bracketed, expr, operand};
+use crate::first::{begins_argument, begins_expr, begins_ty_arg, begins_type};
+use crate::types::{ty_arg, type_at};
 use scc_terminals::halt::{Halt, place_of};
-use scc_terminals::marks::*;
-use scc_terminals::next::*;
-use scc_terminals::nodes::*;
-use scc_terminals::part::{Bracketed, Placed, Sort, TypeRead};
+use scc_terminals::part::{Bracketed, TypeRead};
 use scc_terminals::reader::{Read, Reader};
-use scc_terminals::terminal::{Holder, Seen, Terminal};
-use scc_terminals::words::*;
-use scc_tree::{Expr, ExprNode, Family, Link, Part, PartNode, Ty, TyArg, TyNode};
-use std::alloc::Global;
+use scc_terminals::terminal::Seen;
+use scc_tree::{Expr, TyArg};
 
 #[cycle(expression)]
 pub fn open_expr<'a>(c: Reader, ts: &'a [Seen]) -> Read<'a, Expr>

@@ -9,20 +9,18 @@ ghost use Rattle.scc_syntax.specs.ParseStatements.{inner};
 ghost use Rattle.scc_terminals.specs.Text.{next_says};
 ghost use Rattle.scc_reading.specs.Reading.{pure, repeat};
 
-use crate::first::*;
-use crate::opening::*;
-use scc_base::{List, Name, NoMemory, Place};
-use scc_bits::{Kind, Word};
+use crate::first::{begins_part, name_at};
+use crate::opening::{open_argument, open_expr, open_unary};
+use scc_base::{List, Place};
 use scc_terminals::halt::{Halt, place_of};
-use scc_terminals::marks::*;
-use scc_terminals::next::*;
-use scc_terminals::nodes::*;
-use scc_terminals::part::{Bracketed, Placed, Sort, TypeRead};
+use scc_terminals::marks::{bracket_close, comma, paren_close};
+use scc_terminals::next::{begins_comma, begins_paren_close, begins_text};
+use scc_terminals::nodes::{one, parts_of};
+use scc_terminals::part::Bracketed;
 use scc_terminals::reader::{Read, Reader};
-use scc_terminals::terminal::{Holder, Seen, Terminal};
-use scc_terminals::words::*;
-use scc_tree::{Expr, ExprNode, Family, Link, Part, PartNode, Ty, TyArg, TyNode};
-use std::alloc::Global;
+use scc_terminals::terminal::{Seen, Terminal};
+use scc_terminals::words::text;
+use scc_tree::{Expr, ExprNode, Part, PartNode};
 
 #[cycle(expression)]
 pub fn one_expr<'a>(c: Reader, ts: &'a [Seen]) -> Read<'a, Expr>

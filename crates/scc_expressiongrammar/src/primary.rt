@@ -9,21 +9,19 @@ ghost use Rattle.scc_syntax.specs.ParseStatements.{inner};
 ghost use Rattle.scc_terminals.specs.Text.{next_says};
 ghost use Rattle.scc_reading.specs.Reading.{pure, repeat};
 
-use crate::first::*;
-use crate::opening::*;
-use crate::postfix::*;
-use crate::types::*;
-use scc_base::{List, Name, NoMemory, Place};
+use crate::first::{begins_base, close_unless, name_at};
+use crate::opening::{open_expr, open_type};
+use crate::types::{base_at, is_named};
+use scc_base::{Name, NoMemory, Place};
 use scc_bits::{Kind, Word};
 use scc_terminals::halt::{Halt, place_of};
-use scc_terminals::marks::*;
-use scc_terminals::next::*;
-use scc_terminals::nodes::*;
-use scc_terminals::part::{Bracketed, Placed, Sort, TypeRead};
+use scc_terminals::marks::{comma, less, paren_close, paren_open, scope};
+use scc_terminals::next::begins_scope;
+use scc_terminals::nodes::{base_of, one};
+use scc_terminals::part::{Placed, TypeRead};
 use scc_terminals::reader::{Read, Reader};
-use scc_terminals::terminal::{Holder, Seen, Terminal};
-use scc_terminals::words::*;
-use scc_tree::{Expr, ExprNode, Family, Link, Part, PartNode, Ty, TyArg, TyNode};
+use scc_terminals::terminal::{Seen, Terminal};
+use scc_tree::{Expr, ExprNode, Ty, TyNode};
 use std::alloc::Global;
 
 // `(of)` behind a type.

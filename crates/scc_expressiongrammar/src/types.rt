@@ -10,21 +10,20 @@ ghost use Rattle.scc_syntax.specs.ParseStatements.{inner};
 ghost use Rattle.scc_terminals.specs.Text.{next_says};
 ghost use Rattle.scc_reading.specs.Reading.{pure, is_next};
 
-use crate::chain::*;
-use crate::first::*;
-use crate::opening::*;
-use crate::primary::*;
+use crate::chain::{additive, chain_after, postfix_of};
+use crate::first::{begins_close, begins_type, close, close_unless, goes_on};
+use crate::opening::{open_additive, open_ty_arg, open_type};
 use scc_base::{List, Name, NoMemory, Place};
 use scc_bits::{Kind, Word};
 use scc_terminals::halt::{Halt, place_of};
-use scc_terminals::marks::*;
-use scc_terminals::next::*;
-use scc_terminals::nodes::*;
-use scc_terminals::part::{Bracketed, Placed, Sort, TypeRead};
+use scc_terminals::marks::{comma, less};
+use scc_terminals::next::{begins_char, begins_constant, begins_int, begins_less, begins_short};
+use scc_terminals::nodes::{base_of, constant_of, held, one};
+use scc_terminals::part::{Sort, TypeRead};
 use scc_terminals::reader::{Read, Reader};
 use scc_terminals::terminal::{Holder, Seen, Terminal};
-use scc_terminals::words::*;
-use scc_tree::{Expr, ExprNode, Family, Link, Part, PartNode, Ty, TyArg, TyNode};
+use scc_terminals::words::{char, constant, int, short};
+use scc_tree::{Family, TyArg, TyNode};
 use std::alloc::Global;
 
 // An `int` that may stand there.
