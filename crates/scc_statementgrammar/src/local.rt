@@ -11,28 +11,21 @@ ghost use Rattle.scc_terminals.specs.Text.{next_is, next_says, pick};
 ghost use Rattle.scc_reading.specs.Reading.{is_next, token};
 ghost use Rattle.scc_tree.specs.Node.{stmt_of};
 
-use scc_base::{List, Name, NoMemory, Place};
-use scc_bits::Op;
-use scc_expressiongrammar::chain::{additive, argument, expr, unary};
-use scc_expressiongrammar::first::*;
-use scc_expressiongrammar::opening::{open_bracketed, open_expr, open_unary};
-use scc_expressiongrammar::postfix::{after_brackets, parts};
-use scc_expressiongrammar::primary::{after_base, plain};
-use scc_expressiongrammar::types::{base_at, is_constant, type_at};
-use scc_terminals::halt::{Halt, place_of};
-use scc_terminals::marks::*;
-use scc_terminals::next::*;
-use scc_terminals::nodes::{one, parts_of};
-use scc_terminals::part::{Bracketed, Line, TypeRead};
-use scc_terminals::reader::{Read, Reader};
-use scc_terminals::table::Table;
-use scc_terminals::terminal::{Seen, Terminal};
-use scc_terminals::words::*;
-use scc_tree::{
-    Decl, Expr, ExprNode, ForFirst, Hold, LocalDecl, LocalTree, SimpleNode, SimpleTree, Stmt,
-    StmtNode, SwitchItem, SwitchNode, Ty,
+use scc_base::{List, Name, Place};
+use scc_expressiongrammar::chain::expr;
+use scc_expressiongrammar::first::name_at;
+use scc_expressiongrammar::opening::open_expr;
+use scc_terminals::marks::{
+    and_mark, assign, bracket_close, bracket_open, comma, paren_close, paren_open, star_mark,
 };
-use std::alloc::Global;
+use scc_terminals::next::{
+    begins_and_mark, begins_assign, begins_bracket_open, begins_comma, begins_paren_open,
+    begins_star_mark,
+};
+use scc_terminals::nodes::one;
+use scc_terminals::reader::{Read, Reader};
+use scc_terminals::terminal::Seen;
+use scc_tree::{Decl, Expr, Hold, LocalDecl, LocalTree, Ty};
 
 /// What may stand before a declared name.
 #[tactic(auto, unfolding(scc_syntax::specs::ParseStatements::hold_at))]

@@ -11,29 +11,23 @@ ghost use Rattle.scc_terminals.specs.Text.{next_is, next_says, pick};
 ghost use Rattle.scc_reading.specs.Reading.{is_next, token};
 ghost use Rattle.scc_tree.specs.Node.{stmt_of};
 
-use crate::local::*;
-use scc_base::{List, Name, NoMemory, Place};
+use crate::local::local_after;
+use scc_base::Place;
 use scc_bits::Op;
-use scc_expressiongrammar::chain::{additive, argument, expr, unary};
-use scc_expressiongrammar::first::*;
-use scc_expressiongrammar::opening::{open_bracketed, open_expr, open_unary};
+use scc_expressiongrammar::chain::{argument, unary};
+use scc_expressiongrammar::first::{begins_base, begins_operated, begins_type, goes_on};
+use scc_expressiongrammar::opening::{open_bracketed, open_unary};
 use scc_expressiongrammar::postfix::{after_brackets, parts};
 use scc_expressiongrammar::primary::{after_base, plain};
 use scc_expressiongrammar::types::{base_at, is_constant, type_at};
 use scc_terminals::halt::{Halt, place_of};
-use scc_terminals::marks::*;
-use scc_terminals::next::*;
-use scc_terminals::nodes::{one, parts_of};
+use scc_terminals::marks::{paren_close, paren_open};
+use scc_terminals::next::begins_paren_open;
+use scc_terminals::nodes::parts_of;
 use scc_terminals::part::{Bracketed, Line, TypeRead};
 use scc_terminals::reader::{Read, Reader};
-use scc_terminals::table::Table;
 use scc_terminals::terminal::{Seen, Terminal};
-use scc_terminals::words::*;
-use scc_tree::{
-    Decl, Expr, ExprNode, ForFirst, Hold, LocalDecl, LocalTree, SimpleNode, SimpleTree, Stmt,
-    StmtNode, SwitchItem, SwitchNode, Ty,
-};
-use std::alloc::Global;
+use scc_tree::{Expr, ExprNode, SimpleNode, SimpleTree};
 
 /// `=` (None), or the operator before a `=`.
 pub fn assignment(t: Terminal) -> Option<Option<Op>>

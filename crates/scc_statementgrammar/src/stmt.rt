@@ -11,30 +11,25 @@ ghost use Rattle.scc_terminals.specs.Text.{next_is, next_says, pick};
 ghost use Rattle.scc_reading.specs.Reading.{is_next, token};
 ghost use Rattle.scc_tree.specs.Node.{stmt_of};
 
-use crate::line::*;
+use crate::line::{
+    clocked_rest, for_first, for_step, line, process_rest, quiet_rest, reset_rest, return_rest,
+    sensitive_rest, stmt_at, wait_rest, within_semicolon,
+};
 use crate::local::condition;
 use crate::simple::begins_step;
-use scc_base::{List, Name, NoMemory, Place};
-use scc_bits::Op;
-use scc_expressiongrammar::chain::{additive, argument, expr, unary};
-use scc_expressiongrammar::first::*;
-use scc_expressiongrammar::opening::{open_bracketed, open_expr, open_unary};
-use scc_expressiongrammar::postfix::{after_brackets, parts};
-use scc_expressiongrammar::primary::{after_base, plain};
-use scc_expressiongrammar::types::{base_at, is_constant, type_at};
+use scc_base::{List, NoMemory, Place};
+use scc_expressiongrammar::chain::expr;
+use scc_expressiongrammar::first::begins_ty_arg;
 use scc_terminals::halt::{Halt, place_of};
-use scc_terminals::marks::*;
-use scc_terminals::next::*;
-use scc_terminals::nodes::{one, parts_of};
-use scc_terminals::part::{Bracketed, Line, TypeRead};
+use scc_terminals::marks::{brace_close, brace_open, colon, paren_close, paren_open, semicolon};
+use scc_terminals::next::{
+    begins_case_word, begins_default_word, begins_else_word, begins_not_brace_close,
+};
 use scc_terminals::reader::{Read, Reader};
 use scc_terminals::table::Table;
 use scc_terminals::terminal::{Seen, Terminal};
-use scc_terminals::words::*;
-use scc_tree::{
-    Decl, Expr, ExprNode, ForFirst, Hold, LocalDecl, LocalTree, SimpleNode, SimpleTree, Stmt,
-    StmtNode, SwitchItem, SwitchNode, Ty,
-};
+use scc_terminals::words::{case_word, default_word, else_word, while_word};
+use scc_tree::{Expr, ForFirst, SimpleTree, Stmt, StmtNode, SwitchItem, SwitchNode};
 use std::alloc::Global;
 
 #[cycle(statement)]
