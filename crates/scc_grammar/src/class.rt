@@ -14,12 +14,14 @@ use scc_base::{List, Name, NoMemory, Place};
 use scc_expressiongrammar::first::name_at;
 use scc_expressiongrammar::types::ty_args;
 use scc_terminals::halt::{Halt, place_of};
-use scc_terminals::marks::*;
-use scc_terminals::next::*;
+use scc_terminals::marks::{
+    brace_close, brace_open, colon, less, paren_close, paren_open, semicolon,
+};
+use scc_terminals::next::{begins_colon, begins_less, begins_module_word, begins_public_word};
 use scc_terminals::reader::{Read, Reader};
 use scc_terminals::table::Table;
 use scc_terminals::terminal::{Seen, Terminal};
-use scc_terminals::words::*;
+use scc_terminals::words::{module_base, module_word, public_word};
 use scc_tree::{ClassTree, Item, ItemNode, Param, TyArg};
 use std::alloc::Global;
 

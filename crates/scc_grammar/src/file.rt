@@ -12,7 +12,7 @@ use crate::enumeration::{alias, enumeration};
 use crate::member::Members;
 use crate::outside::{fronted, fronts, outside};
 use crate::template::template;
-use scc_base::{List, NoMemory};
+use scc_base::List;
 use scc_terminals::halt::{Halt, place_of};
 use scc_terminals::marks::semicolon;
 use scc_terminals::reader::{Read, Reader};

@@ -16,12 +16,15 @@ use scc_expressiongrammar::types::{ty_args, type_at};
 use scc_statementgrammar::local::hold_at;
 use scc_statementgrammar::stmt::block_of;
 use scc_terminals::halt::{Halt, place_of};
-use scc_terminals::marks::*;
-use scc_terminals::next::*;
+use scc_terminals::marks::{assign, colon, comma, less, paren_close, paren_open, semicolon};
+use scc_terminals::next::{
+    begins_colon, begins_comma, begins_constant, begins_less, begins_paren_close, begins_semicolon,
+    begins_void_word,
+};
 use scc_terminals::nodes::one;
 use scc_terminals::reader::{Read, Reader};
 use scc_terminals::terminal::{Seen, Terminal};
-use scc_terminals::words::*;
+use scc_terminals::words::{constant, void_word};
 use scc_tree::{FunctionTree, Init, Item, ItemNode, Prm, Stmt, Ty, TyArg};
 use std::alloc::Global;
 

@@ -13,21 +13,27 @@ ghost use Rattle.scc_tree.specs.declared.ty.Ty as typing;
 ghost use Rattle.scc_reading.specs.Reading.{is_next, repeat, token};
 
 use crate::enumeration::{alias, enumeration};
-use crate::function::*;
+use crate::function::{
+    body, constant_rest, constructor_of, constructor_rest, function_item, function_rest, inits,
+    named_args,
+};
 use crate::outside::{before_constant, constant_twice, fronts, is_first_name, named_of};
 use scc_base::{List, Name, NoMemory, Place};
 use scc_expressiongrammar::first::name_at;
 use scc_expressiongrammar::types::{base_at, constant_type, is_constant, type_at};
 use scc_statementgrammar::local::{decl, sizes};
 use scc_terminals::halt::{Halt, place_of};
-use scc_terminals::marks::*;
-use scc_terminals::next::*;
-use scc_terminals::part::{Sort, TypeRead};
+use scc_terminals::marks::{colon, comma, paren_close, paren_open, semicolon};
+use scc_terminals::next::{
+    begins_assign, begins_comma, begins_constant, begins_not_brace_close, begins_paren_open,
+    begins_void_word,
+};
+use scc_terminals::part::TypeRead;
 use scc_terminals::reader::{Read, Reader};
 use scc_terminals::table::Table;
 use scc_terminals::terminal::{Seen, Terminal};
-use scc_terminals::words::*;
-use scc_tree::{Decl, Expr, Field, Hold, Item, Ty};
+use scc_terminals::words::{constant, void_word};
+use scc_tree::{Decl, Field, Hold, Item, Ty};
 use std::alloc::Global;
 
 /// What stands in a file or a class so far.

@@ -7,19 +7,24 @@ ghost use Rattle.scc_terminals.specs.Text.{next_says, pick};
 ghost use Rattle.scc_reading.specs.Reading.{is_next, pure, repeat, token};
 
 use crate::enumeration::begins_name;
-use crate::function::*;
+use crate::function::{
+    constant_rest, constructor_of, function_of, function_rest, inits, named_args, prms, qualifier,
+};
 use scc_base::{List, Name, NoMemory, Place};
 use scc_expressiongrammar::first::name_at;
 use scc_expressiongrammar::types::{base_at, constant_type, is_constant, named_type, type_at};
 use scc_statementgrammar::stmt::block_of;
 use scc_terminals::halt::{Halt, place_of};
-use scc_terminals::marks::*;
-use scc_terminals::next::*;
+use scc_terminals::marks::{paren_close, paren_open, scope};
+use scc_terminals::next::{
+    begins_assign, begins_constant, begins_inline_word, begins_paren_open, begins_scope,
+    begins_void_word,
+};
 use scc_terminals::nodes::constant_of;
-use scc_terminals::part::{Sort, TypeRead};
+use scc_terminals::part::TypeRead;
 use scc_terminals::reader::{Read, Reader};
 use scc_terminals::terminal::{Seen, Terminal};
-use scc_terminals::words::*;
+use scc_terminals::words::{constant, inline_word, void_word};
 use scc_tree::{FunctionTree, Item, ItemNode, Param, Ty, TyArg, TyNode};
 use std::alloc::Global;
 
