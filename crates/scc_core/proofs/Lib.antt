@@ -1,0 +1,5 @@
+pub mod Alone
+pub mod Along
+pub mod Loops
+pub mod Names
+pub mod Numbers

@@ -1,4 +1,7 @@
 //! Cells by their names: a tree of the names' parts, in which a front part of a name is a number.
+ghost use Rattle.std.specs.Prelude.{◌≡◌, option_and_then};
+ghost use Rattle.scc_core.specs.Names.{cell_at, leads, name_spot, of_indices, of_path, step_of, walk};
+
 use crate::{Cell, CellName, CellSort, VectorSize2};
 use indexmap::IndexMap;
 use scc_base::{List, Name, NoMemory, PathPart, lost, push};
@@ -128,18 +131,26 @@ impl Places {
     }
 
     /// The front part of every name: that of the top.
-    pub fn top(&self) -> Spot {
+    pub fn top(&self) -> Spot
+        ensures { result ≡ record { 0 = 0 } }
+    {
         Spot(0)
     }
 
     /// What a step leads to; None where no name goes on so.
-    pub fn step(&self, at: Spot, step: NameStep) -> Option<Spot> {
+    #[tactic(auto, unfolding(crate::specs::Names::leads), using(crate::proofs::Names::same_leads))]
+    pub fn step(&self, at: Spot, step: NameStep) -> Option<Spot>
+        ensures { result ≡ leads self.now at step }
+    {
         let branch = Branch { from: at.0, step };
-        self.branches.get(&branch).map(|found| Spot(*found))
+        let found = self.branches.get(&branch)?;
+        Some(Spot(*found))
     }
 
     /// What a path leads to from the top.
-    pub fn path(&self, path: &[PathPart]) -> Option<Spot> {
+    pub fn path(&self, path: &[PathPart]) -> Option<Spot>
+        ensures { result ≡ walk self.now (record { 0 = 0 }) (of_path path.now) }
+    {
         let mut at = self.top();
         for part in path {
             at = self.step(at, NameStep::of(*part))?;
@@ -148,19 +159,32 @@ impl Places {
     }
 
     /// What a cell's name, or a front part of one, leads to.
-    pub fn name(&self, name: &CellName) -> Option<Spot> {
-        let mut at = self.path(name.path.as_slice())?;
-        if let Some((local, _)) = name.local {
-            at = self.step(at, NameStep::Local(local))?;
-        }
-        for i in name.indices.as_slice() {
+    pub fn name(&self, name: &CellName) -> Option<Spot>
+        ensures { result ≡ name_spot self.now name.now }
+    {
+        let at = self.path(name.path.as_slice())?;
+        let at = match name.local {
+            Some((local, _)) => self.step(at, NameStep::Local(local))?,
+            None => at,
+        };
+        self.indexed(at, name.indices.as_slice())
+    }
+
+    // What indices lead to.
+    fn indexed(&self, at: Spot, indices: &[u32]) -> Option<Spot>
+        ensures { result ≡ walk self.now at (of_indices indices.now) }
+    {
+        let mut at = at;
+        for i in indices {
             at = self.step(at, NameStep::Index(*i))?;
         }
         Some(at)
     }
 
     /// The cell of that whole name that is no pointer.
-    pub fn cell(&self, at: Spot) -> Option<u32> {
+    pub fn cell(&self, at: Spot) -> Option<u32>
+        ensures { result ≡ cell_at self.now at }
+    {
         self.named.get(at.0 as usize).and_then(|n| n.cell)
     }
 
@@ -208,7 +232,9 @@ pub fn numbered(n: usize) -> Result<u32, NoMemory> {
 
 impl NameStep {
     /// The step of a part of a path.
-    pub fn of(part: PathPart) -> NameStep {
+    pub fn of(part: PathPart) -> NameStep
+        ensures { result ≡ step_of part }
+    {
         match part {
             PathPart::Member(name) => NameStep::Member(name),
             PathPart::Index(i) => NameStep::Index(i),
