@@ -1,1 +1,4 @@
 pub mod Refusals
+pub mod Elements
+pub mod Counting
+pub mod Live

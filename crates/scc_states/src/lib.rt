@@ -1,6 +1,7 @@
 //! Threads as states: waits, and the segments between them.
 #![tactic(auto)]
 
+mod elements;
 mod kept;
 mod measure;
 mod outline;

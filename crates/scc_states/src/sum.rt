@@ -1,12 +1,7 @@
 //! How many elements stand under indices that aren't static.
 use crate::types::{SegNode, SegStmt, Split};
-use scc_core::{
-    Core, CoreExpr, CoreExprNode, CoreLeft, CoreNode, CorePart, CorePick, CoreStmt, Known, Sort2,
-    first_operand,
-};
-
-/// Where the count stops.
-pub const MOST: u64 = 1_048_577;
+use crate::elements::{MOST, of_expr as expr_count, of_left as left_count};
+use scc_core::{Core, CoreExpr, CoreLeft, CoreNode, CoreStmt, Known, Sort2};
 
 /// The elements of the arrays under indices that aren't static, over the live parts of methods and the segments of threads; it
 /// stops at 1,048,577. `s` has one split for each thread, in process order.
@@ -84,7 +79,7 @@ fn live_stmt(s: &CoreStmt, known: Known<'_>, depth: u32, left: &mut Left, sum: &
             Some(true) => live(yes.as_slice(), known, depth, left, sum),
             Some(false) => live(no.as_slice(), known, depth, left, sum),
             None => {
-                of_expr(test, known, sum);
+                add(sum, expr_count(test, known));
                 let a = live(yes.as_slice(), known, depth, left, sum);
                 let b = live(no.as_slice(), known, depth, left, sum);
                 a || b
@@ -114,8 +109,8 @@ fn live_stmt(s: &CoreStmt, known: Known<'_>, depth: u32, left: &mut Left, sum: &
 }
 
 fn of_assignment(left: &CoreLeft, value: &CoreExpr, known: Known<'_>, sum: &mut u64) {
-    of_left(left, known, sum);
-    of_expr(value, known, sum);
+    add(sum, left_count(left, known));
+    add(sum, expr_count(value, known));
 }
 
 #[cycle(segment_sum)]
@@ -130,7 +125,7 @@ fn segment_stmt(s: &SegStmt, known: Known<'_>, sum: &mut u64) {
     match &s.node {
         SegNode::Plain(stmt) => whole(stmt, known, sum),
         SegNode::If { test, yes, no } => {
-            of_expr(test, known, sum);
+            add(sum, expr_count(test, known));
             segment(yes.as_slice(), known, sum);
             segment(no.as_slice(), known, sum);
         }
@@ -143,7 +138,7 @@ fn segment_stmt(s: &SegStmt, known: Known<'_>, sum: &mut u64) {
 fn whole(s: &CoreStmt, known: Known<'_>, sum: &mut u64) {
     match &s.node {
         CoreNode::If { test, yes, no } => {
-            of_expr(test, known, sum);
+            add(sum, expr_count(test, known));
             each(yes.as_slice(), known, sum);
             each(no.as_slice(), known, sum);
         }
@@ -157,71 +152,5 @@ fn whole(s: &CoreStmt, known: Known<'_>, sum: &mut u64) {
 fn each(body: &[CoreStmt], known: Known<'_>, sum: &mut u64) {
     for s in body {
         whole(s, known, sum);
-    }
-}
-
-// The locations of an expression. First operands, which nest as deep as a chain is long, are taken by a loop.
-#[cycle(expr_sum)]
-fn of_expr(e: &CoreExpr, known: Known<'_>, sum: &mut u64) {
-    let mut here = e;
-    for _ in 0..usize::MAX {
-        beside(here, known, sum);
-        match first_operand(here) {
-            Some(inner) => here = inner,
-            None => return,
-        }
-    }
-}
-
-// Those beside the first operand.
-#[cycle(expr_sum)]
-fn beside(e: &CoreExpr, known: Known<'_>, sum: &mut u64) {
-    match e.node.get() {
-        CoreExprNode::Lit(_) | CoreExprNode::Convert(_) => {}
-        CoreExprNode::Load(left) | CoreExprNode::Read(left) => of_left(left, known, sum),
-        CoreExprNode::Operate { right, .. } => {
-            if let Some(right) = right {
-                of_expr(right, known, sum);
-            }
-        }
-        CoreExprNode::Choose { yes, no, .. } => {
-            of_expr(yes, known, sum);
-            of_expr(no, known, sum);
-        }
-        CoreExprNode::Pick { pick, .. } => of_pick(pick, known, sum),
-        CoreExprNode::Join(parts) => {
-            for part in parts.as_slice() {
-                of_expr(part, known, sum);
-            }
-        }
-    }
-}
-
-#[cycle(expr_sum)]
-fn of_pick(pick: &CorePick, known: Known<'_>, sum: &mut u64) {
-    if let CorePick::Bit(at) = pick {
-        of_expr(at, known, sum);
-    }
-}
-
-// A location: the product of its dimensions under indices that aren't static, and those inside its indices.
-#[cycle(expr_sum)]
-fn of_left(left: &CoreLeft, known: Known<'_>, sum: &mut u64) {
-    let mut product = 1u64;
-    let mut is_open = false;
-    for part in left.parts.as_slice() {
-        if let CorePart::Index { size, at } = part {
-            of_expr(at, known, sum);
-            if known.value(at).is_none() {
-                is_open = true;
-                product = product.saturating_mul(u64::from(*size)).min(MOST);
-            }
-        }
-    }
-    if let Some(pick) = &left.pick {
-        of_pick(pick, known, sum);
-    }
-    if is_open {
-        add(sum, product);
     }
 }
