@@ -1,2 +1,4 @@
 pub mod Nodes
 pub mod Counts
+pub mod Paths
+pub mod Statements

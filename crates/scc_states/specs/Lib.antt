@@ -2,3 +2,4 @@ pub mod Refusals
 pub mod Elements
 pub mod Counting
 pub mod Live
+pub mod Paths

@@ -44,11 +44,9 @@ pub fn of_expr(e: &CoreExpr, known: Known<'_>) -> u64
 #[cycle(expr_sum)]
 fn beside<'a>(e: &'a CoreExpr, known: Known<'_>) -> (u64, Option<&'a CoreExpr>)
     ensures smaller { IfSome result.1 (λ x. size-CoreExpr x.now < size-CoreExpr e.now) }
-    ensures counts {
-        IsAlone known.entry → MatchOption result.1
-            (result.0 ≡ cut (expr_elements (static_of known.entry.cells.now) e.now))
-            (λ x. cut (result.0 + expr_elements (static_of known.entry.cells.now) x.now) ≡ cut (expr_elements (static_of known.entry.cells.now) e.now))
-    }
+    ensures counts { IsAlone known.entry → MatchOption result.1
+        (result.0 ≡ cut (expr_elements (static_of known.entry.cells.now) e.now))
+        (λ x. cut (result.0 + expr_elements (static_of known.entry.cells.now) x.now) ≡ cut (expr_elements (static_of known.entry.cells.now) e.now)) }
 {
     match e.node.get() {
         CoreExprNode::Lit(_) => (0, None),

@@ -45,7 +45,7 @@ beside-returns-in-Pick-clause-counts t c = λ h.
 pub beside-returns-in-Join-clause-counts : goal.beside-returns-in-Join-clause-counts
 beside-returns-in-Join-clause-counts t c = λ h.
     let k : c.of_exprs.result ≡ cut (total (map (expr_elements (static_of c.args.known.cells.now)) c.in-Join.parts)) =
-        c.of_exprs.ensures h ∙ ap (λ es. cut (total (map (expr_elements (static_of c.args.known.cells.now)) es))) c.as_slice.ensures.elements in
+    c.of_exprs.ensures h ∙ ap (λ es. cut (total (map (expr_elements (static_of c.args.known.cells.now)) es))) c.as_slice.ensures.elements in
     all_of _ _ _ k (of_join (static_of c.args.known.cells.now) c.args.e.now c.in-Join.parts (sym c.get.ensures.value ∙ c.in-Join.is))
 
 pub of_exprs-loop-e-preserved : goal.of_exprs-loop-e-preserved

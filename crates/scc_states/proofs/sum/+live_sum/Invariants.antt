@@ -1,0 +1,15 @@
+use Rattle.std.proofs.Common.{◌≡◌, ◌≤◌, ◌+◌, ℕ, List, Bool, length, drop}
+use Rattle.scc_core.specs.Statics.{static_of, IsAlone}
+use Rattle.scc_states.specs.declared.sum.Seen.{Seen}
+use Rattle.scc_states.specs.Elements.{cut, most}
+use Rattle.scc_states.specs.Live.{live_body, body_deep}
+use Rattle.scc_states.specs.Paths.{Lives}
+use Rattle.scc_states.proofs.sum.+live_sum.Given as goal
+
+-- what is seen behind gives with what was seen so far all of it
+abbrev pub invariant-live-loop-s : goal.invariant-live-loop-s
+invariant-live-loop-s l =
+    (l.elements ≤ most)
+    × (IsAlone l.known → l.depth + body_deep l.body ≤ length l.initial.left
+    → (seen : Seen) (new : List Bool) → Lives l.depth l.left new seen (live_body (static_of l.known.cells.now) (drop l.s-index l.body))
+    → Lives l.depth l.initial.left new (record { elements = cut (l.elements + seen.elements); ends = seen.ends }) (live_body (static_of l.known.cells.now) l.body))
