@@ -27,7 +27,8 @@ map_more f [] x = refl
 map_more f (y ∷ ys) x = ap (λ zs. f y ∷ zs) (map_more f ys x)
 
 -- a front of a list that is one longer
-pub map_further : {A B : Type 0} (f : A → B) (xs : List A) (i : ℕ) (x : A) → i < length xs → x ≡ get_or xs i x → map f (take (i + 1) xs) ≡ map f (take i xs) ++ f x ∷ []
+pub map_further : {A B : Type 0} (f : A → B) (xs : List A) (i : ℕ) (x : A) → i < length xs → x ≡ get_or xs i x
+    → map f (take (i + 1) xs) ≡ map f (take i xs) ++ f x ∷ []
 map_further f xs i x h is =
     ap (λ n. map f (take n xs)) (add-one i)
     ∙ ap (λ ys. map f ys) (take-suc xs i x h)
@@ -105,12 +106,15 @@ same i j p q a b h k l = ap (λ x. counts x p a) h ∙ ap (λ x. counts j x a) k
 
 counted_more : (ps : List Part) (p : Part) → with_part (counted ps) (cut p.inside) p.size ≡ counted (ps ++ p ∷ [])
 counted_more ps p = same _ _ _ _ _ _
-    (cut_more most (total (map (λ q. q.inside) ps)) p.inside ∙ ap cut (sym (sum_more (map (λ q. q.inside) ps) p.inside)) ∙ ap (λ ns. cut (total ns)) (sym (map_more (λ q. q.inside) ps p)))
-    (one_more_factor (product (map (λ q. factor q.size) ps)) p.size ∙ ap cut (sym (product_more (map (λ q. factor q.size) ps) (factor p.size))) ∙ ap (λ ns. cut (product ns)) (sym (map_more (λ q. factor q.size) ps p)))
+    (cut_more most (total (map (λ q. q.inside) ps)) p.inside ∙ ap cut (sym (sum_more (map (λ q. q.inside) ps) p.inside))
+    ∙ ap (λ ns. cut (total ns)) (sym (map_more (λ q. q.inside) ps p)))
+    (one_more_factor (product (map (λ q. factor q.size) ps)) p.size ∙ ap cut (sym (product_more (map (λ q. factor q.size) ps) (factor p.size)))
+    ∙ ap (λ ns. cut (product ns)) (sym (map_more (λ q. factor q.size) ps p)))
     (sym (open_more (map (λ q. q.size) ps) p.size) ∙ ap some_open (sym (map_more (λ q. q.size) ps p)))
 
 pub part_further : {A : Type 0} (f : A → Part) (xs : List A) (i : ℕ) (x : A) → i < length xs → x ≡ get_or xs i x
-    → (all : Counted) (inside : ℕ) (size : Option ℕ) (w : Counted) → all ≡ counted (map f (take i xs)) → inside ≡ cut (f x).inside → size ≡ (f x).size → w ≡ with_part all inside size
+    → (all : Counted) (inside : ℕ) (size : Option ℕ) (w : Counted) → all ≡ counted (map f (take i xs)) → inside ≡ cut (f x).inside → size ≡ (f x).size
+    → w ≡ with_part all inside size
     → w ≡ counted (map f (take (i + 1) xs))
 part_further f xs i x h is all inside size w j k l m =
     m ∙ ap (λ c. with_part c inside size) j ∙ ap (λ n. with_part (counted (map f (take i xs))) n size) k
@@ -118,7 +122,8 @@ part_further f xs i x h is all inside size w j k l m =
     ∙ counted_more (map f (take i xs)) (f x)
     ∙ ap counted (sym (map_further f xs i x h is))
 
-by_open : (b : Bool) (p s k m : ℕ) → (if b then min (min p m + min (min s m + min k m) m) m else min (min s m + min k m) m) ≡ min ((if b then p else 0) + (s + k)) m
+by_open : (b : Bool) (p s k m : ℕ) → (if b then min (min p m + min (min s m + min k m) m) m else min (min s m + min k m) m)
+    ≡ min ((if b then p else 0) + (s + k)) m
 by_open true p s k m = omega arith
 by_open false p s k m = omega arith
 

@@ -47,9 +47,12 @@ lives_either d old mid new a b k l t n ends h i j q e r = record {
 }
 
 -- one behind another
+abbrev both : Live → Live → Live
+both k l = record { elements = k.elements + l.elements; ends = l.ends; leaves = λ z. k.leaves z || l.leaves z }
+
 pub lives_behind : (d : ℕ) (old mid new : List Bool) (a b : Seen) (k l : Live) → Lives d old mid a k → k.ends ≡ true → Lives d mid new b l
     → (e : ℕ) → e ≡ cut (a.elements + b.elements) → Lives d old new (seen e b.ends) (behind k l)
-lives_behind d old mid new a b k l h t i e r = subst (λ x. Lives d old new (seen e b.ends) (if x then record { elements = k.elements + l.elements; ends = l.ends; leaves = λ z. k.leaves z || l.leaves z } else k)) (sym t) (record {
+lives_behind d old mid new a b k l h t i e r = subst (λ x. Lives d old new (seen e b.ends) (if x then both k l else k)) (sym t) (record {
   elements = r ∙ ap (λ x. cut (x + b.elements)) h.elements ∙ ap (λ x. cut (cut k.elements + x)) i.elements ∙ cut_more most k.elements l.elements;
   ends = i.ends;
   leaves = λ p z is. i.leaves p z is ∙ ap (λ x. x || l.leaves z) (h.leaves p z is) ∙ or_assoc (get_or old p true) (k.leaves z) (l.leaves z);
@@ -57,7 +60,7 @@ lives_behind d old mid new a b k l h t i e r = subst (λ x. Lives d old new (see
 
 -- no path goes on
 pub lives_stopped : (d : ℕ) (old new : List Bool) (a : Seen) (k l : Live) → Lives d old new a k → k.ends ≡ false → Lives d old new a (behind k l)
-lives_stopped d old new a k l h t = subst (λ x. Lives d old new a (if x then record { elements = k.elements + l.elements; ends = l.ends; leaves = λ z. k.leaves z || l.leaves z } else k)) (sym t) h
+lives_stopped d old new a k l h t = subst (λ x. Lives d old new a (if x then both k l else k)) (sym t) h
 
 -- ---- blocks
 
@@ -79,13 +82,15 @@ other old d p k h = get_or-set_other old d p false true (λ i. none_below (below
 here : (old : List Bool) (d : ℕ) → d < length old → get_or (set old d false) d true ≡ false
 here old d h = get_or-set_same old d false true h
 
-pub lives_block : (d n : ℕ) (old begun new : List Bool) (s : Seen) (l : Live) (left ends : Bool) → n ≡ d + 1 → begun ≡ set old d false → d < length old → Lives n begun new s l
+pub lives_block : (d n : ℕ) (old begun new : List Bool) (s : Seen) (l : Live) (left ends : Bool) → n ≡ d + 1 → begun ≡ set old d false → d < length old
+    → Lives n begun new s l
     → left ≡ get_or new d true → ends ≡ (s.ends || left) → Lives d old new (seen s.elements ends) (block l)
 lives_block d n old begun new s l left ends q b f h i j = record {
   elements = h.elements;
   ends = j ∙ ap (λ x. x || left) h.ends
       ∙ ap (λ x. l.ends || x) (i ∙ h.leaves d 0 (sym q) ∙ ap (λ xs. get_or xs d true || l.leaves 0) b ∙ ap (λ x. x || l.leaves 0) (here old d f));
-  leaves = λ p k is. h.leaves p (suc k) (further p k d is ∙ sym q) ∙ ap (λ xs. get_or xs p true || l.leaves (suc k)) b ∙ ap (λ x. x || l.leaves (suc k)) (other old d p k is);
+  leaves = λ p k is. h.leaves p (suc k) (further p k d is ∙ sym q) ∙ ap (λ xs. get_or xs p true || l.leaves (suc k)) b
+      ∙ ap (λ x. x || l.leaves (suc k)) (other old d p k is);
 }
 
 -- ---- exits
@@ -96,7 +101,8 @@ same_block p k n d outer h i j = omega (arith, h, i, j)
 same_number : (p k n d outer : ℕ) → p + suc k ≡ d → outer + suc n ≡ d → p ≡ outer → k ≡ n
 same_number p k n d outer h i j = omega (arith, h, i, j)
 
-exits : (p k n outer : ℕ) (old : List Bool) → outer < length old → (k ≡ n → p ≡ outer) → (p ≡ outer → k ≡ n) → ((nat_eq k n ≡ true) × (k ≡ n)) ⊎ ((nat_eq k n ≡ false) × (k ≢ n))
+exits : (p k n outer : ℕ) (old : List Bool) → outer < length old → (k ≡ n → p ≡ outer) → (p ≡ outer → k ≡ n)
+    → ((nat_eq k n ≡ true) × (k ≡ n)) ⊎ ((nat_eq k n ≡ false) × (k ≢ n))
     → get_or (set old outer true) p true ≡ (get_or old p true || nat_eq k n)
 exits p k n outer old f to from (inl h) =
     ap (λ z. get_or (set old outer true) z true) (to h.1) ∙ get_or-set_same old outer true true f
@@ -105,7 +111,8 @@ exits p k n outer old f to from (inr h) =
     get_or-set_other old outer p true true (λ i. h.1 (from i))
     ∙ or_nothing (get_or old p true) ∙ ap (λ x. get_or old p true || x) (sym h.0)
 
-pub lives_exit : (d n outer : ℕ) (old new : List Bool) → outer + suc n ≡ d → outer < length old → new ≡ set old outer true → Lives d old new (seen 0 false) (exit n)
+pub lives_exit : (d n outer : ℕ) (old new : List Bool) → outer + suc n ≡ d → outer < length old → new ≡ set old outer true
+    → Lives d old new (seen 0 false) (exit n)
 lives_exit d n outer old new o f is = record {
   elements = refl;
   ends = refl;

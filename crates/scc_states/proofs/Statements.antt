@@ -34,7 +34,8 @@ live_test known s t a b is = at_test Live (live_node known) s t a b is
 pub deep_test : (s : CoreStmt) (t : CoreExpr) (a b : List CoreStmt) → s.node ≡ node.If t a b → blocks_deep s ≡ max (body_deep a) (body_deep b)
 deep_test s t a b is = at_test ℕ deep_node s t a b is
 
-pub live_block : (known : CoreExpr → Option Number) (s : CoreStmt) (b : List CoreStmt) → s.node ≡ node.Block b → live_statement known s ≡ block (live_body known b)
+pub live_block : (known : CoreExpr → Option Number) (s : CoreStmt) (b : List CoreStmt) → s.node ≡ node.Block b
+    → live_statement known s ≡ block (live_body known b)
 live_block known s b is = at_block Live (live_node known) s b is
 
 pub deep_block : (s : CoreStmt) (b : List CoreStmt) → s.node ≡ node.Block b → blocks_deep s ≡ 1 + body_deep b

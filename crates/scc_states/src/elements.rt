@@ -5,6 +5,7 @@ ghost use Rattle.scc_core.specs.Statics.{static_of, IsAlone};
 ghost use Rattle.scc_states.specs.Elements.{cut, total, expr_elements, left_elements, pick_elements, part_of};
 ghost use Rattle.scc_states.specs.Counting.{with_part, whole_part, counted};
 
+use scc_bits::Value;
 use scc_core::{CoreExpr, CoreExprNode, CoreLeft, CorePart, CorePick, Known};
 
 /// Where the count stops.
@@ -21,6 +22,13 @@ fn times(a: u64, size: u32) -> u64
     ensures { result ≡ cut (a * size) }
 {
     a.saturating_mul(u64::from(size)).min(MOST)
+}
+
+/// The number of a static expression; None exactly where it isn't static.
+pub fn number_of(e: &CoreExpr, known: Known<'_>) -> Option<Value>
+    ensures { IsAlone known.entry → result ≡ static_of known.entry.cells.now e.now }
+{
+    known.value(e)
 }
 
 /// The elements under the indices of an expression. First operands, which nest as deep as a chain is long, are taken by a loop.
@@ -98,7 +106,7 @@ fn of_part(part: &CorePart, known: Known<'_>) -> (u64, Option<u32>)
         CorePart::Member(_) => (0, None),
         CorePart::Index { size, at } => {
             let inside = of_expr(at, known);
-            match known.value(at) {
+            match number_of(at, known) {
                 Some(_) => (inside, None),
                 None => (inside, Some(*size)),
             }

@@ -19,7 +19,7 @@ ghost use Rattle.scc_states.specs.Live.{
 };
 ghost use Rattle.scc_states.specs.Paths.{Lives};
 
-use crate::elements::{of_expr, of_left, plus};
+use crate::elements::{number_of, of_expr, of_left, plus};
 use crate::types::{SegNode, SegStmt, Split};
 use scc_base::List;
 use scc_core::{Core, CoreExpr, CoreLeft, CoreNode, CoreProcess, CoreStmt, Known, Sort2};
@@ -158,7 +158,7 @@ fn live_stmt(s: &CoreStmt, known: Known<'_>, depth: usize, left: &mut [bool]) ->
         Lives depth left.old left.new result (live_statement (static_of known.entry.cells.now) s.now) }
 {
     match &s.node {
-        CoreNode::If { test, yes, no } => match known.value(test) {
+        CoreNode::If { test, yes, no } => match number_of(test, known) {
             Some(value) => {
                 if value.is_true() {
                     live(yes.as_slice(), known, depth, left)

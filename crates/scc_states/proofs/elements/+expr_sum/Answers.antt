@@ -12,16 +12,20 @@ plain_zero : (x y : ℕ) → y ≡ x + 0 → y ≡ x
 plain_zero x y h = omega (arith, h)
 
 pub beside-returns-in-Lit-clause-counts : goal.beside-returns-in-Lit-clause-counts
-beside-returns-in-Lit-clause-counts t c = λ h. none_of _ (of_lit (static_of c.args.known.cells.now) c.args.e.now c.in-Lit.field-0 (sym c.get.ensures.value ∙ c.in-Lit.is))
+beside-returns-in-Lit-clause-counts t c = λ h. none_of _ (of_lit (static_of c.args.known.cells.now) c.args.e.now c.in-Lit.field-0 (sym c.get.ensures.value
+    ∙ c.in-Lit.is))
 
 pub beside-returns-in-Convert-clause-counts : goal.beside-returns-in-Convert-clause-counts
-beside-returns-in-Convert-clause-counts t c = λ h. first_only _ _ (of_convert (static_of c.args.known.cells.now) c.args.e.now c.in-Convert.of (sym c.get.ensures.value ∙ c.in-Convert.is))
+beside-returns-in-Convert-clause-counts t c = λ h. first_only _ _ (of_convert (static_of c.args.known.cells.now) c.args.e.now c.in-Convert.of (sym
+    c.get.ensures.value ∙ c.in-Convert.is))
 
 pub beside-returns-in-Load-clause-counts : goal.beside-returns-in-Load-clause-counts
-beside-returns-in-Load-clause-counts t c = λ h. all_of _ _ _ (c.of_left.ensures h) (of_load (static_of c.args.known.cells.now) c.args.e.now c.in-Load.left (sym c.get.ensures.value ∙ c.in-Load.is))
+beside-returns-in-Load-clause-counts t c = λ h. all_of _ _ _ (c.of_left.ensures h) (of_load (static_of c.args.known.cells.now) c.args.e.now c.in-Load.left
+    (sym c.get.ensures.value ∙ c.in-Load.is))
 
 pub beside-returns-in-Read-clause-counts : goal.beside-returns-in-Read-clause-counts
-beside-returns-in-Read-clause-counts t c = λ h. all_of _ _ _ (c.of_left-in-Read.ensures h) (of_read (static_of c.args.known.cells.now) c.args.e.now c.in-Read.left (sym c.get.ensures.value ∙ c.in-Read.is))
+beside-returns-in-Read-clause-counts t c = λ h. all_of _ _ _ (c.of_left-in-Read.ensures h) (of_read (static_of c.args.known.cells.now) c.args.e.now
+    c.in-Read.left (sym c.get.ensures.value ∙ c.in-Read.is))
 
 pub beside-returns-in-Some-clause-counts : goal.beside-returns-in-Some-clause-counts
 beside-returns-in-Some-clause-counts t c = λ h.
@@ -51,7 +55,8 @@ beside-returns-in-Join-clause-counts t c = λ h.
 pub of_exprs-loop-e-preserved : goal.of_exprs-loop-e-preserved
 of_exprs-loop-e-preserved t c = λ h.
     let i : c.loop-e.e-index < length c.args.list.now = omega arith in
-    one_further (expr_elements (static_of c.args.known.cells.now)) c.args.list.now c.loop-e.e-index c.e-item.result i c.e-item.is c.loop-e.sum c.of_expr.result c.plus-sum.result (c.loop-e.invariant h) (c.of_expr.ensures h) c.plus-sum.ensures
+    one_further (expr_elements (static_of c.args.known.cells.now)) c.args.list.now c.loop-e.e-index c.e-item.result i c.e-item.is c.loop-e.sum
+    c.of_expr.result c.plus-sum.result (c.loop-e.invariant h) (c.of_expr.ensures h) c.plus-sum.ensures
 
 pub of_pick-returns-in-Bit : goal.of_pick-returns-in-Bit
 of_pick-returns-in-Bit t c = λ h. all_of _ _ _ (c.of_expr.ensures h) (of_bit (static_of c.args.known.cells.now) c.args.pick.now c.in-Bit.at c.in-Bit.is)
@@ -69,21 +74,23 @@ of_part-returns-in-Member-clause-size t c = λ h.
 
 pub of_part-returns-in-Some-clause-inside : goal.of_part-returns-in-Some-clause-inside
 of_part-returns-in-Some-clause-inside t c = λ h.
-    all_of _ _ _ (c.of_expr-inside.ensures h) (ap (λ p. p.inside) (of_index (static_of c.args.known.cells.now) c.args.part.now c.in-Index.size c.in-Index.at c.in-Index.is))
+    all_of _ _ _ (c.of_expr-inside.ensures h) (ap (λ p. p.inside) (of_index (static_of c.args.known.cells.now) c.args.part.now c.in-Index.size c.in-Index.at
+    c.in-Index.is))
 
 pub of_part-returns-in-None-clause-inside : goal.of_part-returns-in-None-clause-inside
 of_part-returns-in-None-clause-inside t c = λ h.
-    all_of _ _ _ (c.of_expr-inside.ensures h) (ap (λ p. p.inside) (of_index (static_of c.args.known.cells.now) c.args.part.now c.in-Index.size c.in-Index.at c.in-Index.is))
+    all_of _ _ _ (c.of_expr-inside.ensures h) (ap (λ p. p.inside) (of_index (static_of c.args.known.cells.now) c.args.part.now c.in-Index.size c.in-Index.at
+    c.in-Index.is))
 
 pub of_part-returns-in-Some-clause-size : goal.of_part-returns-in-Some-clause-size
 of_part-returns-in-Some-clause-size t c = λ h.
-    let k : static_of c.args.known.cells.now c.in-Index.at ≡ Some c.in-Some.field-0 = sym (c.value.ensures h) ∙ c.in-Some.is in
+    let k : static_of c.args.known.cells.now c.in-Index.at ≡ Some c.in-Some.field-0 = sym (c.number_of.ensures h) ∙ c.in-Some.is in
     sym (ap (λ p. p.size) (of_index (static_of c.args.known.cells.now) c.args.part.now c.in-Index.size c.in-Index.at c.in-Index.is)
     ∙ ap (λ o. unknown c.in-Index.size o) k)
 
 pub of_part-returns-in-None-clause-size : goal.of_part-returns-in-None-clause-size
 of_part-returns-in-None-clause-size t c = λ h.
-    let k : static_of c.args.known.cells.now c.in-Index.at ≡ None = sym (c.value.ensures h) ∙ c.in-None.is in
+    let k : static_of c.args.known.cells.now c.in-Index.at ≡ None = sym (c.number_of.ensures h) ∙ c.in-None.is in
     sym (ap (λ p. p.size) (of_index (static_of c.args.known.cells.now) c.args.part.now c.in-Index.size c.in-Index.at c.in-Index.is)
     ∙ ap (λ o. unknown c.in-Index.size o) k)
 
@@ -100,7 +107,8 @@ of_left-returns-in-Some t c = λ h.
     ∙ ap (λ p. whole_part p c.of_pick.result) (c.of_parts-parts.ensures h ∙ ap (λ ps. counted (map (part_of known) ps)) c.as_slice.ensures.elements)
     ∙ ap (λ n. whole_part (counted (map (part_of known) c.args.left.now.parts)) n) (c.of_pick.ensures h)
     ∙ whole_is (map (part_of known) c.args.left.now.parts) (pick_elements known c.in-Some.pick)
-    ∙ ap (λ o. cut (under (map (λ p. p.size) (map (part_of known) c.args.left.now.parts)) + (total (map (λ p. p.inside) (map (part_of known) c.args.left.now.parts)) + optional (pick_elements known) o))) (sym c.in-Some.is)
+    ∙ ap (λ o. cut (under (map (λ p. p.size) (map (part_of known) c.args.left.now.parts)) + (total (map (λ p. p.inside) (map (part_of known)
+    c.args.left.now.parts)) + optional (pick_elements known) o))) (sym c.in-Some.is)
     ∙ ap cut (sym (left_is known c.args.left.now))
 
 pub of_left-returns-in-None : goal.of_left-returns-in-None
@@ -109,5 +117,6 @@ of_left-returns-in-None t c = λ h.
     c.whole-in-None.ensures
     ∙ ap (λ p. whole_part p 0) (c.of_parts-parts.ensures h ∙ ap (λ ps. counted (map (part_of known) ps)) c.as_slice.ensures.elements)
     ∙ whole_is (map (part_of known) c.args.left.now.parts) 0
-    ∙ ap (λ o. cut (under (map (λ p. p.size) (map (part_of known) c.args.left.now.parts)) + (total (map (λ p. p.inside) (map (part_of known) c.args.left.now.parts)) + optional (pick_elements known) o))) (sym c.in-None.is)
+    ∙ ap (λ o. cut (under (map (λ p. p.size) (map (part_of known) c.args.left.now.parts)) + (total (map (λ p. p.inside) (map (part_of known)
+    c.args.left.now.parts)) + optional (pick_elements known) o))) (sym c.in-None.is)
     ∙ ap cut (sym (left_is known c.args.left.now))

@@ -75,7 +75,8 @@ live-returns-then-not-seen t c = λ h k.
     (subst (λ x. Lives c.args.depth c.loop-s.left c.live_stmt-seen.new.left c.live_stmt-seen.result x)
     (sym (from_here known c.args.body.now c.loop-s.s-index c.s-item.result i c.s-item.is)) two) in
     subst (λ n. Lives c.args.depth c.args.left.now c.live_stmt-seen.new.left (seen n false) (live_body known c.args.body.now)) (sym c.plus-elements.ensures)
-    (subst (λ b. Lives c.args.depth c.args.left.now c.live_stmt-seen.new.left (seen (cut (c.loop-s.elements + c.live_stmt-seen.result.elements)) b) (live_body known c.args.body.now))
+    (subst (λ b. Lives c.args.depth c.args.left.now c.live_stmt-seen.new.left (seen (cut (c.loop-s.elements + c.live_stmt-seen.result.elements)) b)
+    (live_body known c.args.body.now))
     (was_false _ c.if-not-seen.true) three)
 
 pub live-returns : goal.live-returns
@@ -83,8 +84,10 @@ live-returns t c = λ h k.
     let known : CoreExpr → Option Number = static_of c.args.known.cells.now in
     let none = drop_all c.loop-s.s-index c.args.body.now (omega arith) in
     let three = c.loop-s.invariant.1 h k (seen 0 true) c.loop-s.left
-    (subst (λ ss. Lives c.args.depth c.loop-s.left c.loop-s.left (seen 0 true) (live_body known ss)) (sym none) (lives_passed c.args.depth 0 0 c.loop-s.left refl)) in
-    subst (λ n. Lives c.args.depth c.args.left.now c.loop-s.left (seen n true) (live_body known c.args.body.now)) (within_cut c.loop-s.elements c.loop-s.invariant.0) three
+    (subst (λ ss. Lives c.args.depth c.loop-s.left c.loop-s.left (seen 0 true) (live_body known ss)) (sym none) (lives_passed c.args.depth 0 0 c.loop-s.left
+    refl)) in
+    subst (λ n. Lives c.args.depth c.args.left.now c.loop-s.left (seen n true) (live_body known c.args.body.now)) (within_cut c.loop-s.elements
+    c.loop-s.invariant.0) three
 
 first_fits : (d a b s m : ℕ) → d + s ≤ m → s ≡ max a b → d + a ≤ m
 first_fits d a b s m h i = omega (arith, h, i)
@@ -96,7 +99,7 @@ pub live_stmt-returns-in-None : goal.live_stmt-returns-in-None
 live_stmt-returns-in-None t c = λ h k.
     let known : CoreExpr → Option Number = static_of c.args.known.cells.now in
     let deep = deep_test c.args.s.now c.in-If.test c.in-If.yes c.in-If.no c.in-If.is in
-    let unknown : known c.in-If.test ≡ None = sym (c.value.ensures h) ∙ c.in-None.is in
+    let unknown : known c.in-If.test ≡ None = sym (c.number_of.ensures h) ∙ c.in-None.is in
     let a = branch known c.args.depth (length c.args.left.now) c.args.left.now c.live-a.new.left c.live-a.result c.in-If.yes c.as_slice-in-None.result.now
     c.as_slice-in-None.ensures.elements (c.live-a.ensures h) (first_fits _ _ _ _ _ k deep) in
     let b = branch known c.args.depth (length c.live-a.new.left) c.live-a.new.left c.live-b.new.left c.live-b.result c.in-If.no c.as_slice-in-None-2.result.now
@@ -104,7 +107,8 @@ live_stmt-returns-in-None t c = λ h k.
     subst (λ x. Lives c.args.depth c.args.left.now c.live-b.new.left (seen c.plus-in-None.result c.either.result) x)
     (sym (live_test known c.args.s.now c.in-If.test c.in-If.yes c.in-If.no c.in-If.is
     ∙ ap (λ o. tested o (expr_elements known c.in-If.test) (live_body known c.in-If.yes) (live_body known c.in-If.no)) unknown))
-    (lives_either c.args.depth c.args.left.now c.live-a.new.left c.live-b.new.left c.live-a.result c.live-b.result (live_body known c.in-If.yes) (live_body known c.in-If.no)
+    (lives_either c.args.depth c.args.left.now c.live-a.new.left c.live-b.new.left c.live-a.result c.live-b.result (live_body known c.in-If.yes) (live_body
+    known c.in-If.no)
     c.of_expr-count.result (expr_elements known c.in-If.test) c.either.result a b (c.of_expr-count.ensures h) c.either.ensures c.plus-in-None.result
     (c.plus-in-None.ensures ∙ ap (λ n. cut (c.of_expr-count.result + n)) c.plus.ensures))
 
@@ -122,10 +126,13 @@ live_stmt-returns-in-Block t c = λ h k.
     let known : CoreExpr → Option Number = static_of c.args.known.cells.now in
     let deep = deep_block c.args.s.now c.in-Block.body c.in-Block.is in
     let f : c.args.depth < length c.args.left.now = is_open _ _ _ _ k deep in
-    let n : c.saturating_add.result ≡ c.args.depth + 1 = one_deeper c.args.depth (length c.args.left.now) c.saturating_add.result f c.mark.ensures.fits c.saturating_add.ensures in
-    let inside = branch known c.saturating_add.result (length c.mark.new.left) c.mark.new.left c.live-inside.new.left c.live-inside.result c.in-Block.body c.as_slice-in-Block.result.now
+    let n : c.saturating_add.result ≡ c.args.depth + 1 = one_deeper c.args.depth (length c.args.left.now) c.saturating_add.result f c.mark.ensures.fits
+    c.saturating_add.ensures in
+    let inside = branch known c.saturating_add.result (length c.mark.new.left) c.mark.new.left c.live-inside.new.left c.live-inside.result c.in-Block.body
+    c.as_slice-in-Block.result.now
     c.as_slice-in-Block.ensures.elements (c.live-inside.ensures h) (inside_fits _ _ _ _ _ _ k deep n c.mark.auto.left) in
     subst (λ x. Lives c.args.depth c.args.left.now c.live-inside.new.left (seen c.live-inside.result.elements c.either-in-Block.result) x)
     (sym (live_block known c.args.s.now c.in-Block.body c.in-Block.is))
-    (lives_block c.args.depth c.saturating_add.result c.args.left.now c.mark.new.left c.live-inside.new.left c.live-inside.result (live_body known c.in-Block.body)
+    (lives_block c.args.depth c.saturating_add.result c.args.left.now c.mark.new.left c.live-inside.new.left c.live-inside.result (live_body known
+    c.in-Block.body)
     c.is_left-is_left.result c.either-in-Block.result n (c.mark.ensures.marks f) f inside c.is_left-is_left.ensures c.either-in-Block.ensures)

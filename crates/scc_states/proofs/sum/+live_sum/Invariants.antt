@@ -12,4 +12,5 @@ invariant-live-loop-s l =
     (l.elements ≤ most)
     × (IsAlone l.known → l.depth + body_deep l.body ≤ length l.initial.left
     → (seen : Seen) (new : List Bool) → Lives l.depth l.left new seen (live_body (static_of l.known.cells.now) (drop l.s-index l.body))
-    → Lives l.depth l.initial.left new (record { elements = cut (l.elements + seen.elements); ends = seen.ends }) (live_body (static_of l.known.cells.now) l.body))
+    → Lives l.depth l.initial.left new (record { elements = cut (l.elements + seen.elements); ends = seen.ends }) (live_body (static_of l.known.cells.now)
+    l.body))

@@ -10,6 +10,7 @@ pub loop-process-preserved : goal.loop-process-preserved
 loop-process-preserved c = λ h k.
     let i : c.loop-process.process-index < length c.args.processes.now = omega arith in
     let d : body_deep c.process-item.result.body ≤ most_deep =
-    within_deepest (λ (p : CoreProcess). body_deep p.body) c.args.processes.now c.loop-process.process-index c.process-item.result most_deep i c.process-item.is k in
+    within_deepest (λ (p : CoreProcess). body_deep p.body) c.args.processes.now c.loop-process.process-index c.process-item.result most_deep i
+    c.process-item.is k in
     one_further (method_elements (static_of c.args.known.cells.now)) c.args.processes.now c.loop-process.process-index c.process-item.result i c.process-item.is
     c.loop-process.all c.of_process.result c.plus-all.result (c.loop-process.invariant h k) (c.of_process.ensures h d) c.plus-all.ensures

@@ -5,4 +5,5 @@ use Rattle.scc_states.specs.Live.{method_elements, processes_deep, most_deep}
 use Rattle.scc_states.proofs.sum.of_methods.Given as goal
 
 abbrev pub invariant-loop-process : goal.invariant-loop-process
-invariant-loop-process l = IsAlone l.known → processes_deep l.processes ≤ most_deep → l.all ≡ cut (total (map (method_elements (static_of l.known.cells.now)) (take l.process-index l.processes)))
+invariant-loop-process l = IsAlone l.known → processes_deep l.processes ≤ most_deep
+    → l.all ≡ cut (total (map (method_elements (static_of l.known.cells.now)) (take l.process-index l.processes)))
