@@ -1,7 +1,8 @@
 //! How many elements stand under indices that aren't static, in an expression.
 ghost use Rattle.std.specs.Prelude.{◌≡◌, ◌+◌, ◌*◌, ◌<◌, MatchOption, IfSome, map};
 ghost use Rattle.scc_core.specs.declared.expr.CoreExpr.{size-CoreExpr};
-ghost use Rattle.scc_core.specs.Statics.{static_of, IsAlone};
+ghost use Rattle.scc_core.specs.Known.{IsAlone};
+ghost use Rattle.scc_core.specs.Statics.{static_of};
 ghost use Rattle.scc_states.specs.Elements.{cut, total, expr_elements, left_elements, pick_elements, part_of};
 ghost use Rattle.scc_states.specs.Counting.{with_part, whole_part, counted};
 

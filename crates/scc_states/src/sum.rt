@@ -1,6 +1,7 @@
 //! How many elements stand under indices that aren't static, over methods and threads.
 ghost use Rattle.std.specs.Prelude.{◌≡◌, ◌+◌, ◌<◌, ◌≤◌, ◌^◌, ◌||◌, true, length, map, slice_index_or, slice_set};
-ghost use Rattle.scc_core.specs.Statics.{static_of, IsAlone};
+ghost use Rattle.scc_core.specs.Known.{IsAlone};
+ghost use Rattle.scc_core.specs.Statics.{static_of};
 ghost use Rattle.scc_states.specs.Elements.{cut, total, expr_elements, left_elements};
 ghost use Rattle.scc_states.specs.Live as spec;
 ghost use Rattle.scc_states.specs.Live.{

@@ -1,6 +1,7 @@
 use Rattle.std.proofs.Common.{◌≡◌, ◌+◌, ◌*◌, ◌≤◌, map, take}
 use Rattle.scc_core.specs.declared.expr.CoreExpr.{size-CoreExpr}
-use Rattle.scc_core.specs.Statics.{static_of, IsAlone}
+use Rattle.scc_core.specs.Known.{IsAlone}
+use Rattle.scc_core.specs.Statics.{static_of}
 use Rattle.scc_states.specs.Elements.{cut, total, expr_elements, part_of}
 use Rattle.scc_states.specs.Counting.{counted}
 use Rattle.scc_states.proofs.elements.+expr_sum.Given as goal

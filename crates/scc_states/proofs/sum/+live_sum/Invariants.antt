@@ -1,5 +1,6 @@
 use Rattle.std.proofs.Common.{◌≡◌, ◌≤◌, ◌+◌, ℕ, List, Bool, length, drop}
-use Rattle.scc_core.specs.Statics.{static_of, IsAlone}
+use Rattle.scc_core.specs.Known.{IsAlone}
+use Rattle.scc_core.specs.Statics.{static_of}
 use Rattle.scc_states.specs.declared.sum.Seen.{Seen}
 use Rattle.scc_states.specs.Elements.{cut, most}
 use Rattle.scc_states.specs.Live.{live_body, body_deep}

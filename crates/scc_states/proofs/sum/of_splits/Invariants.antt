@@ -1,5 +1,6 @@
 use Rattle.std.proofs.Common.{◌≡◌, map, take}
-use Rattle.scc_core.specs.Statics.{static_of, IsAlone}
+use Rattle.scc_core.specs.Known.{IsAlone}
+use Rattle.scc_core.specs.Statics.{static_of}
 use Rattle.scc_states.specs.Elements.{cut, total}
 use Rattle.scc_states.specs.Live.{split_elements}
 use Rattle.scc_states.proofs.sum.of_splits.Given as goal
