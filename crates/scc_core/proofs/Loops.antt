@@ -1,7 +1,9 @@
 -- What loops over parts keep.
-use Rattle.std.proofs.Common.{◌≡◌, refl, ap, sym, ◌∙◌, ℕ, zero, suc, ◌+◌, ◌<◌, ◌≤◌, arith, Bool, true, false, ◌&&◌, List, [], ◌∷◌, map, drop, length, get_or, slice_get, add-one, Option, Some, None}
+use Rattle.std.proofs.Common.{◌≡◌, refl, ap, sym, ◌∙◌, ℕ, zero, suc, ◌+◌, ◌<◌, ◌≤◌, arith, Bool, true, false, ◌&&◌, List, [], ◌∷◌, map, drop, length, get_or, slice_get, add-one, Option, Some, None, option_map, option_and_then, if◌then◌else◌}
 use Rattle.scc_core.specs.declared.places.NameStep.{NameStep}
-use Rattle.scc_core.specs.Names.{are_steps, same_step, same_steps}
+use Rattle.scc_core.specs.declared.program.Cell.{Cell}
+use Rattle.scc_core.specs.declared.program.CellName.{CellName}
+use Rattle.scc_core.specs.Names.{are_steps, first_place, numbered, same_step, same_steps, sought, stands}
 use Rattle.scc_bits.specs.Value.{Number}
 use Rattle.scc_core.specs.Numbers.{above_all, all_joined}
 
@@ -9,6 +11,32 @@ use Rattle.scc_core.specs.Numbers.{above_all, all_joined}
 abbrev pub joined_on : Option Number → List (Option Number) → Option Number
 joined_on None ns = all_joined ns
 joined_on (Some v) ns = above_all v ns
+
+-- the first cell that stands there, counted from a number
+abbrev pub sought_from : ℕ → List (Option NameStep) → CellName → List Cell → Option ℕ
+sought_from n ss name [] = None
+sought_from n ss name (c ∷ cs) = if stands ss name c then numbered n else sought_from (n + 1) ss name cs
+
+one_on : (n : ℕ) (o : Option ℕ) → option_and_then (λ k. numbered (n + 1 + k)) o ≡ option_and_then (λ k. numbered (n + k)) (option_map suc o)
+one_on n None = refl
+one_on n (Some k) = let p : n + 1 + k ≡ n + suc k = omega arith in ap numbered p
+
+if_here : (b : Bool) (n : ℕ) (later : Option ℕ) (o : Option ℕ) → later ≡ option_and_then (λ k. numbered (n + 1 + k)) o
+    → (if b then numbered n else later) ≡ option_and_then (λ k. numbered (n + k)) (if b then Some 0 else option_map suc o)
+if_here true n later o h = let p : n ≡ n + 0 = omega arith in ap numbered p
+if_here false n later o h = h ∙ one_on n o
+
+from_number : (n : ℕ) (ss : List (Option NameStep)) (name : CellName) (cells : List Cell)
+    → sought_from n ss name cells ≡ option_and_then (λ k. numbered (n + k)) (first_place (stands ss name) cells)
+from_number n ss name [] = refl
+from_number n ss name (c ∷ cs) = if_here (stands ss name c) n (sought_from (n + 1) ss name cs) (first_place (stands ss name) cs) (from_number (n + 1) ss name cs)
+
+from_none : (o : Option ℕ) → option_and_then (λ k. numbered (0 + k)) o ≡ option_and_then numbered o
+from_none None = refl
+from_none (Some k) = let p : 0 + k ≡ k = omega arith in ap numbered p
+
+pub from_first : (ss : List (Option NameStep)) (name : CellName) (cells : List Cell) → sought_from 0 ss name cells ≡ sought ss name cells
+from_first ss name cells = from_number 0 ss name cells ∙ from_none (first_place (stands ss name) cells)
 
 -- steps of another number are others
 unlike_long : (ss : List (Option NameStep)) (bs : List NameStep) → (length ss ≡ length bs → ⊥) → false ≡ are_steps ss bs

@@ -130,24 +130,32 @@ selected_is r h l n w s = by_test (option_map (λ v. v.word) r) (nat_le l h && (
     words : (r : Option Number) → IfSome r (λ v. v.word ≡ part h l n.word) → IfSome (option_map (λ v. v.word) r) (λ x. x ≡ part h l n.word)
     words None w = w
     words (Some v) w = w
+
     mapped : (r : Option Number) → IsSome r → IsSome (option_map (λ v. v.word) r)
     mapped None w = w
     mapped (Some v) w = refl
+
     unmapped : (r : Option Number) → IsSome (option_map (λ v. v.word) r) → IsSome r
     unmapped None w = w
     unmapped (Some v) w = refl
+
     le : (a b : ℕ) → nat_le a b ≡ true → a ≤ b
     le a b e = grind (arith, common_steps, e)
+
     lt : (a b : ℕ) → nat_lt a b ≡ true → a < b
     lt a b e = grind (arith, common_steps, e)
+
     is_le : (a b : ℕ) → a ≤ b → nat_le a b ≡ true
     is_le a b e = grind (arith, common_steps, e)
+
     is_lt : (a b : ℕ) → a < b → nat_lt a b ≡ true
     is_lt a b e = grind (arith, common_steps, e)
+
     there : (nat_le l h && (nat_lt h (width_of n.kind) && is_some (range_of n.kind (h - l + 1)))) ≡ true → IsSome (option_map (λ v. v.word) r)
     there e =
         let rest = second_true (nat_le l h) (nat_lt h (width_of n.kind) && is_some (range_of n.kind (h - l + 1))) e in
         mapped r (s.1 (le l h (first_true (nat_le l h) (nat_lt h (width_of n.kind) && is_some (range_of n.kind (h - l + 1))) e), lt h (width_of n.kind) (first_true (nat_lt h (width_of n.kind)) (is_some (range_of n.kind (h - l + 1))) rest), second_true (nat_lt h (width_of n.kind)) (is_some (range_of n.kind (h - l + 1))) rest))
+
     here : IsSome (option_map (λ v. v.word) r) → (nat_le l h && (nat_lt h (width_of n.kind) && is_some (range_of n.kind (h - l + 1)))) ≡ true
     here e = let t = s.0 (unmapped r e) in both_true (nat_le l h) (nat_lt h (width_of n.kind) && is_some (range_of n.kind (h - l + 1))) (is_le l h t.0) (both_true (nat_lt h (width_of n.kind)) (is_some (range_of n.kind (h - l + 1))) (is_lt h (width_of n.kind) t.1) t.2)
 
@@ -156,6 +164,7 @@ small_by r (pos n) h s = by_test r (nat_lt n 4294967296) n (if_some (λ m. pos n
   where
     lt : nat_lt n 4294967296 ≡ true → n < 4294967296
     lt e = grind (arith, common_steps, e)
+
     lt_is : n < 4294967296 → nat_lt n 4294967296 ≡ true
     lt_is e = grind (arith, common_steps, e)
 small_by None (negsuc n) h s = refl

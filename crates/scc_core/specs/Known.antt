@@ -7,7 +7,7 @@ use Rattle.scc_core.specs.declared.program.CellName.{CellName}
 use Rattle.scc_core.specs.declared.places.NameStep.{NameStep}
 use Rattle.scc_core.specs.declared.places.Places.{Places}
 use Rattle.scc_core.specs.declared.statics.Known.{Known}
-use Rattle.scc_core.specs.Names.{placed, sought_from}
+use Rattle.scc_core.specs.Names.{placed, sought}
 use Rattle.scc_core.specs.Statics.{Facts, facts_of, fixed}
 
 -- neither a table of names nor counters
@@ -32,7 +32,7 @@ held_in known n = first_number (counted known.counters n) (fixed known.cells.now
 
 -- a cell by its name: by the table where there is one, else sought among all
 abbrev pub place_in : Known → List (Option NameStep) → CellName → Option ℕ
-place_in known ss name = placed_or known.places (sought_from 0 ss name known.cells.now) ss name
+place_in known ss name = placed_or known.places (sought ss name known.cells.now) ss name
 
 abbrev pub facts_in : Known → Facts
 facts_in known = record { held = held_in known; fixed_at = fixed known.cells.now; place = place_in known }

@@ -1,5 +1,5 @@
 -- Names of cells by their steps, and where cells stand.
-use Rattle.std.specs.Prelude.{ℕ, ◌+◌, Bool, true, false, not, ◌&&◌, nat_eq, nat_lt, if◌then◌else◌, List, [], ◌∷◌, length, map, take, drop, slice_get, Option, Some, None, option_map, option_and_then}
+use Rattle.std.specs.Prelude.{ℕ, suc, Bool, true, false, not, ◌&&◌, nat_eq, nat_lt, if◌then◌else◌, List, [], ◌∷◌, length, map, take, drop, slice_get, Option, Some, None, option_map, option_and_then}
 use Rattle.std.specs.Option.{option_eq}
 use Rattle.std.specs.Cmp.Lexicographic.{pointwise}
 use Rattle.std.specs.Map.{lookup}
@@ -76,10 +76,14 @@ stands ss name c = not (is_pointer c.sort) && are_rest ss (behind c.name name)
 abbrev pub numbered : ℕ → Option ℕ
 numbered n = if nat_lt n 4294967296 then Some n else None
 
--- the first cell in order that stands there, counted from a number
-abbrev pub sought_from : ℕ → List (Option NameStep) → CellName → List Cell → Option ℕ
-sought_from n ss name [] = None
-sought_from n ss name (c ∷ cs) = if stands ss name c then numbered n else sought_from (n + 1) ss name cs
+-- the first place in a list at which something holds, counted from 0
+abbrev pub first_place : {A : Type 0} → (A → Bool) → List A → Option ℕ
+first_place p [] = None
+first_place p (x ∷ xs) = if p x then Some 0 else option_map suc (first_place p xs)
+
+-- the first cell in order that stands there
+abbrev pub sought : List (Option NameStep) → CellName → List Cell → Option ℕ
+sought ss name cells = option_and_then numbered (first_place (stands ss name) cells)
 
 -- what a step leads to in a table of names
 unfoldable pub leads : Places → Spot → NameStep → Option Spot

@@ -16,7 +16,7 @@ use Rattle.scc_core.specs.declared.program.Cell.{Cell}
 use Rattle.scc_core.specs.declared.program.CellName.{CellName}
 use Rattle.scc_core.specs.declared.program.CellSort.{CellSort}
 use Rattle.scc_core.specs.declared.program.CellSort.TheVariants as sort
-use Rattle.scc_core.specs.Names.{sought_from}
+use Rattle.scc_core.specs.Names.{sought}
 use Rattle.scc_core.specs.Numbers.{valued, stored_in, answer, selected, small, bit, all_joined}
 
 -- a part of a location: a member, or an element of so many with its index
@@ -154,7 +154,7 @@ pick_in g = fold-CorePick Base Node Part Pick Expr Left (base_node g) expr_node 
 
 -- by the fixed cells alone
 abbrev pub facts_of : List Cell → Facts
-facts_of cells = record { held = fixed cells; fixed_at = fixed cells; place = λ ss name. sought_from 0 ss name cells }
+facts_of cells = record { held = fixed cells; fixed_at = fixed cells; place = λ ss name. sought ss name cells }
 
 -- the value of an expression of literals and fixed cells
 unfoldable pub static_of : List Cell → CoreExpr → Option Number

@@ -4,7 +4,7 @@ ghost use Rattle.std.specs.Prelude.{◌≡◌, ◌≤◌, ◌<◌, ◌+◌, IfSo
 ghost use Rattle.std.specs.Option.{option_copied};
 ghost use Rattle.scc_core.specs.declared.expr.CoreExpr.{size-CoreExpr};
 ghost use Rattle.scc_core.specs.Known.{IsAlone, counted, facts_in, held_in};
-ghost use Rattle.scc_core.specs.Names.{after, are_rest, are_steps, behind, is_pointer, same_part, same_step, same_steps, sought_from, walk};
+ghost use Rattle.scc_core.specs.Names.{after, are_rest, are_steps, behind, is_pointer, same_part, same_step, same_steps, sought, walk};
 ghost use Rattle.scc_core.specs.Numbers.{above, all_joined, answer, bit, selected, small, stored_in, valued};
 ghost use Rattle.scc_core.specs.Operands.{first_of, inner, operand};
 ghost use Rattle.scc_core.specs.Rests.{steps_in};
@@ -87,7 +87,9 @@ fn down(e: &CoreExpr, levels: usize) -> &CoreExpr
 
 impl<'a> Known<'a> {
     /// What is known by the fixed cells alone.
-    pub fn new(cells: &'a List<Cell>, places: &'a Places) -> Known<'a> {
+    pub fn new(cells: &'a List<Cell>, places: &'a Places) -> Known<'a>
+        ensures cells { result.cells.now ≡ cells.now }
+    {
         Known {
             cells,
             places: Some(places),
@@ -108,7 +110,9 @@ impl<'a> Known<'a> {
     }
 
     /// The same where these counters stand as literals.
-    pub fn with(self, counters: &'a Counters) -> Known<'a> {
+    pub fn with(self, counters: &'a Counters) -> Known<'a>
+        ensures cells { result.cells.now ≡ self.entry.cells.now }
+    {
         Known {
             cells: self.cells,
             places: self.places,
@@ -117,7 +121,9 @@ impl<'a> Known<'a> {
     }
 
     /// The cells.
-    pub fn cells(&self) -> &'a List<Cell> {
+    pub fn cells(&self) -> &'a List<Cell>
+        ensures cells { result.now ≡ self.now.cells.now }
+    {
         self.cells
     }
 
@@ -338,8 +344,9 @@ impl<'a> Known<'a> {
 
     // The same cell, sought among all.
     #[cycle(value)]
+    #[tactic(auto, using(crate::proofs::Loops::from_first))]
     fn sought(&self, parts: &[CorePart], name: &CellName, first: bool) -> Option<u32>
-        ensures { result ≡ sought_from 0 (map (step_at first) (map (part_in (facts_in self.now)) parts.now)) name.now self.now.cells.now }
+        ensures { result ≡ sought (map (step_at first) (map (part_in (facts_in self.now)) parts.now)) name.now self.now.cells.now }
     {
         for (number, cell) in self.cells.as_slice().iter().enumerate() {
             if !is_pointer(cell) && self.ends(parts, behind(&cell.name, name), first) {

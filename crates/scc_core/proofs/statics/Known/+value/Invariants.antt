@@ -1,10 +1,10 @@
 use Rattle.std.proofs.Common.{◌≡◌, ◌+◌, ◌*◌, ◌&&◌, ◌≤◌, length, map, drop, option_map}
 use Rattle.scc_core.specs.Known.{facts_in}
-use Rattle.scc_core.specs.Names.{are_steps, sought_from, walk}
+use Rattle.scc_core.specs.Names.{are_steps, sought, walk}
 use Rattle.scc_core.specs.Numbers.{all_joined}
 use Rattle.scc_core.specs.Rests.{steps_in}
 use Rattle.scc_core.specs.Statics.{inside, part_in, step_at, value_in}
-use Rattle.scc_core.proofs.Loops.{joined_on}
+use Rattle.scc_core.proofs.Loops.{joined_on, sought_from}
 use Rattle.scc_core.proofs.statics.Known.+value.Given as goal
 
 abbrev pub decreases-number : goal.decreases-number
@@ -66,7 +66,7 @@ invariant-walked-loop-part l =
 abbrev pub invariant-sought-loop-number : goal.invariant-sought-loop-number
 invariant-sought-loop-number l =
     sought_from l.number (map (step_at l.first) (map (part_in (facts_in l.self)) l.parts)) l.name (drop l.number l.cell-items)
-    ≡ sought_from 0 (map (step_at l.first) (map (part_in (facts_in l.self)) l.parts)) l.name l.cell-items
+    ≡ sought (map (step_at l.first) (map (part_in (facts_in l.self)) l.parts)) l.name l.cell-items
 
 abbrev pub invariant-are-loop-k : goal.invariant-are-loop-k
 invariant-are-loop-k l =
