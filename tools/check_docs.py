@@ -13,6 +13,7 @@ What is looked at:
 Lines of tables and of code aren't measured. The status is 1 where something is wrong.
 """
 import functools
+import os
 import re
 import sys
 from pathlib import Path
@@ -32,7 +33,12 @@ DECLARED = re.compile(r"\b(?:ensures|requires|fn|mod|ghost) +([a-z_]\w*)")
 
 @functools.lru_cache(maxsize=None)
 def sources(crate):
-    return [f for f in (REPOSITORY / "crates" / crate).rglob("*") if f.suffix in (".rt", ".antt") and "out" not in f.parts]
+    found = []
+    for folder, names, files in os.walk(REPOSITORY / "crates" / crate):
+        # what a check builds comes and goes
+        names[:] = [name for name in names if name != "out"]
+        found += [Path(folder) / name for name in files if name.endswith((".rt", ".antt"))]
+    return found
 
 
 @functools.lru_cache(maxsize=None)
