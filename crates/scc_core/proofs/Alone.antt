@@ -1,10 +1,9 @@
 -- What is known by the cells alone.
-use Rattle.std.proofs.Common.{◌≡◌, refl, ap, ◌∙◌, Option, None}
+use Rattle.std.proofs.Common.{◌≡◌, ap, ◌∙◌, None}
 use Rattle.scc_core.specs.declared.expr.CoreExpr.{CoreExpr}
-use Rattle.scc_core.specs.declared.program.Cell.{Cell}
 use Rattle.scc_core.specs.declared.statics.Known.{Known}
 use Rattle.scc_core.specs.Known.{IsAlone, facts_in}
-use Rattle.scc_core.specs.Statics.{facts_of, value_in, static_of}
+use Rattle.scc_core.specs.Statics.{value_in, static_of}
 
 pub alone_is : (known : Known) (e : CoreExpr) → IsAlone known → value_in (facts_in known) e ≡ static_of known.cells.now e
 unfolding static_of

@@ -1,5 +1,5 @@
 -- Along first operands.
-use Rattle.std.proofs.Common.{◌≡◌, refl, ℕ, zero, suc, ◌+◌, ap, sym, ◌∙◌, Option, Some, None, unwrap_or, add-one, ◌-◌, ◌≤◌, arith, option_map, option_and_then}
+use Rattle.std.proofs.Common.{◌≡◌, refl, ℕ, zero, suc, ◌+◌, ap, sym, ◌∙◌, Some, None, unwrap_or, add-one, ◌-◌, ◌≤◌, arith, option_and_then}
 use Rattle.scc_kinds.specs.declared.kind.Kind.{Kind}
 use Rattle.scc_core.specs.declared.expr.CoreBase.{CoreBase, fold-CoreBase}
 use Rattle.scc_core.specs.declared.expr.CoreExpr.{CoreExpr, fold-roll-CoreExpr}

@@ -1,5 +1,5 @@
 -- Names and steps as the code compares them.
-use Rattle.std.proofs.Common.{◌≡◌, refl, ℕ, Bool, true, false, ◌&&◌, nat_eq, List, [], ◌∷◌, Option, ap, ◌∙◌, cond, Some}
+use Rattle.std.proofs.Common.{◌≡◌, refl, ℕ, Bool, ◌&&◌, nat_eq, List, [], ◌∷◌, ap, ◌∙◌, cond, Some}
 use Rattle.std.specs.Map.{lookup}
 use Rattle.std.specs.Cmp.Lexicographic.{pointwise}
 use Rattle.scc_base.specs.declared.path.PathPart.{PathPart}

@@ -1,11 +1,10 @@
 -- What the operations on numbers ensure is what the definitions say.
-use Rattle.std.proofs.Common.{rules, arith, ◌≡◌, refl, sym, ap, ◌∙◌, subst, ℕ, ◌+◌, ◌-◌, ◌≤◌, ◌<◌, ◌^◌, Bool, true, false, not, ◌&&◌, ◌||◌, nat_eq, nat_le, nat_lt, Option, Some, None, if◌then◌else◌, option_map, option_and_then}
+use Rattle.std.proofs.Common.{rules, arith, ◌≡◌, refl, sym, ap, ◌∙◌, ℕ, ◌+◌, ◌-◌, ◌≤◌, ◌<◌, ◌^◌, Bool, true, false, not, ◌&&◌, nat_le, nat_lt, Option, Some, None, if◌then◌else◌, option_map, option_and_then}
 use Rattle.std.proofs.lemmas.Grind.{common_steps}
-use Rattle.std.specs.Prelude.{IsSome, IfSome, IsOk, IfOk, Result, ◌↔◌, ℤ, pos, negsuc, is_some}
+use Rattle.std.specs.Prelude.{IsSome, IfSome, ◌↔◌, ℤ, pos, negsuc, is_some}
 use Rattle.scc_kinds.specs.declared.kind.Kind.{Kind}
 use Rattle.scc_kinds.specs.declared.kind.Kind.TheVariants as kind
 use Rattle.scc_kinds.specs.declared.op.Op.{Op}
-use Rattle.scc_kinds.specs.declared.op.Op.TheVariants as op
 use Rattle.scc_kinds.specs.declared.rule.Rule.{Rule}
 use Rattle.scc_kinds.specs.Bits.{part, joined, range_of, concat_of}
 use Rattle.scc_kinds.specs.Kinds.{IsValid, Fits, width_of, stored}

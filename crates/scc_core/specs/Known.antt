@@ -1,5 +1,5 @@
 -- What is known of cells before a run.
-use Rattle.std.specs.Prelude.{◌≡◌, ℕ, nat_eq, List, Option, Some, None, unwrap_or}
+use Rattle.std.specs.Prelude.{◌≡◌, ℕ, nat_eq, List, Option, Some, None}
 use Rattle.std.specs.HashMap.{HashMap, get_by}
 use denote.Ref.{Bor}
 use Rattle.scc_bits.specs.Value.{Number}
@@ -8,7 +8,7 @@ use Rattle.scc_core.specs.declared.places.NameStep.{NameStep}
 use Rattle.scc_core.specs.declared.places.Places.{Places}
 use Rattle.scc_core.specs.declared.statics.Known.{Known}
 use Rattle.scc_core.specs.Names.{placed, sought}
-use Rattle.scc_core.specs.Statics.{Facts, facts_of, fixed}
+use Rattle.scc_core.specs.Statics.{Facts, fixed}
 
 -- neither a table of names nor counters
 abbrev pub IsAlone : Known → Type 0

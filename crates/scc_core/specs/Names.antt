@@ -6,7 +6,6 @@ use Rattle.std.specs.Map.{lookup}
 use Rattle.scc_base.specs.declared.names.Name.{Name}
 use Rattle.scc_base.specs.declared.path.PathPart.{PathPart}
 use Rattle.scc_base.specs.declared.path.PathPart.TheVariants as path_part
-use Rattle.scc_core.specs.declared.places.Branch.{Branch}
 use Rattle.scc_core.specs.declared.places.NameStep.{NameStep}
 use Rattle.scc_core.specs.declared.places.NameStep.TheVariants as step
 use Rattle.scc_core.specs.declared.places.Places.{Places}

@@ -1,5 +1,5 @@
 -- Numbers of static expressions, where they have one: each gives none exactly where the arithmetic has no value.
-use Rattle.std.specs.Prelude.{ℕ, ◌+◌, ◌-◌, ◌/◌, ◌%◌, ◌^◌, ℤ, pos, negsuc, Bool, true, false, not, ◌&&◌, ◌||◌, nat_eq, nat_le, nat_lt, if◌then◌else◌, List, [], ◌∷◌, Option, Some, None, option_map, option_and_then, is_some}
+use Rattle.std.specs.Prelude.{ℕ, ◌+◌, ◌-◌, ◌/◌, ◌%◌, ◌^◌, ℤ, pos, negsuc, Bool, true, not, ◌&&◌, ◌||◌, nat_eq, nat_le, nat_lt, if◌then◌else◌, List, [], ◌∷◌, Option, Some, None, option_map, option_and_then, is_some}
 use Rattle.scc_kinds.specs.declared.kind.Kind.{Kind}
 use Rattle.scc_kinds.specs.declared.kind.Kind.TheVariants as kind
 use Rattle.scc_kinds.specs.declared.op.Op.{Op}
@@ -7,7 +7,7 @@ use Rattle.scc_kinds.specs.declared.op.Op.TheVariants as op
 use Rattle.scc_kinds.specs.Kinds.{width_of, stored}
 use Rattle.scc_kinds.specs.Bits.{part, joined, range_of, concat_of}
 use Rattle.scc_bits.specs.Value.{Number, exactly}
-use Rattle.scc_bits.specs.Values.{kind_of, is_too_wide, applied}
+use Rattle.scc_bits.specs.Values.{is_too_wide, applied}
 
 -- whether a kind is one that there is
 abbrev pub is_valid : Kind → Bool

@@ -1,4 +1,4 @@
-use Rattle.std.proofs.Common.{◌≡◌, refl, Some, true, false, ap, ◌∙◌}
+use Rattle.std.proofs.Common.{◌≡◌, refl, true, false}
 use Rattle.scc_core.proofs.Numbers.{above_ok, above_err}
 use Rattle.scc_core.proofs.statics.joined.Goals as goal
 

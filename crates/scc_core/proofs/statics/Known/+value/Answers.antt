@@ -1,6 +1,5 @@
-use Rattle.std.proofs.Common.{◌≡◌, ◌≤◌, ◌<◌, ◌/◌, ℕ, Bool, sym, ap, ◌∙◌, arith, length, ◌&&◌, drop, map, ◌+◌}
+use Rattle.std.proofs.Common.{◌≡◌, ◌≤◌, ◌<◌, ◌/◌, sym, ◌∙◌, arith, length}
 use Rattle.scc_core.specs.Known.{facts_in}
-use Rattle.scc_core.specs.Names.{are_steps}
 use Rattle.scc_core.specs.Rests.{steps_in}
 use Rattle.scc_core.specs.Statics.{part_in, step_at}
 use Rattle.scc_core.proofs.Along.{none_over, some_over, half_over}

@@ -1,4 +1,4 @@
-use Rattle.std.proofs.Common.{◌≡◌, ◌+◌, ◌*◌, ◌&&◌, ◌≤◌, length, map, drop, option_map}
+use Rattle.std.proofs.Common.{◌≡◌, ◌+◌, ◌*◌, ◌&&◌, map, drop, option_map}
 use Rattle.scc_core.specs.Known.{facts_in}
 use Rattle.scc_core.specs.Names.{are_steps, sought, walk}
 use Rattle.scc_core.specs.Numbers.{all_joined}
