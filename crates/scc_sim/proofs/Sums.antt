@@ -1,5 +1,5 @@
 -- Sums that stand still at a limit.
-use Rattle.std.proofs.Common.{◌≡◌, refl, arith, ℕ, List, [], ◌∷◌, ◌++◌, map, take, get_or, length, add-one, ◌+◌, ◌<◌, min, ap, ◌∙◌, sym}
+use Rattle.std.proofs.Common.{◌≡◌, arith, ℕ, List, [], ◌∷◌, ◌++◌, map, take, get_or, length, add-one, ◌+◌, ◌<◌, min, ap, ◌∙◌, sym}
 use Rattle.std.proofs.Math.Seq.{take-suc}
 use Rattle.scc_sim.specs.Segments.{total}
 

@@ -7,4 +7,4 @@ pub segment_size-loop-s-preserved : goal.segment_size-loop-s-preserved
 segment_size-loop-s-preserved t c =
     let h : c.loop-s.s-index < length c.args.list.now = omega arith in
     one_further statement_statements most c.args.list.now c.loop-s.s-index c.s-item.result h c.s-item.is c.loop-s.size c.segment_size_of_one.result
-        c.saturating_add-size.result c.loop-s.invariant c.segment_size_of_one.ensures c.saturating_add-size.ensures
+    c.saturating_add-size.result c.loop-s.invariant c.segment_size_of_one.ensures c.saturating_add-size.ensures
