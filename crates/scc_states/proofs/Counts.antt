@@ -1,5 +1,6 @@
 -- Sums and products that stand still at a limit, along lists.
-use Rattle.std.proofs.Common.{◌≡◌, refl, arith, ℕ, zero, suc, List, [], ◌∷◌, ◌++◌, map, take, get_or, length, add-one, ◌+◌, ◌*◌, ◌<◌, ◌≤◌, min, ap, ◌∙◌, sym, Bool, true, false, ◌||◌, Option, Some, None, if◌then◌else◌, ◌⊎◌, inl, inr}
+use Rattle.std.proofs.Common.{◌≡◌, refl, arith, ℕ, zero, suc, List, [], ◌∷◌, ◌++◌, map, take, get_or, length, add-one, ◌+◌, ◌*◌, ◌<◌, ◌≤◌, min, ap, ◌∙◌, sym}
+use Rattle.std.proofs.Common.{Bool, true, false, ◌||◌, Option, Some, None, if◌then◌else◌, ◌⊎◌, inl, inr}
 use Rattle.std.proofs.Math.Nat.{mul-le-mul_left}
 use Rattle.std.proofs.Math.Seq.{take-suc}
 use Rattle.std.proofs.lemmas.Bool.{cases_lt}
@@ -152,10 +153,3 @@ all_of a e r h i = h ∙ ap cut (sym i)
 
 pub none_of : (e : ℕ) → e ≡ 0 → 0 ≡ cut e
 none_of e h = omega (arith, h)
-
--- a turn of the loop along first operands
-pub turn_ends : (sum here e r w : ℕ) → cut (sum + here) ≡ cut e → r ≡ cut here → w ≡ cut (sum + r) → w ≡ cut e
-turn_ends sum here e r w h i j = omega (arith, h, i, j)
-
-pub turn_goes : (sum here e r x w : ℕ) → cut (sum + here) ≡ cut e → cut (r + x) ≡ cut here → w ≡ cut (sum + r) → cut (w + x) ≡ cut e
-turn_goes sum here e r x w h i j = omega (arith, h, i, j)

@@ -13,7 +13,8 @@ use Rattle.scc_core.specs.declared.expr.CorePart.TheVariants as part
 use Rattle.scc_core.specs.declared.expr.CorePick.{CorePick, para-roll-CorePick}
 use Rattle.scc_core.specs.declared.expr.CorePick.TheVariants as pick
 use Rattle.scc_core.specs.declared.expr.CoreBase.TheOpen as tree
-use Rattle.scc_states.specs.Elements.{Part, total, under, optional, in_base, in_node, in_part, in_pick, in_expr, in_left, unknown, expr_elements, left_elements, pick_elements, part_of}
+use Rattle.scc_states.specs.Elements.{Part, total, under, optional, in_base, in_node, in_part, in_pick, in_expr, in_left, unknown, expr_elements, left_elements}
+use Rattle.scc_states.specs.Elements.{pick_elements, part_of}
 
 node_elements : (CoreExpr → Option Number) → CoreExprNode → ℕ
 node_elements known = para-CoreExprNode ℕ ℕ Part ℕ ℕ ℕ in_base in_node (in_part known) in_pick in_expr in_left

@@ -1,12 +1,12 @@
 -- How what is seen on paths goes together.
-use Rattle.std.proofs.Common.{◌≡◌, ◌≢◌, refl, arith, ℕ, zero, suc, List, [], ◌∷◌, ◌++◌, map, sum, take, drop, get_or, length, add-one, ◌+◌, ◌-◌, ◌<◌, ◌≤◌, min, max, nat_eq, ap, ◌∙◌, sym, subst, Bool, true, false, ◌||◌, not, Option, Some, None, if◌then◌else◌, ◌⊎◌, inl, inr}
+use Rattle.std.proofs.Common.{◌≡◌, ◌≢◌, refl, arith, ℕ, zero, suc, List, [], ◌∷◌, map, get_or, length, ◌+◌, ◌<◌, ◌≤◌, min, max, nat_eq, ap, ◌∙◌, sym}
+use Rattle.std.proofs.Common.{subst, Bool, true, false, ◌||◌, if◌then◌else◌, ◌⊎◌, inl, inr}
 use Rattle.std.proofs.Math.ListN.{set}
 use Rattle.std.proofs.lemmas.List.{get_or-set_same, get_or-set_other}
 use Rattle.std.proofs.lemmas.Bool.Decides.{eqb_tells}
-use Rattle.scc_bits.specs.Value.{Number}
 use Rattle.scc_states.specs.declared.sum.Seen.{Seen}
 use Rattle.scc_states.specs.Elements.{cut, most}
-use Rattle.scc_states.specs.Live.{Live, deepest, passed, exit, behind, along, either, tested, block, endless}
+use Rattle.scc_states.specs.Live.{Live, deepest, passed, exit, behind, either, block, endless}
 use Rattle.scc_states.specs.Paths.{Lives}
 use Rattle.scc_states.proofs.Counts.{cut_more}
 
@@ -69,9 +69,6 @@ further p k d h = omega (arith, h)
 
 below : (p k d : ℕ) → p + suc k ≡ d → p ≡ d → 1 ≤ 0
 below p k d h i = omega (arith, h, i)
-
-innermost : (d : ℕ) → d + 1 ≡ d + 1
-innermost d = refl
 
 none_below : 1 ≤ 0 → (A : Type 0) → A
 none_below h A = absurd (omega (arith, h))

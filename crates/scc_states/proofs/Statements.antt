@@ -1,15 +1,15 @@
 -- What is said of a test and of a block, and of the statements along a body.
-use Rattle.std.proofs.Common.{◌≡◌, refl, sym, ap, ◌∙◌, subst, arith, ℕ, zero, suc, List, [], ◌∷◌, map, drop, get_or, length, add-one, drop-cons, ◌+◌, ◌<◌, ◌≤◌, max, Bool, Option, Some, None}
+use Rattle.std.proofs.Common.{◌≡◌, sym, ap, ◌∙◌, subst, ℕ, suc, List, map, drop, get_or, length, add-one, drop-cons, ◌+◌, ◌<◌, ◌≤◌, max, Bool, Option}
 use Rattle.scc_bits.specs.Value.{Number}
 use Rattle.scc_core.specs.declared.expr.CoreExpr.{CoreExpr}
 use Rattle.scc_core.specs.declared.stmt.CoreStmt.{CoreStmt, fold-CoreStmt, fold-roll-CoreStmt}
-use Rattle.scc_core.specs.declared.stmt.CoreNode.{CoreNode, fold-CoreNode, fold-roll-CoreNode}
+use Rattle.scc_core.specs.declared.stmt.CoreNode.{fold-CoreNode, fold-roll-CoreNode}
 use Rattle.scc_core.specs.declared.stmt.CoreNode.TheVariants as node
 use Rattle.scc_core.specs.declared.stmt.CoreNode.TheOpen.{CoreNode-F}
 use Rattle.scc_core.specs.declared.stmt.CoreNode.TheOpen as tree
 use Rattle.scc_states.specs.declared.sum.Seen.{Seen}
 use Rattle.scc_states.specs.Elements.{expr_elements}
-use Rattle.scc_states.specs.Live.{Live, behind, along, tested, block, live_node, live_statement, live_body, deep_node, blocks_deep, body_deep}
+use Rattle.scc_states.specs.Live.{Live, behind, tested, block, live_node, live_statement, live_body, deep_node, blocks_deep, body_deep}
 use Rattle.scc_states.specs.Paths.{Lives}
 
 module _ (A : Type 0) (step : CoreNode-F A A → A) where

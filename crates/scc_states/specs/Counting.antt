@@ -1,5 +1,5 @@
 -- What is counted of the parts of a location, one behind another.
-use Rattle.std.specs.Prelude.{ℕ, ◌+◌, ◌*◌, List, [], map, Bool, ◌||◌, Option, Some, None, if◌then◌else◌}
+use Rattle.std.specs.Prelude.{ℕ, ◌+◌, ◌*◌, List, map, ◌||◌, Option, Some, None, if◌then◌else◌}
 use Rattle.scc_states.specs.declared.elements.Counted.{Counted}
 use Rattle.scc_states.specs.Elements.{Part, cut, total, factor, product, is_open, some_open}
 

@@ -1,5 +1,5 @@
 -- The elements under indices that aren't static, over the live part of a body and over segments.
-use Rattle.std.specs.Prelude.{ℕ, zero, suc, ◌+◌, max, nat_eq, not, List, [], ◌∷◌, map, Bool, true, false, ◌||◌, Option, Some, None, if◌then◌else◌}
+use Rattle.std.specs.Prelude.{ℕ, suc, ◌+◌, max, nat_eq, List, [], ◌∷◌, map, Bool, true, false, ◌||◌, Option, Some, None, if◌then◌else◌}
 use Rattle.scc_bits.specs.Value.{Number}
 use Rattle.scc_core.specs.declared.expr.CoreExpr.{CoreExpr}
 use Rattle.scc_core.specs.declared.stmt.CoreStmt.{CoreStmt, fold-CoreStmt}

@@ -1,11 +1,12 @@
-use Rattle.std.proofs.Common.{◌≡◌, ◌<◌, ◌+◌, ℕ, Option, Some, None, map, length, sym, ap, ◌∙◌, refl, arith}
+use Rattle.std.proofs.Common.{◌≡◌, ◌<◌, ◌+◌, ℕ, Option, Some, None, map, length, sym, ap, ◌∙◌, arith}
 use Rattle.scc_bits.specs.Value.{Number}
 use Rattle.scc_core.specs.declared.expr.CoreExpr.{CoreExpr}
 use Rattle.scc_core.specs.Statics.{static_of}
-use Rattle.scc_states.specs.Elements.{Part, cut, total, under, optional, unknown, expr_elements, left_elements, pick_elements, part_of}
+use Rattle.scc_states.specs.Elements.{cut, total, under, optional, unknown, expr_elements, pick_elements, part_of}
 use Rattle.scc_states.specs.Counting.{counted, whole_part}
-use Rattle.scc_states.proofs.Nodes.{of_lit, of_load, of_read, of_convert, of_unary, of_binary, of_choose, of_bits, of_join, of_member, of_index, of_bit, of_range, left_is}
-use Rattle.scc_states.proofs.Counts.{first_only, beside_first, beside_two, all_of, none_of, turn_ends, turn_goes, one_further, part_further, whole_is}
+use Rattle.scc_states.proofs.Nodes.{of_lit, of_load, of_read, of_convert, of_unary, of_binary, of_choose, of_bits, of_join, of_member, of_index, of_bit}
+use Rattle.scc_states.proofs.Nodes.{of_range, left_is}
+use Rattle.scc_states.proofs.Counts.{first_only, beside_first, beside_two, all_of, none_of, one_further, part_further, whole_is}
 use Rattle.scc_states.proofs.elements.+expr_sum.Goals as goal
 
 plain_zero : (x y : ℕ) → y ≡ x + 0 → y ≡ x

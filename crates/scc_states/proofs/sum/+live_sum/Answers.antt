@@ -1,12 +1,11 @@
-use Rattle.std.proofs.Common.{◌≡◌, refl, sym, ap, ◌∙◌, subst, ℕ, ◌+◌, ◌-◌, ◌^◌, min, ◌<◌, ◌≤◌, max, List, map, drop, length, Bool, true, false, not, Option, Some, None, arith}
+use Rattle.std.proofs.Common.{◌≡◌, refl, sym, ap, ◌∙◌, subst, ℕ, ◌+◌, ◌-◌, ◌^◌, min, ◌<◌, ◌≤◌, max, drop, length, Bool, true, false, not, Option, None, arith}
 use Rattle.std.proofs.lemmas.List.{drop_all}
 use Rattle.scc_bits.specs.Value.{Number}
 use Rattle.scc_core.specs.declared.expr.CoreExpr.{CoreExpr}
-use Rattle.scc_core.specs.declared.stmt.CoreStmt.{CoreStmt}
 use Rattle.scc_core.specs.Statics.{static_of}
 use Rattle.scc_states.specs.declared.sum.Seen.{Seen}
 use Rattle.scc_states.specs.Elements.{cut, most, expr_elements}
-use Rattle.scc_states.specs.Live.{behind, tested, block, live_statement, live_body, blocks_deep, body_deep}
+use Rattle.scc_states.specs.Live.{tested, live_statement, live_body, blocks_deep, body_deep}
 use Rattle.scc_states.specs.Paths.{Lives}
 use Rattle.scc_states.proofs.Paths.{lives_passed, lives_either, lives_block, lives_behind, lives_stopped, within_deepest}
 use Rattle.scc_states.proofs.Statements.{live_test, deep_test, live_block, deep_block, branch, from_here}

@@ -1,4 +1,4 @@
-use Rattle.std.proofs.Common.{◌≡◌, ◌≤◌, ◌+◌, ℕ, List, Bool, length, drop}
+use Rattle.std.proofs.Common.{◌≤◌, ◌+◌, List, Bool, length, drop}
 use Rattle.scc_core.specs.Known.{IsAlone}
 use Rattle.scc_core.specs.Statics.{static_of}
 use Rattle.scc_states.specs.declared.sum.Seen.{Seen}
