@@ -3,3 +3,4 @@ pub mod Elements
 pub mod Counting
 pub mod Live
 pub mod Paths
+pub mod Told

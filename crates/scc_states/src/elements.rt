@@ -1,8 +1,7 @@
 //! How many elements stand under indices that aren't static, in an expression.
 ghost use Rattle.std.specs.Prelude.{◌≡◌, ◌+◌, ◌*◌, ◌<◌, MatchOption, IfSome, map};
 ghost use Rattle.scc_core.specs.declared.expr.CoreExpr.{size-CoreExpr};
-ghost use Rattle.scc_core.specs.Known.{IsAlone};
-ghost use Rattle.scc_core.specs.Statics.{static_of};
+ghost use Rattle.scc_states.specs.Told.{numbers_in};
 ghost use Rattle.scc_states.specs.Elements.{cut, total, expr_elements, left_elements, pick_elements, part_of};
 ghost use Rattle.scc_states.specs.Counting.{with_part, whole_part, counted};
 
@@ -26,8 +25,9 @@ fn times(a: u64, size: u32) -> u64
 }
 
 /// The number of a static expression; None exactly where it isn't static.
+#[tactic(auto, unfolding(crate::specs::Told::numbers_in))]
 pub fn number_of(e: &CoreExpr, known: Known<'_>) -> Option<Value>
-    ensures { IsAlone known.entry → result ≡ static_of known.entry.cells.now e.now }
+    ensures { result ≡ numbers_in known.entry e.now }
 {
     known.value(e)
 }
@@ -35,7 +35,7 @@ pub fn number_of(e: &CoreExpr, known: Known<'_>) -> Option<Value>
 /// The elements under the indices of an expression. First operands, which nest as deep as a chain is long, are taken by a loop.
 #[cycle(expr_sum)]
 pub fn of_expr(e: &CoreExpr, known: Known<'_>) -> u64
-    ensures { IsAlone known.entry → result ≡ cut (expr_elements (static_of known.entry.cells.now) e.now) }
+    ensures { result ≡ cut (expr_elements (numbers_in known.entry) e.now) }
 {
     let mut sum = 0;
     let mut here = e;
@@ -53,9 +53,9 @@ pub fn of_expr(e: &CoreExpr, known: Known<'_>) -> u64
 #[cycle(expr_sum)]
 fn beside<'a>(e: &'a CoreExpr, known: Known<'_>) -> (u64, Option<&'a CoreExpr>)
     ensures smaller { IfSome result.1 (λ x. size-CoreExpr x.now < size-CoreExpr e.now) }
-    ensures counts { IsAlone known.entry → MatchOption result.1
-        (result.0 ≡ cut (expr_elements (static_of known.entry.cells.now) e.now))
-        (λ x. cut (result.0 + expr_elements (static_of known.entry.cells.now) x.now) ≡ cut (expr_elements (static_of known.entry.cells.now) e.now)) }
+    ensures counts { MatchOption result.1
+        (result.0 ≡ cut (expr_elements (numbers_in known.entry) e.now))
+        (λ x. cut (result.0 + expr_elements (numbers_in known.entry) x.now) ≡ cut (expr_elements (numbers_in known.entry) e.now)) }
 {
     match e.node.get() {
         CoreExprNode::Lit(_) => (0, None),
@@ -78,7 +78,7 @@ fn beside<'a>(e: &'a CoreExpr, known: Known<'_>) -> (u64, Option<&'a CoreExpr>)
 
 #[cycle(expr_sum)]
 fn of_exprs(list: &[CoreExpr], known: Known<'_>) -> u64
-    ensures { IsAlone known.entry → result ≡ cut (total (map (expr_elements (static_of known.entry.cells.now)) list.now)) }
+    ensures { result ≡ cut (total (map (expr_elements (numbers_in known.entry)) list.now)) }
 {
     let mut sum = 0;
     for e in list {
@@ -89,7 +89,7 @@ fn of_exprs(list: &[CoreExpr], known: Known<'_>) -> u64
 
 #[cycle(expr_sum)]
 fn of_pick(pick: &CorePick, known: Known<'_>) -> u64
-    ensures { IsAlone known.entry → result ≡ cut (pick_elements (static_of known.entry.cells.now) pick.now) }
+    ensures { result ≡ cut (pick_elements (numbers_in known.entry) pick.now) }
 {
     match pick {
         CorePick::Bit(at) => of_expr(at, known),
@@ -100,8 +100,8 @@ fn of_pick(pick: &CorePick, known: Known<'_>) -> u64
 // What stands inside an index, and its size where it isn't static.
 #[cycle(expr_sum)]
 fn of_part(part: &CorePart, known: Known<'_>) -> (u64, Option<u32>)
-    ensures inside { IsAlone known.entry → result.0 ≡ cut (part_of (static_of known.entry.cells.now) part.now).inside }
-    ensures size { IsAlone known.entry → result.1 ≡ (part_of (static_of known.entry.cells.now) part.now).size }
+    ensures inside { result.0 ≡ cut (part_of (numbers_in known.entry) part.now).inside }
+    ensures size { result.1 ≡ (part_of (numbers_in known.entry) part.now).size }
 {
     match part {
         CorePart::Member(_) => (0, None),
@@ -151,7 +151,7 @@ impl Counted {
 
 #[cycle(expr_sum)]
 fn of_parts(parts: &[CorePart], known: Known<'_>) -> Counted
-    ensures { IsAlone known.entry → result ≡ counted (map (part_of (static_of known.entry.cells.now)) parts.now) }
+    ensures { result ≡ counted (map (part_of (numbers_in known.entry)) parts.now) }
 {
     let mut all = Counted {
         inside: 0,
@@ -168,7 +168,7 @@ fn of_parts(parts: &[CorePart], known: Known<'_>) -> Counted
 /// A location: the product of its dimensions under indices that aren't static, and what stands inside its indices.
 #[cycle(expr_sum)]
 pub fn of_left(left: &CoreLeft, known: Known<'_>) -> u64
-    ensures { IsAlone known.entry → result ≡ cut (left_elements (static_of known.entry.cells.now) left.now) }
+    ensures { result ≡ cut (left_elements (numbers_in known.entry) left.now) }
 {
     let parts = of_parts(left.parts.as_slice(), known);
     match &left.pick {

@@ -2,6 +2,7 @@
 ghost use Rattle.std.specs.Prelude.{◌≡◌, ◌+◌, ◌<◌, ◌≤◌, ◌^◌, ◌||◌, true, length, map, slice_index_or, slice_set};
 ghost use Rattle.scc_core.specs.Known.{IsAlone};
 ghost use Rattle.scc_core.specs.Statics.{static_of};
+ghost use Rattle.scc_states.specs.Told.{numbers_in};
 ghost use Rattle.scc_states.specs.Elements.{cut, total, expr_elements, left_elements};
 ghost use Rattle.scc_states.specs.Live as spec;
 ghost use Rattle.scc_states.specs.Live.{
@@ -38,8 +39,15 @@ pub fn index_sum(c: &Core, s: &[Split]) -> u64
 
 /// The same, where the cells' names are in a table.
 pub fn index_sum_known(known: Known<'_>, c: &Core, s: &[Split]) -> u64
-    ensures { IsAlone known.entry → processes_deep c.now.processes ≤ most_deep →
+    ensures known { processes_deep c.now.processes ≤ most_deep → result ≡ cut (elements_of (numbers_in known.entry) c.now s.now) }
+    ensures alone { IsAlone known.entry → processes_deep c.now.processes ≤ most_deep →
         result ≡ cut (elements_of (static_of known.entry.cells.now) c.now s.now) }
+{
+    all(known, c, s)
+}
+
+fn all(known: Known<'_>, c: &Core, s: &[Split]) -> u64
+    ensures { processes_deep c.now.processes ≤ most_deep → result ≡ cut (elements_of (numbers_in known.entry) c.now s.now) }
 {
     let methods = of_methods(c.processes.as_slice(), known);
     let threads = of_splits(s, known);
@@ -47,8 +55,8 @@ pub fn index_sum_known(known: Known<'_>, c: &Core, s: &[Split]) -> u64
 }
 
 fn of_methods(processes: &[CoreProcess], known: Known<'_>) -> u64
-    ensures { IsAlone known.entry → processes_deep processes.now ≤ most_deep →
-        result ≡ cut (total (map (method_elements (static_of known.entry.cells.now)) processes.now)) }
+    ensures { processes_deep processes.now ≤ most_deep →
+        result ≡ cut (total (map (method_elements (numbers_in known.entry)) processes.now)) }
 {
     let mut all = 0;
     for process in processes {
@@ -58,8 +66,8 @@ fn of_methods(processes: &[CoreProcess], known: Known<'_>) -> u64
 }
 
 fn of_process(process: &CoreProcess, known: Known<'_>) -> u64
-    ensures { IsAlone known.entry → body_deep process.now.body ≤ most_deep →
-        result ≡ cut (method_elements (static_of known.entry.cells.now) process.now) }
+    ensures { body_deep process.now.body ≤ most_deep →
+        result ≡ cut (method_elements (numbers_in known.entry) process.now) }
 {
     match process.sort {
         Sort2::Method => of_body(process.body.as_slice(), known),
@@ -68,15 +76,15 @@ fn of_process(process: &CoreProcess, known: Known<'_>) -> u64
 }
 
 fn of_body(body: &[CoreStmt], known: Known<'_>) -> u64
-    ensures { IsAlone known.entry → body_deep body.now ≤ most_deep →
-        result ≡ cut (live_body (static_of known.entry.cells.now) body.now).elements }
+    ensures { body_deep body.now ≤ most_deep →
+        result ≡ cut (live_body (numbers_in known.entry) body.now).elements }
 {
     let mut left = [false; DEEPEST];
     live(body, known, 0, &mut left).elements
 }
 
 fn of_splits(splits: &[Split], known: Known<'_>) -> u64
-    ensures { IsAlone known.entry → result ≡ cut (total (map (split_elements (static_of known.entry.cells.now)) splits.now)) }
+    ensures { result ≡ cut (total (map (split_elements (numbers_in known.entry)) splits.now)) }
 {
     let mut all = 0;
     for split in splits {
@@ -86,7 +94,7 @@ fn of_splits(splits: &[Split], known: Known<'_>) -> u64
 }
 
 fn of_split(split: &Split, known: Known<'_>) -> u64
-    ensures { IsAlone known.entry → result ≡ cut (split_elements (static_of known.entry.cells.now) split.now) }
+    ensures { result ≡ cut (split_elements (numbers_in known.entry) split.now) }
 {
     let reset = segment(split.reset.as_slice(), known);
     let others = segments(split.segments.as_slice(), known);
@@ -94,7 +102,7 @@ fn of_split(split: &Split, known: Known<'_>) -> u64
 }
 
 fn segments(lists: &[List<SegStmt>], known: Known<'_>) -> u64
-    ensures { IsAlone known.entry → result ≡ cut (total (map (segment_elements (static_of known.entry.cells.now)) lists.now)) }
+    ensures { result ≡ cut (total (map (segment_elements (numbers_in known.entry)) lists.now)) }
 {
     let mut all = 0;
     for list in lists {
@@ -133,8 +141,8 @@ fn is_left(left: &[bool], depth: usize) -> bool
 // The statements that a path comes to; `left` tells which of the open blocks some path leaves, by their depth from 0.
 #[cycle(live_sum)]
 fn live(body: &[CoreStmt], known: Known<'_>, depth: usize, left: &mut [bool]) -> Seen
-    ensures { IsAlone known.entry → depth + body_deep body.now ≤ length left.old →
-        Lives depth left.old left.new result (live_body (static_of known.entry.cells.now) body.now) }
+    ensures { depth + body_deep body.now ≤ length left.old →
+        Lives depth left.old left.new result (live_body (numbers_in known.entry) body.now) }
 {
     let mut elements = 0;
     for s in body {
@@ -155,8 +163,8 @@ fn live(body: &[CoreStmt], known: Known<'_>, depth: usize, left: &mut [bool]) ->
 
 #[cycle(live_sum)]
 fn live_stmt(s: &CoreStmt, known: Known<'_>, depth: usize, left: &mut [bool]) -> Seen
-    ensures { IsAlone known.entry → depth + blocks_deep s.now ≤ length left.old →
-        Lives depth left.old left.new result (live_statement (static_of known.entry.cells.now) s.now) }
+    ensures { depth + blocks_deep s.now ≤ length left.old →
+        Lives depth left.old left.new result (live_statement (numbers_in known.entry) s.now) }
 {
     match &s.node {
         CoreNode::If { test, yes, no } => match number_of(test, known) {
@@ -227,8 +235,7 @@ fn exit(n: usize, depth: usize, left: &mut [bool]) -> Seen
 }
 
 fn of_assignment(left: &CoreLeft, value: &CoreExpr, known: Known<'_>) -> u64
-    ensures { IsAlone known.entry →
-        result ≡ cut (left_elements (static_of known.entry.cells.now) left.now + expr_elements (static_of known.entry.cells.now) value.now) }
+    ensures { result ≡ cut (left_elements (numbers_in known.entry) left.now + expr_elements (numbers_in known.entry) value.now) }
 {
     let a = of_left(left, known);
     let b = of_expr(value, known);
@@ -237,7 +244,7 @@ fn of_assignment(left: &CoreLeft, value: &CoreExpr, known: Known<'_>) -> u64
 
 #[cycle(segment_sum)]
 fn segment(list: &[SegStmt], known: Known<'_>) -> u64
-    ensures { IsAlone known.entry → result ≡ cut (segment_elements (static_of known.entry.cells.now) list.now) }
+    ensures { result ≡ cut (segment_elements (numbers_in known.entry) list.now) }
 {
     let mut all = 0;
     for s in list {
@@ -248,7 +255,7 @@ fn segment(list: &[SegStmt], known: Known<'_>) -> u64
 
 #[cycle(segment_sum)]
 fn segment_stmt(s: &SegStmt, known: Known<'_>) -> u64
-    ensures { IsAlone known.entry → result ≡ cut (segment_statement (static_of known.entry.cells.now) s.now) }
+    ensures { result ≡ cut (segment_statement (numbers_in known.entry) s.now) }
 {
     match &s.node {
         SegNode::Plain(stmt) => whole(stmt, known),
@@ -265,7 +272,7 @@ fn segment_stmt(s: &SegStmt, known: Known<'_>) -> u64
 // All statements in one.
 #[cycle(whole_sum)]
 fn whole(s: &CoreStmt, known: Known<'_>) -> u64
-    ensures { IsAlone known.entry → result ≡ cut (statement_elements (static_of known.entry.cells.now) s.now) }
+    ensures { result ≡ cut (statement_elements (numbers_in known.entry) s.now) }
 {
     match &s.node {
         CoreNode::If { test, yes, no } => {
@@ -282,7 +289,7 @@ fn whole(s: &CoreStmt, known: Known<'_>) -> u64
 
 #[cycle(whole_sum)]
 fn each(body: &[CoreStmt], known: Known<'_>) -> u64
-    ensures { IsAlone known.entry → result ≡ cut (total (map (statement_elements (static_of known.entry.cells.now)) body.now)) }
+    ensures { result ≡ cut (total (map (statement_elements (numbers_in known.entry)) body.now)) }
 {
     let mut all = 0;
     for s in body {

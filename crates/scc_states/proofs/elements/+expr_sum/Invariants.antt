@@ -1,7 +1,6 @@
 use Rattle.std.proofs.Common.{◌≡◌, ◌+◌, ◌*◌, ◌≤◌, map, take}
 use Rattle.scc_core.specs.declared.expr.CoreExpr.{size-CoreExpr}
-use Rattle.scc_core.specs.Known.{IsAlone}
-use Rattle.scc_core.specs.Statics.{static_of}
+use Rattle.scc_states.specs.Told.{numbers_in}
 use Rattle.scc_states.specs.Elements.{cut, total, expr_elements, part_of}
 use Rattle.scc_states.specs.Counting.{counted}
 use Rattle.scc_states.proofs.elements.+expr_sum.Given as goal
@@ -33,10 +32,10 @@ decreases-of_expr-loop-inner l = size-CoreExpr l.here
 abbrev pub invariant-of_expr-loop-inner : goal.invariant-of_expr-loop-inner
 invariant-of_expr-loop-inner l =
     (size-CoreExpr l.here ≤ size-CoreExpr l.e)
-    × (IsAlone l.known → cut (l.sum + expr_elements (static_of l.known.cells.now) l.here) ≡ cut (expr_elements (static_of l.known.cells.now) l.e))
+    × (cut (l.sum + expr_elements (numbers_in l.known) l.here) ≡ cut (expr_elements (numbers_in l.known) l.e))
 
 abbrev pub invariant-of_exprs-loop-e : goal.invariant-of_exprs-loop-e
-invariant-of_exprs-loop-e l = IsAlone l.known → l.sum ≡ cut (total (map (expr_elements (static_of l.known.cells.now)) (take l.e-index l.list)))
+invariant-of_exprs-loop-e l = l.sum ≡ cut (total (map (expr_elements (numbers_in l.known)) (take l.e-index l.list)))
 
 abbrev pub invariant-of_parts-loop-part : goal.invariant-of_parts-loop-part
-invariant-of_parts-loop-part l = IsAlone l.known → l.all ≡ counted (map (part_of (static_of l.known.cells.now)) (take l.part-index l.parts))
+invariant-of_parts-loop-part l = l.all ≡ counted (map (part_of (numbers_in l.known)) (take l.part-index l.parts))

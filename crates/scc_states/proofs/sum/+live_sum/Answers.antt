@@ -2,7 +2,7 @@ use Rattle.std.proofs.Common.{◌≡◌, refl, sym, ap, ◌∙◌, subst, ℕ, �
 use Rattle.std.proofs.lemmas.List.{drop_all}
 use Rattle.scc_bits.specs.Value.{Number}
 use Rattle.scc_core.specs.declared.expr.CoreExpr.{CoreExpr}
-use Rattle.scc_core.specs.Statics.{static_of}
+use Rattle.scc_states.specs.Told.{numbers_in}
 use Rattle.scc_states.specs.declared.sum.Seen.{Seen}
 use Rattle.scc_states.specs.Elements.{cut, most, expr_elements}
 use Rattle.scc_states.specs.Live.{tested, live_statement, live_body, blocks_deep, body_deep}
@@ -41,18 +41,18 @@ itself n = omega arith
 pub live-loop-s-preserved : goal.live-loop-s-preserved
 live-loop-s-preserved t c = (
   cut_within c.plus-elements.result _ c.plus-elements.ensures,
-  λ h k last new l.
-      let known : CoreExpr → Option Number = static_of c.args.known.cells.now in
+  λ k last new l.
+      let known : CoreExpr → Option Number = numbers_in c.args.known in
       let i : c.loop-s.s-index < length c.args.body.now = omega arith in
       let d : blocks_deep c.s-item.result ≤ body_deep c.args.body.now =
       within_deepest blocks_deep c.args.body.now c.loop-s.s-index c.s-item.result (body_deep c.args.body.now) i c.s-item.is (itself _) in
       let one : Lives c.args.depth c.loop-s.left c.live_stmt-seen.new.left c.live_stmt-seen.result (live_statement known c.s-item.result) =
-      c.live_stmt-seen.ensures h (enough _ _ _ _ _ k d c.loop-s.auto.left) in
+      c.live_stmt-seen.ensures (enough _ _ _ _ _ k d c.loop-s.auto.left) in
       let goes : (live_statement known c.s-item.result).ends ≡ true = sym one.ends ∙ was_true _ c.if-not-seen.false in
       let two = lives_behind c.args.depth c.loop-s.left c.live_stmt-seen.new.left new c.live_stmt-seen.result last
       (live_statement known c.s-item.result) (live_body known (drop (c.loop-s.s-index + 1) c.args.body.now)) one goes l
       (cut (c.live_stmt-seen.result.elements + last.elements)) refl in
-      let three = c.loop-s.invariant.1 h k (seen (cut (c.live_stmt-seen.result.elements + last.elements)) last.ends) new
+      let three = c.loop-s.invariant.1 k (seen (cut (c.live_stmt-seen.result.elements + last.elements)) last.ends) new
       (subst (λ x. Lives c.args.depth c.loop-s.left new (seen (cut (c.live_stmt-seen.result.elements + last.elements)) last.ends) x)
       (sym (from_here known c.args.body.now c.loop-s.s-index c.s-item.result i c.s-item.is)) two) in
       subst (λ n. Lives c.args.depth c.args.left.now new (seen n last.ends) (live_body known c.args.body.now))
@@ -60,17 +60,17 @@ live-loop-s-preserved t c = (
 )
 
 pub live-returns-then-not-seen : goal.live-returns-then-not-seen
-live-returns-then-not-seen t c = λ h k.
-    let known : CoreExpr → Option Number = static_of c.args.known.cells.now in
+live-returns-then-not-seen t c = λ k.
+    let known : CoreExpr → Option Number = numbers_in c.args.known in
     let i : c.loop-s.s-index < length c.args.body.now = omega arith in
     let d : blocks_deep c.s-item.result ≤ body_deep c.args.body.now =
     within_deepest blocks_deep c.args.body.now c.loop-s.s-index c.s-item.result (body_deep c.args.body.now) i c.s-item.is (itself _) in
     let one : Lives c.args.depth c.loop-s.left c.live_stmt-seen.new.left c.live_stmt-seen.result (live_statement known c.s-item.result) =
-    c.live_stmt-seen.ensures h (enough _ _ _ _ _ k d c.loop-s.auto.left) in
+    c.live_stmt-seen.ensures (enough _ _ _ _ _ k d c.loop-s.auto.left) in
     let stops : (live_statement known c.s-item.result).ends ≡ false = sym one.ends ∙ was_false _ c.if-not-seen.true in
     let two = lives_stopped c.args.depth c.loop-s.left c.live_stmt-seen.new.left c.live_stmt-seen.result
     (live_statement known c.s-item.result) (live_body known (drop (c.loop-s.s-index + 1) c.args.body.now)) one stops in
-    let three = c.loop-s.invariant.1 h k c.live_stmt-seen.result c.live_stmt-seen.new.left
+    let three = c.loop-s.invariant.1 k c.live_stmt-seen.result c.live_stmt-seen.new.left
     (subst (λ x. Lives c.args.depth c.loop-s.left c.live_stmt-seen.new.left c.live_stmt-seen.result x)
     (sym (from_here known c.args.body.now c.loop-s.s-index c.s-item.result i c.s-item.is)) two) in
     subst (λ n. Lives c.args.depth c.args.left.now c.live_stmt-seen.new.left (seen n false) (live_body known c.args.body.now)) (sym c.plus-elements.ensures)
@@ -79,10 +79,10 @@ live-returns-then-not-seen t c = λ h k.
     (was_false _ c.if-not-seen.true) three)
 
 pub live-returns : goal.live-returns
-live-returns t c = λ h k.
-    let known : CoreExpr → Option Number = static_of c.args.known.cells.now in
+live-returns t c = λ k.
+    let known : CoreExpr → Option Number = numbers_in c.args.known in
     let none = drop_all c.loop-s.s-index c.args.body.now (omega arith) in
-    let three = c.loop-s.invariant.1 h k (seen 0 true) c.loop-s.left
+    let three = c.loop-s.invariant.1 k (seen 0 true) c.loop-s.left
     (subst (λ ss. Lives c.args.depth c.loop-s.left c.loop-s.left (seen 0 true) (live_body known ss)) (sym none) (lives_passed c.args.depth 0 0 c.loop-s.left
     refl)) in
     subst (λ n. Lives c.args.depth c.args.left.now c.loop-s.left (seen n true) (live_body known c.args.body.now)) (within_cut c.loop-s.elements
@@ -95,20 +95,20 @@ second_fits : (d a b s m n : ℕ) → d + s ≤ m → s ≡ max a b → n ≡ m 
 second_fits d a b s m n h i j = omega (arith, h, i, j)
 
 pub live_stmt-returns-in-None : goal.live_stmt-returns-in-None
-live_stmt-returns-in-None t c = λ h k.
-    let known : CoreExpr → Option Number = static_of c.args.known.cells.now in
+live_stmt-returns-in-None t c = λ k.
+    let known : CoreExpr → Option Number = numbers_in c.args.known in
     let deep = deep_test c.args.s.now c.in-If.test c.in-If.yes c.in-If.no c.in-If.is in
-    let unknown : known c.in-If.test ≡ None = sym (c.number_of.ensures h) ∙ c.in-None.is in
+    let unknown : known c.in-If.test ≡ None = sym c.number_of.ensures ∙ c.in-None.is in
     let a = branch known c.args.depth (length c.args.left.now) c.args.left.now c.live-a.new.left c.live-a.result c.in-If.yes c.as_slice-in-None.result.now
-    c.as_slice-in-None.ensures.elements (c.live-a.ensures h) (first_fits _ _ _ _ _ k deep) in
+    c.as_slice-in-None.ensures.elements c.live-a.ensures (first_fits _ _ _ _ _ k deep) in
     let b = branch known c.args.depth (length c.live-a.new.left) c.live-a.new.left c.live-b.new.left c.live-b.result c.in-If.no c.as_slice-in-None-2.result.now
-    c.as_slice-in-None-2.ensures.elements (c.live-b.ensures h) (second_fits _ _ _ _ _ _ k deep c.live-a.auto.left) in
+    c.as_slice-in-None-2.ensures.elements c.live-b.ensures (second_fits _ _ _ _ _ _ k deep c.live-a.auto.left) in
     subst (λ x. Lives c.args.depth c.args.left.now c.live-b.new.left (seen c.plus-in-None.result c.either.result) x)
     (sym (live_test known c.args.s.now c.in-If.test c.in-If.yes c.in-If.no c.in-If.is
     ∙ ap (λ o. tested o (expr_elements known c.in-If.test) (live_body known c.in-If.yes) (live_body known c.in-If.no)) unknown))
     (lives_either c.args.depth c.args.left.now c.live-a.new.left c.live-b.new.left c.live-a.result c.live-b.result (live_body known c.in-If.yes) (live_body
     known c.in-If.no)
-    c.of_expr-count.result (expr_elements known c.in-If.test) c.either.result a b (c.of_expr-count.ensures h) c.either.ensures c.plus-in-None.result
+    c.of_expr-count.result (expr_elements known c.in-If.test) c.either.result a b c.of_expr-count.ensures c.either.ensures c.plus-in-None.result
     (c.plus-in-None.ensures ∙ ap (λ n. cut (c.of_expr-count.result + n)) c.plus.ensures))
 
 inside_fits : (d b s m n z : ℕ) → d + s ≤ m → s ≡ 1 + b → n ≡ d + 1 → z ≡ m → n + b ≤ z
@@ -121,15 +121,15 @@ one_deeper : (d m n : ℕ) → d < m → m < 2 ^ 64 → n ≡ min (d + 1) (2 ^ 6
 one_deeper d m n h i j = omega (arith, h, i, j)
 
 pub live_stmt-returns-in-Block : goal.live_stmt-returns-in-Block
-live_stmt-returns-in-Block t c = λ h k.
-    let known : CoreExpr → Option Number = static_of c.args.known.cells.now in
+live_stmt-returns-in-Block t c = λ k.
+    let known : CoreExpr → Option Number = numbers_in c.args.known in
     let deep = deep_block c.args.s.now c.in-Block.body c.in-Block.is in
     let f : c.args.depth < length c.args.left.now = is_open _ _ _ _ k deep in
     let n : c.saturating_add.result ≡ c.args.depth + 1 = one_deeper c.args.depth (length c.args.left.now) c.saturating_add.result f c.mark.ensures.fits
     c.saturating_add.ensures in
     let inside = branch known c.saturating_add.result (length c.mark.new.left) c.mark.new.left c.live-inside.new.left c.live-inside.result c.in-Block.body
     c.as_slice-in-Block.result.now
-    c.as_slice-in-Block.ensures.elements (c.live-inside.ensures h) (inside_fits _ _ _ _ _ _ k deep n c.mark.auto.left) in
+    c.as_slice-in-Block.ensures.elements c.live-inside.ensures (inside_fits _ _ _ _ _ _ k deep n c.mark.auto.left) in
     subst (λ x. Lives c.args.depth c.args.left.now c.live-inside.new.left (seen c.live-inside.result.elements c.either-in-Block.result) x)
     (sym (live_block known c.args.s.now c.in-Block.body c.in-Block.is))
     (lives_block c.args.depth c.saturating_add.result c.args.left.now c.mark.new.left c.live-inside.new.left c.live-inside.result (live_body known

@@ -1,6 +1,5 @@
 use Rattle.std.proofs.Common.{◌≤◌, ◌+◌, List, Bool, length, drop}
-use Rattle.scc_core.specs.Known.{IsAlone}
-use Rattle.scc_core.specs.Statics.{static_of}
+use Rattle.scc_states.specs.Told.{numbers_in}
 use Rattle.scc_states.specs.declared.sum.Seen.{Seen}
 use Rattle.scc_states.specs.Elements.{cut, most}
 use Rattle.scc_states.specs.Live.{live_body, body_deep}
@@ -11,7 +10,7 @@ use Rattle.scc_states.proofs.sum.+live_sum.Given as goal
 abbrev pub invariant-live-loop-s : goal.invariant-live-loop-s
 invariant-live-loop-s l =
     (l.elements ≤ most)
-    × (IsAlone l.known → l.depth + body_deep l.body ≤ length l.initial.left
-    → (seen : Seen) (new : List Bool) → Lives l.depth l.left new seen (live_body (static_of l.known.cells.now) (drop l.s-index l.body))
-    → Lives l.depth l.initial.left new (record { elements = cut (l.elements + seen.elements); ends = seen.ends }) (live_body (static_of l.known.cells.now)
+    × (l.depth + body_deep l.body ≤ length l.initial.left
+    → (seen : Seen) (new : List Bool) → Lives l.depth l.left new seen (live_body (numbers_in l.known) (drop l.s-index l.body))
+    → Lives l.depth l.initial.left new (record { elements = cut (l.elements + seen.elements); ends = seen.ends }) (live_body (numbers_in l.known)
     l.body))

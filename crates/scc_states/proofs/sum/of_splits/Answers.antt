@@ -1,11 +1,11 @@
 use Rattle.std.proofs.Common.{◌<◌, length, arith}
-use Rattle.scc_core.specs.Statics.{static_of}
+use Rattle.scc_states.specs.Told.{numbers_in}
 use Rattle.scc_states.specs.Live.{split_elements}
 use Rattle.scc_states.proofs.Counts.{one_further}
 use Rattle.scc_states.proofs.sum.of_splits.Goals as goal
 
 pub loop-split-preserved : goal.loop-split-preserved
-loop-split-preserved c = λ h.
+loop-split-preserved c =
     let i : c.loop-split.split-index < length c.args.splits.now = omega arith in
-    one_further (split_elements (static_of c.args.known.cells.now)) c.args.splits.now c.loop-split.split-index c.split-item.result i c.split-item.is
-    c.loop-split.all c.of_split.result c.plus-all.result (c.loop-split.invariant h) (c.of_split.ensures h) c.plus-all.ensures
+    one_further (split_elements (numbers_in c.args.known)) c.args.splits.now c.loop-split.split-index c.split-item.result i c.split-item.is
+    c.loop-split.all c.of_split.result c.plus-all.result c.loop-split.invariant c.of_split.ensures c.plus-all.ensures

@@ -1,14 +1,14 @@
 use Rattle.std.proofs.Common.{◌≡◌, ◌<◌, length, ap, ◌∙◌, arith}
-use Rattle.scc_core.specs.Statics.{static_of}
+use Rattle.scc_states.specs.Told.{numbers_in}
 use Rattle.scc_states.specs.Elements.{cut}
 use Rattle.scc_states.specs.Live.{segment_elements}
 use Rattle.scc_states.proofs.Counts.{one_further}
 use Rattle.scc_states.proofs.sum.segments.Goals as goal
 
 pub loop-list-preserved : goal.loop-list-preserved
-loop-list-preserved c = λ h.
+loop-list-preserved c =
     let i : c.loop-list.list-index < length c.args.lists.now = omega arith in
-    let k : c.segment.result ≡ cut (segment_elements (static_of c.args.known.cells.now) c.list-item.result) =
-    c.segment.ensures h ∙ ap (λ l. cut (segment_elements (static_of c.args.known.cells.now) l)) c.as_slice.ensures.elements in
-    one_further (segment_elements (static_of c.args.known.cells.now)) c.args.lists.now c.loop-list.list-index c.list-item.result i c.list-item.is
-    c.loop-list.all c.segment.result c.plus-all.result (c.loop-list.invariant h) k c.plus-all.ensures
+    let k : c.segment.result ≡ cut (segment_elements (numbers_in c.args.known) c.list-item.result) =
+    c.segment.ensures ∙ ap (λ l. cut (segment_elements (numbers_in c.args.known) l)) c.as_slice.ensures.elements in
+    one_further (segment_elements (numbers_in c.args.known)) c.args.lists.now c.loop-list.list-index c.list-item.result i c.list-item.is
+    c.loop-list.all c.segment.result c.plus-all.result c.loop-list.invariant k c.plus-all.ensures
