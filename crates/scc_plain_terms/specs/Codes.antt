@@ -1,5 +1,5 @@
 -- The code that a plain program's statements stand for. This project's own.
-use Rattle.std.specs.Prelude.{List, [], ◌∷◌, map, Option, option_map}
+use Rattle.std.specs.Prelude.{List, [], ◌∷◌, map, option_map}
 use Rattle.scc_base.specs.declared.refusal.Place.{Place}
 use Rattle.scc_plaintree.specs.declared.program.Base.{Base as Held}
 use Rattle.scc_plaintree.specs.declared.program.Base.TheVariants as held

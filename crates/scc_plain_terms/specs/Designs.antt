@@ -63,4 +63,9 @@ abbrev pub vector_of : Sized → VectorSize
 vector_of v = record { path = path_of v.path; size = v.size }
 
 abbrev pub design_of : Left → Design
-design_of d = record { objects = map object_of d.objects; processes = map process_of d.processes; targets = map target_of d.targets; vectors = map vector_of d.vectors }
+design_of d = record {
+  objects = map object_of d.objects;
+  processes = map process_of d.processes;
+  targets = map target_of d.targets;
+  vectors = map vector_of d.vectors;
+}

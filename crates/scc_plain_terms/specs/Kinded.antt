@@ -1,6 +1,6 @@
 -- What a tree says of a load is the kind of what is taken of it, a bit of `x[3]`. A term's load has the kind that is declared of what stands there, so
 -- that the bits of a variable are those of its word. This project's own.
-use Rattle.std.specs.Prelude.{map, Option, Some, None, option_map}
+use Rattle.std.specs.Prelude.{map, Option, Some, option_map}
 use Rattle.scc_kinds.specs.declared.kind.Kind.{Kind}
 use Rattle.scc_meaning_plain.specs.Term.{Term, Literal, Load, Read, Convert, Unary, Binary, Choose, Bit, Range, Join, Left, Local, Answer, This, Follow, Index, Pick, Whole, OneBit, Bits, Target, Null, Address, Copy, Argument, Value, Leads, ModuleName}
 use Rattle.scc_meaning_plain.specs.Term as term

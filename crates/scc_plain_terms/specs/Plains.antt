@@ -1,5 +1,5 @@
 -- The plain program that a tree stands for. This project's own.
-use Rattle.std.specs.Prelude.{map, Option, option_map}
+use Rattle.std.specs.Prelude.{map}
 use Rattle.scc_plaintree.specs.declared.program.Plain.{Plain as Tree}
 use Rattle.scc_plaintree.specs.declared.program.PlainClass.{PlainClass}
 use Rattle.scc_plaintree.specs.declared.program.PlainFunction.{PlainFunction}

@@ -1,5 +1,5 @@
 -- `x[3]` of a local `sc_uint<8> x` of a function, worked by hand.
-use Rattle.std.specs.Prelude.{ℕ, [], ◌∷◌, None}
+use Rattle.std.specs.Prelude.{[], ◌∷◌, None}
 use Rattle.scc_kinds.specs.declared.kind.Kind.{Kind}
 use Rattle.scc_kinds.specs.declared.kind.Kind.TheVariants as kind
 use Rattle.scc_meaning_plain.specs.Term.{Term, Load, Bit, Local}

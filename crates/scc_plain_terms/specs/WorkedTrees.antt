@@ -1,8 +1,7 @@
--- Trees of the function `int pick(int k) { return k; }` and of the design of a top with an `int m` and a method.
-use Rattle.std.specs.Prelude.{ℕ, true, [], ◌∷◌, Some, None}
+-- Trees of the function `int pick(int k) { return k; }`, and of the design of a top with an `int m` and a method.
+use Rattle.std.specs.Prelude.{ℕ, false, [], ◌∷◌, Some, None}
 use Rattle.scc_base.specs.declared.names.Name.{Name}
 use Rattle.scc_base.specs.declared.path.PathPart.TheVariants as path_part
-use Rattle.scc_kinds.specs.declared.kind.Kind.TheVariants as kind
 use Rattle.scc_plaintree.specs.declared.expr.PlainExpr.{PlainExpr}
 use Rattle.scc_plaintree.specs.declared.expr.PlainExprNode.{roll-PlainExprNode}
 use Rattle.scc_plaintree.specs.declared.expr.PlainLeft.{PlainLeft}
@@ -11,6 +10,11 @@ use Rattle.scc_plaintree.specs.declared.expr.PlainBase.TheOpen as tree
 use Rattle.scc_plaintree.specs.declared.stmt.PlainStmt.{PlainStmt}
 use Rattle.scc_plaintree.specs.declared.stmt.PlainNode.{roll-PlainNode}
 use Rattle.scc_plaintree.specs.declared.stmt.PlainNode.TheOpen as node
+use Rattle.scc_plaintree.specs.declared.program.Base.TheVariants as base
+use Rattle.scc_plaintree.specs.declared.program.Reach.TheVariants as reach
+use Rattle.scc_plaintree.specs.declared.program.PlainMember.{PlainMember}
+use Rattle.scc_plaintree.specs.declared.program.PlainFunction.{PlainFunction}
+use Rattle.scc_plaintree.specs.declared.program.Plain.{Plain}
 use Rattle.scc_design.specs.declared.Design.{Design}
 use Rattle.scc_design.specs.declared.ObjectNode.TheVariants as object
 use Rattle.scc_design.specs.declared.Sort.TheVariants.{Method}
@@ -27,6 +31,16 @@ loaded = record { place = here; kind = int; node = roll-PlainExprNode (tree.Load
 
 abbrev pub returned : PlainStmt
 returned = record { place = here; node = roll-PlainNode (node.Return (Some loaded)) }
+
+abbrev pub declared : PlainMember
+declared = record { name = named 21; place = here; shape = record { base = base.Number int; reach = reach.Direct; vector = false; sizes = [] } }
+
+abbrev pub pick : PlainFunction
+pick = record { name = named 20; place = here; class = None; params = 1; locals = declared ∷ []; result = Some int; inits = []; body = returned ∷ [] }
+
+-- a program of that function alone
+abbrev pub alone : Plain
+alone = record { classes = []; functions = pick ∷ []; top = 0 }
 
 abbrev pub made : Design
 made = record {

@@ -1,17 +1,16 @@
 //! Laws on what trees stand for.
-ghost use Rattle.std.specs.Prelude.{◌≡◌, length};
+ghost use Rattle.std.specs.Prelude.{◌≡◌, [], ◌∷◌};
 ghost use Rattle.scc_kinds.specs.declared.kind.Kind.TheVariants as kind;
-ghost use Rattle.scc_plaintree.specs.declared.program.Plain.{Plain};
 ghost use Rattle.scc_meaning_plain.specs.Worked as worked;
 ghost use Rattle.scc_plain_terms.specs.Plains.{plain_of};
 ghost use Rattle.scc_plain_terms.specs.Designs.{design_of};
 ghost use Rattle.scc_plain_terms.specs.Kinded.{kinded};
 ghost use Rattle.scc_plain_terms.specs.WorkedBit.{around, holder, byte, bit_three};
-ghost use Rattle.scc_plain_terms.specs.WorkedTrees.{made};
+ghost use Rattle.scc_plain_terms.specs.WorkedTrees.{alone, made};
 
-/// A program has the top of its tree.
-pub fn a_plain_program_is_its_tree()
-    ensures { (t : Plain) → (plain_of t).top ≡ t.top }
+/// A program of one function `int pick(int k) { return k; }` has that function as the definitions have it.
+pub fn a_program_is_its_tree()
+    ensures { plain_of alone ≡ record { classes = []; functions = worked.pick ∷ []; top = 0 } }
 {}
 
 /// The design of a top with one variable and one method, of which the definitions have it too.

@@ -3,4 +3,4 @@
 
 mod laws;
 
-pub use laws::{a_bit_is_one_of_its_variable, a_design_is_its_objects, a_plain_program_is_its_tree};
+pub use laws::{a_bit_is_one_of_its_variable, a_design_is_its_objects, a_program_is_its_tree};
