@@ -1,4 +1,4 @@
--- The function `int pick(int k) { return k; }`, from its tree.
+-- The function `int pick(int k) { return k; }`, from its tree. This project's own.
 use Rattle.std.proofs.Common.{◌≡◌, ap, ◌∙◌, [], ◌∷◌, Some, None}
 use Rattle.scc_plaintree.specs.declared.expr.PlainExpr.{fold-roll-PlainExpr}
 use Rattle.scc_plaintree.specs.declared.expr.PlainExprNode.{roll-PlainExprNode, fold-roll-PlainExprNode}
@@ -22,21 +22,22 @@ use Rattle.scc_plain_terms.specs.WorkedTrees.{parameter, loaded, pick, alone}
 parameter_is : taken_of parameter ≡ record { left = Local here 0; pick = Whole }
 parameter_is =
     fold-roll-PlainLeft Base Node (Left → Left) Pick Term Taken base_node expr_node part_node pick_node expr_step left_step
-        (record { place = here; base = roll-PlainBase (tree.Local 0); parts = []; pick = None })
-    ∙ ap (λ b. record { left = extended (b here) []; pick = Whole }) (fold-roll-PlainBase Base Node (Left → Left) Pick Term Taken base_node expr_node part_node pick_node expr_step left_step
-        (tree.Local 0))
+    (record { place = here; base = roll-PlainBase (tree.Local 0); parts = []; pick = None })
+    ∙ ap (λ b. record { left = extended (b here) []; pick = Whole })
+    (fold-roll-PlainBase Base Node (Left → Left) Pick Term Taken base_node expr_node part_node pick_node expr_step left_step (tree.Local 0))
 
 loaded_is : term_of loaded ≡ Load here int (Local here 0)
 loaded_is =
     fold-roll-PlainExpr Base Node (Left → Left) Pick Term Taken base_node expr_node part_node pick_node expr_step left_step
-        (record { place = here; kind = int; node = roll-PlainExprNode (tree.Load parameter) })
-    ∙ ap (λ n. n here int) (fold-roll-PlainExprNode Base Node (Left → Left) Pick Term Taken base_node expr_node part_node pick_node expr_step left_step
-        (tree.Load parameter))
+    (record { place = here; kind = int; node = roll-PlainExprNode (tree.Load parameter) })
+    ∙ ap (λ n. n here int)
+    (fold-roll-PlainExprNode Base Node (Left → Left) Pick Term Taken base_node expr_node part_node pick_node expr_step left_step (tree.Load parameter))
     ∙ ap (λ l. picked here int (Load here int l.left) l.pick) parameter_is
 
 body_is : code_of pick.body ≡ Return here (Some (Load here int (Local here 0))) End
 body_is =
-    ap (λ f. f End) (fold-roll-PlainStmt codes.Node (Code → Code) codes.stmt_node codes.stmt_step (record { place = here; node = roll-PlainNode (node.Return (Some loaded)) }))
+    ap (λ f. f End)
+    (fold-roll-PlainStmt codes.Node (Code → Code) codes.stmt_node codes.stmt_step (record { place = here; node = roll-PlainNode (node.Return (Some loaded)) }))
     ∙ ap (λ n. n here End) (fold-roll-PlainNode codes.Node (Code → Code) codes.stmt_node codes.stmt_step (node.Return (Some loaded)))
     ∙ ap (λ e. Return here (Some e) End) loaded_is
 

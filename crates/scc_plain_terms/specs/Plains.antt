@@ -26,7 +26,7 @@ member_of m = record { name = m.name.0; place = m.place; shape = shape_of m.shap
 abbrev pub class_of : PlainClass → Class
 class_of c = record { name = c.name.0; place = c.place; is_module = c.module; members = map member_of c.members; constructor = c.constructor }
 
--- a function as its tree says it, with the kinds of loads that stand there
+-- a function as its tree says it, with the kinds of loads that the tree has
 abbrev pub function_in : PlainFunction → Function
 function_in f = record {
   name = f.name.0;
@@ -42,7 +42,7 @@ function_in f = record {
 abbrev pub plain_in : Tree → Plain
 plain_in t = record { classes = map class_of t.classes; functions = map function_in t.functions; top = t.top }
 
--- with the kinds of loads by the declarations of the program
+-- with the kinds of loads that the program declares
 abbrev pub kinded_function : Plain → Function → Function
 kinded_function p f = record f { inits = kinded_code p f f.inits; body = kinded_code p f f.body }
 

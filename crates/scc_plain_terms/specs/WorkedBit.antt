@@ -1,4 +1,4 @@
--- `x[3]` of a local `sc_uint<8> x` of a function, worked by hand.
+-- `x[3]` of a local `sc_uint<8> x` of a function, worked by hand. This project's own.
 use Rattle.std.specs.Prelude.{[], ◌∷◌, None}
 use Rattle.scc_kinds.specs.declared.kind.Kind.{Kind}
 use Rattle.scc_kinds.specs.declared.kind.Kind.TheVariants as kind

@@ -1,4 +1,4 @@
--- Trees of the function `int pick(int k) { return k; }`, and of the design of a top with an `int m` and a method.
+-- Trees of the function `int pick(int k) { return k; }`, and of the design of a top with an `int m` and a method. This project's own.
 use Rattle.std.specs.Prelude.{ℕ, false, [], ◌∷◌, Some, None}
 use Rattle.scc_base.specs.declared.names.Name.{Name}
 use Rattle.scc_base.specs.declared.path.PathPart.TheVariants as path_part
