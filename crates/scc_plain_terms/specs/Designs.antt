@@ -1,4 +1,4 @@
--- The design that a design's type stands for. This project's own.
+-- The design of the definitions that a design stands for. This project's own.
 use Rattle.std.specs.Prelude.{Bool, true, false, List, map, option_map}
 use Rattle.scc_base.specs.declared.path.PathPart.{PathPart}
 use Rattle.scc_base.specs.declared.path.PathPart.TheVariants as path_part
