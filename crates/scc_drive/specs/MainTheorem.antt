@@ -1,4 +1,5 @@
--- The main theorem. Each definition is reached from here by the name of its crate and file; docs/DEFINITIONS.md walks through them.
+-- The main theorem, for status 0. Each definition is reached from here by the name of its crate and file; docs/DEFINITIONS.md walks through them. What status 1 says
+-- is `IsRefused` of `Answer`, in the clause `refused` of `run`. This project's own.
 use Rattle.std.specs.Prelude.{◌≡◌, ℕ, List, Bool, false, String, Option, Some}
 use Rattle.std.specs.declared.alloc.Global.{Global}
 use Rattle.std.specs.Io.KnownBytes.{Appends}
@@ -23,15 +24,15 @@ use Rattle.scc_words.specs.declared.command.Command.TheVariants as command
 use Rattle.scc_words.specs.declared.command.Form.TheVariants as form
 use Rattle.scc_drive.specs.Words.{command_by, roots_of, word_at}
 
--- A design was compiled: `top` is the name of its top, `name` the name that emitted text has for a location, `own` the names that threads' states and counters
+-- A design was compiled: `many` says that it may have several clocks, `top` is the name of its top, `name` the name that emitted text has for a location, `own` the names that threads' states and counters
 -- have there, `kept` the locations that may be registers; `old` and `new` are what the output took before and after.
-pub record IsCompiled (top : List ℕ) (name : Location → List ℕ) (own : List ℕ → Bool) (kept : Location → Bool) (design : source.Design) (old new : Option (List ℕ)) : Type 0 where
+pub record IsCompiled (many : Bool) (top : List ℕ) (name : Location → List ℕ) (own : List ℕ → Bool) (kept : Location → Bool) (design : source.Design) (old new : Option (List ℕ)) : Type 0 where
   -- some bytes were written, and nothing else
   pub text : List ℕ
   pub written : Appends old new text
   -- they are the text of this module, and of no other; sizes, names, drivers and the order of its blocks are right
   pub emitted : SvModule
-  pub reads : SvReads false text emitted
+  pub reads : SvReads many text emitted
   -- its name, its ports in order with names, directions and widths, and its registers are the design's
   pub matches : Matches name own kept design emitted top
   -- From every start, over every list of steps that fit, the design shows something and the module can take the steps; and from alike starts, where each clock's
@@ -57,4 +58,4 @@ IsDesign names joined tree top d = thin_of names top joined.tokens ≡ Some d
 -- has neither clock nor register, so there are no names of threads and no locations that are kept, every start is alike every valuation, and no reset is asked for.
 abbrev pub MainTheorem : Shelf → List (String Global) → (old new : Option (List ℕ)) → Type 0
 MainTheorem shelf words old new = (tree : FileTree) (read : IsRead shelf words tree) (d : Design) → IsDesign read.names read.joined tree (word_at words 1) d
-    → IsCompiled d.top (text_of d) (λ n. false) (λ l. false) (source_of d) old new
+    → IsCompiled false d.top (text_of d) (λ n. false) (λ l. false) (source_of d) old new

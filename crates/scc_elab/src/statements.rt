@@ -238,9 +238,13 @@ fn test_of(body: &[PlainStmt]) -> Option<(&PlainStmt, &[PlainStmt])> {
     }
 }
 
-// The left side's location, then the value, then the number of a bit. What names no variable takes nothing.
+// The left side's location and the number of a bit there, then the value. What names no variable takes nothing.
 fn assign(left: &PlainLeft, value: &PlainExpr, p: &Plain, g: &mut Grown) -> Result<(), Stop> {
     let located = location_of(left, FIRM, p, g)?;
+    let index = match &left.pick {
+        Some(PlainPick::Bit(index)) => Some(value_of(index, p, g)?),
+        Some(PlainPick::Range { .. }) | None => None,
+    };
     let new = value_of(value, p, g)?;
     let Some(at) = located.at else {
         return Err(Stop::from(lost()));
@@ -248,15 +252,24 @@ fn assign(left: &PlainLeft, value: &PlainExpr, p: &Plain, g: &mut Grown) -> Resu
     let Some(old) = number_at(g, at, p)? else {
         return Ok(());
     };
-    let number = match &left.pick {
-        None => stored(new, old.kind())?,
-        Some(PlainPick::Range { h, l }) => replaced(old, *h, *l, new.word().bits)?,
-        Some(PlainPick::Bit(index)) => match bit_number(old, value_of(index, p, g)?) {
-            Some(bit) => replaced(old, bit, bit, u128::from(new.is_true()))?,
-            None => old,
+    Ok(put_number(g, at, picked(left.pick.as_ref(), index, old, new)?)?)
+}
+
+// The whole number after an assignment to a part of it; a bit past its end is none.
+fn picked(
+    pick: Option<&PlainPick>,
+    index: Option<Value>,
+    old: Value,
+    new: Value,
+) -> Result<Value, NoMemory> {
+    match pick {
+        None => stored(new, old.kind()),
+        Some(PlainPick::Range { h, l }) => replaced(old, *h, *l, new.word().bits),
+        Some(PlainPick::Bit(_)) => match index.and_then(|i| bit_number(old, i)) {
+            Some(bit) => replaced(old, bit, bit, u128::from(new.is_true())),
+            None => Ok(old),
         },
-    };
-    Ok(put_number(g, at, number)?)
+    }
 }
 
 fn replaced(old: Value, h: u32, l: u32, bits: u128) -> Result<Value, NoMemory> {

@@ -1,6 +1,6 @@
 -- A module that matches a design: its ports are the top's in their order, its registers and clocks those of the clocked processes (IEEE 1800-2017, 23.2.2,
 -- 9.2.2.4; the names are this project's own).
-use Rattle.std.specs.Prelude.{◌≡◌, ◌⊎◌, ℕ, nat_eq, Bool, true, false, List, [], ◌∷◌, map, filter, flat_map, take, length, Option, Some, None, option_map, slice_get, unwrap_or, bytes_eq, if◌then◌else◌}
+use Rattle.std.specs.Prelude.{◌≡◌, ◌⊎◌, ℕ, nat_eq, Bool, true, false, List, [], ◌∷◌, map, filter, flat_map, take, length, Option, Some, None, option_map, slice_get, unwrap_or, bytes_eq, if◌then◌else◌, IsPermutation}
 use Rattle.std.specs.List.{list_any}
 use Rattle.scc_kinds.specs.Kinds.{width_of}
 use Rattle.scc_meaning.specs.Location.{Location}
@@ -98,8 +98,8 @@ pub record Matches (text : Location → List ℕ) (own : List ℕ → Bool) (kep
   pub name : m.name ≡ top
   pub ports : map var_view (take (length d.ports) m.vars) ≡ map (port_view text d) d.ports
   pub inner : (v : ℕ) (x : SvVar) → slice_get m.vars v ≡ Some x → is_port x.dir ≡ true → slice_get (take (length d.ports) m.vars) v ≡ Some x
-  -- each block at an edge is that of a process: it has the process's clock and edge, and its asynchronous reset, if it has one
-  pub edges : (k : ℕ) (e : EdgeView) → slice_get (block_views m) k ≡ Some e → (j : ℕ) × (slice_get (process_views text d) j ≡ Some e)
+  -- the blocks at edges are those of the processes, in some order: each process has one, with its clock and edge, and its asynchronous reset, if it has one
+  pub edges : IsPermutation (process_views text d) (block_views m)
   -- each register is a state, a counter, or a location's, with its width
   pub registers : (v : ℕ) → list_any (nat_eq v) (registers m) ≡ true
       → (own (name_at m v) ≡ true) ⊎ ((l : Location) × (kept l ≡ true) × (name_at m v ≡ text l) × (width_of_var m v ≡ thing_width (d.places.things l)))

@@ -29,6 +29,9 @@ fn name_of(r: &Resolver<'_>, cell: u32) -> Result<CellName, NoMemory> {
 pub struct Way {
     /// The front part of names to which the parts lead; None where an index isn't static or is past its end.
     pub spot: Option<Spot>,
+    /// The same with the first element in place of each that is chosen by an index which isn't static: the vectors of an array have
+    /// one size.
+    pub first: Option<Spot>,
     /// Whether an index isn't static.
     pub is_open: bool,
     /// Whether a member stands behind an index that isn't static.
@@ -45,6 +48,7 @@ pub fn walked(
 ) -> Result<(Way, List<CorePart>), NoMemory> {
     let mut way = Way {
         spot: start,
+        first: start,
         is_open: false,
         chooses_object: false,
     };
@@ -91,11 +95,12 @@ fn step(r: &Resolver<'_>, part: CorePart, way: &mut Way) -> Result<CorePart, NoM
         CorePart::Member(name) => {
             way.chooses_object = way.chooses_object || way.is_open;
             way.spot = go(r, way.spot, NameStep::Member(name));
+            way.first = go(r, way.first, NameStep::Member(name));
             Ok(CorePart::Member(name))
         }
         CorePart::Index { size, at } => {
             let size = if size == u32::MAX {
-                vector(r, way.spot)
+                vector(r, way.first)
             } else {
                 size
             };
@@ -103,12 +108,15 @@ fn step(r: &Resolver<'_>, part: CorePart, way: &mut Way) -> Result<CorePart, NoM
                 None => {
                     way.is_open = true;
                     way.spot = None;
+                    way.first = go(r, way.first, NameStep::Index(0));
                 }
                 Some(v) => {
-                    way.spot = match v.small() {
-                        Some(i) if i < size => go(r, way.spot, NameStep::Index(i)),
+                    let inside = match v.small() {
+                        Some(i) if i < size => Some(i),
                         Some(_) | None => None,
                     };
+                    way.spot = element(r, way.spot, inside);
+                    way.first = element(r, way.first, inside);
                 }
             }
             Ok(CorePart::Index { size, at })
@@ -119,6 +127,14 @@ fn step(r: &Resolver<'_>, part: CorePart, way: &mut Way) -> Result<CorePart, NoM
 // The size of the vector of a name, 0 where it is none.
 fn vector(r: &Resolver<'_>, spot: Option<Spot>) -> u32 {
     spot.and_then(|at| r.places.vector(at)).unwrap_or(0)
+}
+
+// The element of that number; None where the index is past the end.
+fn element(r: &Resolver<'_>, spot: Option<Spot>, inside: Option<u32>) -> Option<Spot> {
+    match inside {
+        Some(i) => go(r, spot, NameStep::Index(i)),
+        None => None,
+    }
 }
 
 fn go(r: &Resolver<'_>, spot: Option<Spot>, next: NameStep) -> Option<Spot> {
@@ -149,6 +165,7 @@ pub fn folded(r: &Resolver<'_>, left: CoreLeft) -> Result<(Way, CoreLeft), NoMem
     if matches!(made.base, CoreBase::Cell(_)) && made.parts.is_empty() {
         let way = Way {
             spot: None,
+            first: None,
             is_open: false,
             chooses_object: false,
         };

@@ -47,5 +47,6 @@ module _ (Valuation : Type 0) (register : Valuation → Location → Option ℕ)
     pub same : (s : State) (x : Valuation) → IsStart d s → AreAlike s x → (xs : List Step) → FitSteps d xs
         → (os : List Shown) → Shows d s xs os → FindsResets d [] xs os
         → (seen : List Seen) → Runs x xs seen → AllSame os seen
-    -- some start: the statement isn't about nothing
+    -- some start, and for each a valuation that is alike: the statement isn't about nothing
     pub starts : (s : State) × IsStart d s
+    pub alike : (s : State) → IsStart d s → (x : Valuation) × AreAlike s x

@@ -46,7 +46,7 @@ module _ (d : Design) where
       name = refl;
       ports = ap (map var_view) (all_taken 0 d.ports) ∙ views 0 d.ports (λ k. ap (slice_get d.ports) (omega arith));
       inner = λ v x e port. ap (λ l. slice_get l v) (all_taken 0 d.ports) ∙ e;
-      edges = λ k e h. absurd (let f : None ≡ Some e = h in cc);
+      edges = record { moves = []; below = tt; is = refl };
       registers = λ v e. absurd (let f : false ≡ true = e in cc);
     };
   }

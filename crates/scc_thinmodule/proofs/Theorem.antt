@@ -242,4 +242,5 @@ module _ (d : Design) (sound : IsSound d) (few : FewBits d.ports) where
     same = λ start x is_start alike ss fit os shows resets seen runs.
         subst (λ l. AllSame l seen) (shows_only d sound shows.0 ss start os shows.1) (all_alike ss fit start x runs.0 seen runs.1 runs.2);
     starts = thin_starts d;
+    alike = λ start is_start. ((λ v. 0), λ l w e. absurd (let f : None ≡ Some w = e in cc));
   }
