@@ -1,5 +1,5 @@
 -- The statements of a process as a tree in which each statement holds what follows it. The same tree serves a program with calls and
--- pointers and one whose calls are copied (ISO C++ [stmt]; IEEE 1666-2011, 5.2.11). Conversions are written out.
+-- pointers and one whose calls are copied (ISO C++ [stmt]; IEEE 1666-2011, 5.2.11, 5.2.18). Conversions are written out.
 use Rattle.std.specs.Prelude.{ℕ, Bool, Option}
 use Rattle.scc_meaning.specs.Body.{Expr, Left, Pick, Target, Argument}
 

@@ -1,4 +1,4 @@
--- Designs: what stands at their locations, the ports of the top, and the processes (IEEE 1666-2011, 4.2 and 5.2).
+-- Designs: what stands at their locations, the ports of the top, and the processes (IEEE 1666-2011, 4.1 and 5.2).
 use Rattle.std.specs.Prelude.{ℕ, Bool, true, false, not, List, [], ◌∷◌, map, filter, Option}
 use Rattle.std.specs.List.{list_any}
 use Rattle.scc_meaning.specs.Location.{Location, same}
