@@ -6,8 +6,8 @@ use Rattle.scc_meaning.specs.Location as location
 use Rattle.scc_meaning.specs.Value.{index_of}
 use Rattle.scc_meaning_core.specs.Term.{Term, Left, Cell, Prefix, Member, Index, CellName, Own, kind_of}
 use Rattle.scc_meaning_core.specs.Program.{Vector}
-use Rattle.scc_meaning_core.specs.Named.{Step, steps_of, cell_at, path_steps, fits}
-use Rattle.scc_meaning_core.specs.Static.{Cells, static}
+use Rattle.scc_meaning_core.specs.Named.{Step, steps_of, cell_at, path_steps, fits, chooses_object}
+use Rattle.scc_meaning_core.specs.Static.{Cells, static, pattern}
 use Rattle.scc_meaning_core.specs.Uses.{root_of}
 
 -- a name with one more part: behind a local an index of it
@@ -18,7 +18,7 @@ extended n part = extended_by n.own part
     extended_by (Some o) (location.Element i) = record { path = n.path; own = Some o; indices = n.indices ++ i ∷ [] }
     extended_by own part = record { path = n.path ++ part ∷ []; own = own; indices = n.indices }
 
--- a vector's number of elements, 2^32 - 1 until its path is known
+-- the number of elements of a vector before it is known
 abbrev pub unknown : ℕ
 unknown = 4294967295
 
@@ -26,10 +26,15 @@ abbrev pub size_at : List Vector → List Step → ℕ
 size_at [] p = 0
 size_at (v ∷ vs) p = if fits p (path_steps v.path) then v.size else size_at vs p
 
+-- The vectors of one array have one size, so an index before doesn't matter; of vectors in several objects the object has to be chosen first. Where
+-- no vector is, behind an index past the end too, the size is 0.
+abbrev pub known_size : List Vector → ℕ → Option (List Step) → ℕ
+known_size vs size None = size
+known_size vs size (Some p) = if chooses_object p then size else size_at vs p
+
 module _ (cs : Cells) (vs : List Vector) where
   abbrev pub size_of : ℕ → Left → ℕ
-  size_of size (Prefix p n) = if nat_eq size unknown then size_at vs (steps_of n) else size
-  size_of size _ = size
+  size_of size l = if nat_eq size unknown then known_size vs size (pattern cs l) else size
 
   -- a cell of which parts are named is its name
   abbrev pub as_name : Left → Left

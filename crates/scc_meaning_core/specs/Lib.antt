@@ -26,3 +26,4 @@ pub mod Constants
 pub mod Worked
 pub mod WorkedRun
 pub mod WorkedRules
+pub mod WorkedPlaces

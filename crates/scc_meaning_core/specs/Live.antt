@@ -41,6 +41,6 @@ alive cs (Loop p n b r) = let x = alive cs b in looped x.ends p n x
 alive cs (Exit p n r) = record { code = Exit p n End; ends = false; leaves = λ m. nat_eq m n }
 alive cs (Wait p l n r) = let y = alive cs r in record { code = Wait p l n y.code; ends = y.ends; leaves = y.leaves }
 
--- the live part, its waits numbered in text order
+-- the live part
 abbrev pub live : Cells → Code → Code
 live cs c = (alive cs c).code

@@ -24,7 +24,12 @@ ghost use Rattle.scc_meaning_core.specs.Live.{live};
 ghost use Rattle.scc_meaning_core.specs.Unpointed.{unpointed};
 ghost use Rattle.scc_meaning_core.specs.Renumbered.{resolved_program};
 ghost use Rattle.scc_meaning_core.specs.WorkedRun.{counts, counting};
-ghost use Rattle.scc_meaning_core.specs.Worked.{here, count_cells, count_body, branch_body, put, byte, load, one_more, local_cells, local_body, kept_body, tail_body, once_body, once_live, process, turn_cells, turn_body, turn_written, leaves_at, counter, number, pointer_cells, through, spot, bit_behind_null};
+ghost use Rattle.scc_meaning_core.specs.WorkedPlaces.{choosing_of, element_behind, elements_at, input, vector_cells};
+ghost use Rattle.scc_meaning_core.specs.Term.{Index, Prefix};
+ghost use Rattle.scc_meaning_core.specs.Sizes.{index_sum};
+ghost use Rattle.scc_meaning_core.specs.Split.{index_too_wide};
+ghost use Rattle.scc_meaning_core.specs.Uses.{cells_of};
+ghost use Rattle.scc_meaning_core.specs.Worked.{here, named, count_cells, count_body, branch_body, put, byte, load, one_more, local_cells, local_body, kept_body, tail_body, once_body, once_live, process, turn_cells, turn_body, turn_written, leaves_at, counter, number, pointer_cells, through, spot, bit_behind_null};
 
 /// The counting thread: 12 statements, one loop that waits, at most 72 steps, two states, 9 statements in its segments.
 pub fn the_counting_thread_is_measured()
@@ -130,4 +135,21 @@ pub fn broken_rules_are_refused()
     ensures idle { first_rule may_not_wait ≡ Some (refused reason.LoopMayNotWait (at 8)) }
     ensures latch { first_rule latching ≡ Some (refused reason.Latch (at 5)) }
     ensures kept { first_rule keeping ≡ Some (refused reason.CombState here) }
+{}
+
+/// Two vectors of 4 elements in an array: under two indices that aren't static 8 elements; behind an index past the end there is none.
+pub fn vectors_of_an_array_have_one_size()
+    ensures known { element_behind (input 0) (input 1) ≡ Index (Index (Prefix here (named 5)) 2 (input 0)) 4 (input 1) }
+    ensures elements { elements_at (element_behind (input 0) (input 1)) ≡ Some 8 }
+    ensures one { cells_of vector_cells (element_behind (number 1) (input 1)) ≡ 6 ∷ 7 ∷ 8 ∷ 9 ∷ [] }
+    ensures past { element_behind (number 7) (number 0) ≡ Index (Index (Prefix here (named 5)) 2 (number 7)) 0 (number 0) }
+    ensures nothing { cells_of vector_cells (element_behind (number 7) (number 0)) ≡ [] }
+{}
+
+/// A method that reads one of 4 elements: two statements, one index that isn't static, and 4 elements under it.
+pub fn elements_under_an_index_are_counted()
+    ensures elements { index_sum (choosing_of 4) ≡ 4 }
+    ensures measure { measure (choosing_of 4) ≡ 7 }
+    ensures most { index_too_wide (choosing_of 1048576) ≡ None }
+    ensures past { index_too_wide (choosing_of 1048577) ≡ Some (refused reason.IndexTooWide (at 7)) }
 {}
