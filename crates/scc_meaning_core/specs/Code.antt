@@ -1,4 +1,4 @@
--- Statements of a process, calls copied: each holds what follows it (IEEE 1666-2011, 5.2.11 `wait`; ISO C++ [stmt]).
+-- Statements of a process, calls copied: each holds what follows it (IEEE 1666-2011, 5.2.18 `wait`; ISO C++ [stmt]).
 use Rattle.std.specs.Prelude.{ℕ, ◌+◌, max, Bool, true, false, ◌||◌, Option}
 use Rattle.scc_base.specs.declared.refusal.Place.{Place}
 use Rattle.scc_kinds.specs.declared.op.Op.{Op}

@@ -1,4 +1,4 @@
--- A core: its cells and processes (IEEE 1666-2011, 5.2 processes, 6.4 signals, 6.5 ports).
+-- A core: its cells and processes (IEEE 1666-2011, 5.2 processes, 6.4 signals, 5.12, 6.8 and 6.12 ports).
 use Rattle.std.specs.Prelude.{ℕ, Bool, true, false, Option, None, List}
 use Rattle.scc_base.specs.declared.refusal.Place.{Place}
 use Rattle.scc_kinds.specs.declared.kind.Kind.{Kind}

@@ -1,4 +1,4 @@
--- Segments of a live body: the code from a point to the next wait. This project's own way from `wait` (IEEE 1666-2011, 5.2.11) to states.
+-- Segments of a live body: the code from a point to the next wait. This project's own way from `wait` (IEEE 1666-2011, 5.2.18) to states.
 use Rattle.std.specs.Prelude.{ℕ, zero, suc, ◌+◌, Bool, true, false, not, ◌||◌, nat_lt, List, [], ◌∷◌, ◌++◌, map, sum}
 use Rattle.scc_base.specs.declared.refusal.Place.{Place}
 use Rattle.scc_meaning_core.specs.Term.{Term}

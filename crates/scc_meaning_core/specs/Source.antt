@@ -1,4 +1,4 @@
--- A core as a design: its bodies as bodies of the machine, its cells as things at locations (IEEE 1666-2011, 4.2, 5.2, 6.4, 6.5). A location comes
+-- A core as a design: its bodies as bodies of the machine, its cells as things at locations (IEEE 1666-2011, 4.1, 5.2, 6.4, 6.8, 6.12). A location comes
 -- from a cell's name, so the numbers of cells don't show.
 use Rattle.std.specs.Prelude.{ℕ, suc, Bool, true, false, not, ◌&&◌, List, [], ◌∷◌, map, filter_map, Option, Some, None, option_map, option_and_then, slice_get, unwrap_or, find, is_some, if◌then◌else◌}
 use Rattle.scc_meaning.specs.Location.{Location, Root, Part, Top, Element, same, same_path}

@@ -1,4 +1,4 @@
--- The design that construction leaves (IEEE 1666-2011, 4.2): objects in construction order, processes, targets, sizes of vectors.
+-- The design that construction leaves (IEEE 1666-2011, 4.1): objects in construction order, processes, targets, sizes of vectors.
 use Rattle.std.specs.Prelude.{ℕ, Bool, true, false, Option, Some, None, List}
 use Rattle.scc_base.specs.declared.refusal.Place.{Place}
 use Rattle.scc_kinds.specs.declared.kind.Kind.{Kind}

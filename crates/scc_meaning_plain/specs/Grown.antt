@@ -1,4 +1,4 @@
--- What construction has made so far (IEEE 1666-2011, 4.2 and 4.4: elaboration), and its limits, which are this project's own.
+-- What construction has made so far (IEEE 1666-2011, 4.1: elaboration), and its limits, which are this project's own.
 use Rattle.std.specs.Prelude.{ℕ, ◌+◌, Bool, true, false, ◌&&◌, ◌||◌, nat_lt, nat_le, List, [], ◌∷◌, ◌++◌, length, Option, Some, None, option_map, option_and_then, slice_get, position, if◌then◌else◌}
 use Rattle.scc_base.specs.declared.refusal.Place.{Place}
 use Rattle.scc_base.specs.declared.code.Code.TheVariants as reason

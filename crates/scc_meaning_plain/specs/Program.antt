@@ -1,4 +1,4 @@
--- A plain program: classes and functions without templates, whose statements hold what follows them (ISO C++ [stmt]; IEEE 1666-2011, 4.2, 5.2).
+-- A plain program: classes and functions without templates, whose statements hold what follows them (ISO C++ [stmt]; IEEE 1666-2011, 4.1, 5.2).
 use Rattle.std.specs.Prelude.{ℕ, Bool, Option, List}
 use Rattle.scc_base.specs.declared.refusal.Place.{Place}
 use Rattle.scc_kinds.specs.declared.kind.Kind.{Kind}

@@ -1,4 +1,4 @@
--- What a source and the name of a top come to over all stages (IEEE 1666-2011, 4.2, 5.2): a design, or the first refusal. What no process writes is constant, which is
+-- What a source and the name of a top come to over all stages (IEEE 1666-2011, 4.1, 5.2): a design, or the first refusal. What no process writes is constant, which is
 -- read off the core behind all stages.
 use Rattle.std.specs.Prelude.{◌≡◌, ℕ, Bool, [], Option, Some, option_map, option_and_then}
 use Rattle.scc_base.specs.declared.refusal.Refusal.{Refusal}
