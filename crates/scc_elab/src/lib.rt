@@ -1,4 +1,4 @@
-//! Construction: the top's constructor is run, and what it leaves is the design (IEEE 1666-2011, 4.2: elaboration).
+//! Construction: the top's constructor is run, and what it leaves is the design (IEEE 1666-2011, 4.1: elaboration).
 #![tactic(auto)]
 
 mod after;

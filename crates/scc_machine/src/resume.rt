@@ -1,4 +1,4 @@
-//! Processes, and how one is resumed (IEEE 1666-2011, 4.2.1: the scheduling algorithm; 5.2.11: wait).
+//! Processes, and how one is resumed (IEEE 1666-2011, 4.2.1: the scheduling algorithm; 5.2.18: wait).
 use crate::runner::{RunStop, Runner};
 use scc_base::{NoMemory, lost, push};
 use scc_flat::{Halt, Thread};
