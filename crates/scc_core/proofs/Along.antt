@@ -12,7 +12,8 @@ use Rattle.scc_core.specs.declared.expr.CoreBase.TheOpen as tree
 use Rattle.scc_bits.specs.Value.{Number}
 use Rattle.scc_core.specs.Numbers.{stored_in}
 use Rattle.scc_core.specs.Operands.{first_in, first_of, inner, operand}
-use Rattle.scc_core.specs.Statics.{Facts, Base, Node, Part, Pick, Expr, Left, base_node, expr_node, part_node, pick_node, expr_step, left_step, value_in, left_value, part_in, pick_in, operated, chosen}
+use Rattle.scc_core.specs.Elements.{Facts, Part}
+use Rattle.scc_core.specs.Statics.{Base, Node, Pick, Expr, Left, base_node, expr_node, part_node, pick_node, expr_step, left_step, value_in, left_value, part_in, pick_in, operated, chosen}
 
 operand_suc : (n : ℕ) (e : CoreExpr) → operand (suc n) e ≡ inner (operand n e)
 operand_suc zero e = refl

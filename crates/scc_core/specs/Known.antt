@@ -8,7 +8,7 @@ use Rattle.scc_core.specs.declared.places.NameStep.{NameStep}
 use Rattle.scc_core.specs.declared.places.Places.{Places}
 use Rattle.scc_core.specs.declared.statics.Known.{Known}
 use Rattle.scc_core.specs.Names.{placed, sought}
-use Rattle.scc_core.specs.Statics.{Facts, fixed}
+use Rattle.scc_core.specs.Elements.{Facts, fixed}
 
 -- neither a table of names nor counters
 abbrev pub IsAlone : Known → Type 0

@@ -4,4 +4,5 @@ pub mod Names
 pub mod Numbers
 pub mod Operands
 pub mod Rests
+pub mod Elements
 pub mod Statics

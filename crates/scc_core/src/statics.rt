@@ -8,7 +8,8 @@ ghost use Rattle.scc_core.specs.Names.{after, are_rest, are_steps, behind, is_po
 ghost use Rattle.scc_core.specs.Numbers.{above, all_joined, answer, bit, selected, small, stored_in, valued};
 ghost use Rattle.scc_core.specs.Operands.{first_of, inner, operand};
 ghost use Rattle.scc_core.specs.Rests.{steps_in};
-ghost use Rattle.scc_core.specs.Statics.{chosen, element, fixed, found, inside, is_below, left_value, part_in, pick_in, static_of, step_at, value_in};
+ghost use Rattle.scc_core.specs.Elements.{element, fixed, found, inside, is_below, step_at};
+ghost use Rattle.scc_core.specs.Statics.{chosen, left_value, part_in, pick_in, static_of, value_in};
 
 use crate::{
     Cell, CellName, CellSort, CoreBase, CoreExpr, CoreExprNode, CoreLeft, CorePart, CorePick,
@@ -135,6 +136,7 @@ impl<'a> Known<'a> {
     /// Which way an `if` always goes; None where its test isn't static.
     pub fn goes(&self, test: &CoreExpr) -> Option<bool>
         ensures goes { IsAlone self.now → result ≡ option_map (λ v. not (nat_eq v.word 0)) (static_of self.now.cells.now test.now) }
+        ensures known { result ≡ option_map (λ v. not (nat_eq v.word 0)) (value_in (facts_in self.now) test.now) }
     {
         Some(self.value(test)?.is_true())
     }
@@ -402,7 +404,7 @@ impl<'a> Known<'a> {
     }
 
     // What construction left in a fixed cell.
-    #[tactic(auto, unfolding(crate::specs::Statics::fixed))]
+    #[tactic(auto, unfolding(crate::specs::Elements::fixed))]
     fn fixed(&self, cell: u32) -> Option<Value>
         ensures { result ≡ fixed self.now.cells.now cell }
     {

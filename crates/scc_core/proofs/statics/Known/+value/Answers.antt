@@ -1,7 +1,8 @@
 use Rattle.std.proofs.Common.{◌≡◌, ◌≤◌, ◌<◌, ◌/◌, sym, ◌∙◌, arith, length}
 use Rattle.scc_core.specs.Known.{facts_in}
 use Rattle.scc_core.specs.Rests.{steps_in}
-use Rattle.scc_core.specs.Statics.{part_in, step_at}
+use Rattle.scc_core.specs.Elements.{step_at}
+use Rattle.scc_core.specs.Statics.{part_in}
 use Rattle.scc_core.proofs.Along.{none_over, some_over, half_over}
 use Rattle.scc_core.proofs.Loops.{others, other_step, same_step_on, no_part}
 use Rattle.scc_core.proofs.statics.Known.+value.Goals as goal

@@ -3,7 +3,8 @@ use Rattle.scc_core.specs.Known.{facts_in}
 use Rattle.scc_core.specs.Names.{are_steps, sought, walk}
 use Rattle.scc_core.specs.Numbers.{all_joined}
 use Rattle.scc_core.specs.Rests.{steps_in}
-use Rattle.scc_core.specs.Statics.{inside, part_in, step_at, value_in}
+use Rattle.scc_core.specs.Elements.{inside, step_at}
+use Rattle.scc_core.specs.Statics.{part_in, value_in}
 use Rattle.scc_core.proofs.Loops.{joined_on, sought_from}
 use Rattle.scc_core.proofs.statics.Known.+value.Given as goal
 
