@@ -16,7 +16,7 @@ ghost use Rattle.scc_tree.specs.declared.item.FileTree.{FileTree};
 ghost use Rattle.scc_meaning_core.specs.First.{refused};
 ghost use Rattle.scc_meaning_core.specs.Resolved.{Made};
 ghost use Rattle.scc_meaning_program.specs.Designs.{Compiled, compiled, first_refusal};
-ghost use Rattle.scc_meaning_command.specs.Stopped.{Request, Refuses, Absent, StopsFirst, if_long};
+ghost use Rattle.scc_meaning_command.specs.Stopped.{Request, Reason, Refuses, Absent, StopsFirst, if_long};
 ghost use Rattle.scc_meaning_command.specs.Whole.{IsAccepted, WholeTheorem};
 
 /// What joining refuses, or a file that it asks for in vain, is what stops a command first.
@@ -25,6 +25,11 @@ pub fn what_joining_refuses_stops_first()
         → StopsAt (first_part shelf) fixed_names q.roots names sources (join.Refuses code place) → StopsFirst q shelf (Refuses sources (refused code place)) }
     ensures absent { (q : Request) (shelf : Shelf) (names : List (List ℕ)) (sources : List Source) (name : List ℕ)
         → StopsAt (first_part shelf) fixed_names q.roots names sources (join.Absent name) → StopsFirst q shelf (Absent name) }
+{}
+
+/// Whatever the files hold, at most one thing stops a command first.
+pub fn what_stops_a_command_is_one()
+    ensures { (q : Request) (shelf : Shelf) (x y : Reason) → StopsFirst q shelf x → StopsFirst q shelf y → x ≡ y }
 {}
 
 /// A source that some stage refuses has no design, and one with a design is refused by none.

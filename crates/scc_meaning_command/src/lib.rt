@@ -5,5 +5,5 @@ mod laws;
 
 pub use laws::{
     a_refused_source_has_no_design, an_accepted_command_writes, the_stimulus_comes_last,
-    what_joining_refuses_stops_first,
+    what_joining_refuses_stops_first, what_stops_a_command_is_one,
 };
