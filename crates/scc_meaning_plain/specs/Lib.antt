@@ -22,4 +22,5 @@ pub mod Stages
 pub mod Common
 pub mod Worked
 pub mod WorkedMade
+pub mod WorkedLocals
 pub mod WorkedRun

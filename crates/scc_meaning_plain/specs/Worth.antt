@@ -1,6 +1,6 @@
 -- Locations and values in a constructor (ISO C++ [expr]), with what is refused: a port or signal is read (E404), null is followed (E405). All parts of an
 -- expression are evaluated.
-use Rattle.std.specs.Prelude.{ℕ, Bool, true, false, ◌&&◌, nat_lt, List, [], ◌∷◌, Option, Some, None, option_map, option_and_then, slice_get, unwrap_or, if◌then◌else◌}
+use Rattle.std.specs.Prelude.{ℕ, Bool, true, false, ◌&&◌, nat_eq, nat_lt, List, [], ◌∷◌, Option, Some, None, option_map, option_and_then, slice_get, unwrap_or, if◌then◌else◌}
 use Rattle.scc_base.specs.declared.refusal.Place.{Place}
 use Rattle.scc_base.specs.declared.code.Code.TheVariants as reason
 use Rattle.scc_kinds.specs.declared.kind.Kind.{Kind}
@@ -15,7 +15,8 @@ use Rattle.scc_meaning_plain.specs.Term.{Term, Literal, Load, Read, Convert, Una
 use Rattle.scc_meaning_plain.specs.Term as term
 use Rattle.scc_meaning_plain.specs.Program as plain
 use Rattle.scc_meaning_plain.specs.Program.{Base, Number, Function, Plain}
-use Rattle.scc_meaning_plain.specs.Types.{declared_at, is_reference}
+use Rattle.scc_meaning_plain.specs.Design.{class_of}
+use Rattle.scc_meaning_plain.specs.Types.{declared_at, is_direct, is_reference}
 use Rattle.scc_meaning_plain.specs.Grown.{Grown, at_path, local_of, thing_at, node_of, variable_kind, with_word}
 
 -- where a statement of a constructor stands: its function, the object that is made, and what is made so far
@@ -93,13 +94,21 @@ abbrev pub number_kind : Base → Option Kind
 number_kind (Number k) = Some k
 number_kind b = None
 
--- whether a local is declared there, and its kind where it holds a number
+-- the constructor whose locals stand at an object's number: the one at hand, or that of another object, to whose locals a parameter may lead
+abbrev pub constructor_at : Site → ℕ → Option Function
+constructor_at s i = if nat_eq i s.object then Some s.function
+    else option_and_then (λ o. option_and_then (λ c. option_and_then (λ k. option_and_then (slice_get s.plain.functions) k.constructor) (slice_get s.plain.classes c)) (class_of o.node)) (slice_get s.now.objects i)
+
+-- the local that is declared there, if any, and its kind where it is a number itself
 abbrev pub local_there : Site → Location → Root → Option plain.Member
-local_there s l (Local i cs n) = option_and_then (λ m. if is_inside m.shape.sizes l.path then Some m else None) (slice_get s.function.locals n)
+local_there s l (Local i cs n) = option_and_then (λ m. if is_inside m.shape.sizes l.path then Some m else None) (option_and_then (λ f. slice_get f.locals n) (constructor_at s i))
 local_there s l r = None
 
+abbrev pub direct_kind : plain.Member → Option Kind
+direct_kind m = if is_direct m.shape.reach then number_kind m.shape.base else None
+
 abbrev pub kind_there : Site → Location → Option Kind
-kind_there s l = either (option_and_then (λ m. number_kind m.shape.base) (local_there s l l.root)) (variable_kind (option_and_then (node_of s.now) (thing_at s.now l)))
+kind_there s l = either (option_and_then direct_kind (local_there s l l.root)) (variable_kind (option_and_then (node_of s.now) (thing_at s.now l)))
   where
     either : Option Kind → Option Kind → Option Kind
     either (Some k) other = Some k

@@ -10,6 +10,7 @@ ghost use Rattle.scc_meaning_plain.specs.Made.{built, none_given, grown_of};
 ghost use Rattle.scc_meaning_plain.specs.Elaborated.{elaborated};
 ghost use Rattle.scc_meaning_core.specs.Resolved.{and_made, made_map, Made};
 ghost use Rattle.scc_meaning_plain.specs.WorkedMade.{pointers, to_vectors, nodes_of};
+ghost use Rattle.scc_meaning_plain.specs.WorkedLocals.{to_locals};
 ghost use Rattle.scc_meaning_plain.specs.WorkedRun.{word_after};
 ghost use Rattle.scc_meaning_plain.specs.Design as design;
 ghost use Rattle.scc_meaning_plain.specs.Stages.{accepted, compiled};
@@ -45,6 +46,11 @@ pub fn pointers_lead_to_what_is_made()
 /// What is made for an element of an array of pointers to vectors is a vector: two pointers and three signals, and no object at the vector's own path.
 pub fn an_element_leads_to_a_vector()
     ensures { nodes_of (elaborated false to_vectors) ≡ design.Module 0 ∷ design.Pointer None ∷ design.Pointer None ∷ design.Signal int ∷ design.Signal int ∷ design.Signal int ∷ [] }
+{}
+
+/// A constructor writes a local of the one that made its object: n is 5.
+pub fn a_parameter_leads_to_a_local()
+    ensures { nodes_of (elaborated false to_locals) ≡ design.Module 1 ∷ design.Pointer (Some 3) ∷ design.Variable int 5 ∷ design.Module 0 ∷ [] }
 {}
 
 /// The method runs its calls: 1 and 0 are 1.
