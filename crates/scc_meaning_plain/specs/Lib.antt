@@ -23,4 +23,5 @@ pub mod Common
 pub mod Worked
 pub mod WorkedMade
 pub mod WorkedLocals
+pub mod WorkedRefused
 pub mod WorkedRun

@@ -114,23 +114,28 @@ kind_there s l = either (option_and_then direct_kind (local_there s l l.root)) (
     either (Some k) other = Some k
     either None other = other
 
+-- the bit that a left side names: its index is part of the left side, and is evaluated also where nothing stands
+abbrev pub bit_given : Site → Pick → Tried (Option ℕ)
+bit_given s (OneBit e) = made_map (λ i. Some (index_of (kind_of e) i)) (worth s e)
+bit_given s k = Made None
+
 -- the whole word after an assignment to a part
-abbrev pub picked : Site → Kind → Pick → ℕ → ℕ → Tried ℕ
-picked s k Whole old new = Made new
-picked s k (OneBit e) old new = made_map (λ i. with_bit (width_of k) old (index_of (kind_of e) i) new) (worth s e)
-picked s k (Bits h l) old new = Made (replaced h l old new)
+abbrev pub picked : Kind → Pick → Option ℕ → ℕ → ℕ → ℕ
+picked k (OneBit e) (Some i) old new = with_bit (width_of k) old i new
+picked k (Bits h l) i old new = replaced h l old new
+picked k p i old new = new
 
--- an assignment of a number; where no variable stands, nothing is written
+-- an assignment of a number: its left side, then its value; where no variable stands, nothing is written
 abbrev pub assigned : Site → Left → Pick → Term → Tried Grown
-assigned s l k e = and_made (spot s false true l) (λ o. and_made (worth s e) (λ x. put_at o x))
+assigned s l k e = and_made (spot s false true l) (λ o. and_made (bit_given s k) (λ i. made_map (put_at o i) (worth s e)))
   where
-    put_word : Location → ℕ → Option Kind → Tried Grown
-    put_word l x None = Made s.now
-    put_word l x (Some j) = made_map (with_word s.now l) (picked s j k (s.now.store.words l) x)
+    put_word : Location → Option ℕ → ℕ → Option Kind → Grown
+    put_word l i x None = s.now
+    put_word l i x (Some j) = with_word s.now l (picked j k i (s.now.store.words l) x)
 
-    put_at : Option Location → ℕ → Tried Grown
-    put_at None x = Made s.now
-    put_at (Some l) x = put_word l x (kind_there s l)
+    put_at : Option Location → Option ℕ → ℕ → Grown
+    put_at None i x = s.now
+    put_at (Some l) i x = put_word l i x (kind_there s l)
 
 -- an argument as a constructor takes it
 pub data Given : Type 0 where

@@ -8,9 +8,12 @@ ghost use Rattle.scc_meaning_plain.specs.Inlined.{copied_program, copied_body, c
 ghost use Rattle.scc_meaning_plain.specs.Grown.{nothing};
 ghost use Rattle.scc_meaning_plain.specs.Made.{built, none_given, grown_of};
 ghost use Rattle.scc_meaning_plain.specs.Elaborated.{elaborated};
-ghost use Rattle.scc_meaning_core.specs.Resolved.{and_made, made_map, Made};
+ghost use Rattle.scc_base.specs.declared.code.Code.TheVariants as reason;
+ghost use Rattle.scc_meaning_core.specs.First.{refused};
+ghost use Rattle.scc_meaning_core.specs.Resolved.{and_made, made_map, Made, Stopped};
 ghost use Rattle.scc_meaning_plain.specs.WorkedMade.{pointers, to_vectors, nodes_of};
 ghost use Rattle.scc_meaning_plain.specs.WorkedLocals.{to_locals};
+ghost use Rattle.scc_meaning_plain.specs.WorkedRefused.{at, to_bits};
 ghost use Rattle.scc_meaning_plain.specs.WorkedRun.{word_after};
 ghost use Rattle.scc_meaning_plain.specs.Design as design;
 ghost use Rattle.scc_meaning_plain.specs.Stages.{accepted, compiled};
@@ -51,6 +54,12 @@ pub fn an_element_leads_to_a_vector()
 /// A constructor writes a local of the one that made its object: n is 5.
 pub fn a_parameter_leads_to_a_local()
     ensures { nodes_of (elaborated false to_locals) ≡ design.Module 1 ∷ design.Pointer (Some 3) ∷ design.Variable int 5 ∷ design.Module 0 ∷ [] }
+{}
+
+/// The index of a bit is evaluated before the value, also past the end of an array.
+pub fn the_index_of_a_bit_comes_first()
+    ensures inside { elaborated false (to_bits 0) ≡ Some (Stopped (refused reason.EmptyPointer (at 3))) }
+    ensures past { elaborated false (to_bits 1) ≡ Some (Stopped (refused reason.EmptyPointer (at 3))) }
 {}
 
 /// The method runs its calls: 1 and 0 are 1.
