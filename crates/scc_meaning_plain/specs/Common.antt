@@ -1,48 +1,48 @@
 -- Where constructors and processes agree: statements that both may have do in a constructor what the processes' machine does (ISO C++ [stmt]).
-use Rattle.std.specs.Prelude.{◌≡◌, ℕ, Bool, true, false, ◌&&◌, ◌||◌, not, [], Option, Some, None, option_map, option_and_then, is_some, unwrap_or}
+use Rattle.std.specs.Prelude.{◌≡◌, ℕ, Bool, true, false, ◌&&◌, ◌||◌, not, nat_le, List, [], ◌∷◌, Option, Some, None, option_map, option_and_then, slice_get, is_some, unwrap_or}
 use Rattle.scc_meaning.specs.Location.{Location}
 use Rattle.scc_meaning.specs.Design as thing
 use Rattle.scc_meaning.specs.Design.{Thing, Places}
 use Rattle.scc_meaning.specs.Value.{Names}
 use Rattle.scc_running.specs.Body as machine
 use Rattle.scc_running.specs.Value.{Held}
-use Rattle.scc_running.specs.Machine.{Go, Inner, Stop, Ended, run}
-use Rattle.scc_meaning_plain.specs.Program.{Base, Number, Function, Plain, Code, End, Declare, Assign, Point, Write, Call, If, Loop, Block, Exit, Return}
+use Rattle.scc_running.specs.Machine.{Go, Inner, Stop, Outcome, Ended, run}
+use Rattle.scc_meaning_plain.specs.Program.{Function, Code, End, Declare, Assign, Point, Write, Call, If, Loop, Block, Exit, Return}
 use Rattle.scc_meaning_plain.specs.Program.{Wait, Make, Bind, Process, Sensitive, Quiet, Reset}
-use Rattle.scc_meaning_plain.specs.Types.{base_at, is_direct}
+use Rattle.scc_meaning_plain.specs.Types.{is_direct}
 use Rattle.scc_meaning_plain.specs.Design as design
 use Rattle.scc_meaning_plain.specs.Design.{Node}
 use Rattle.scc_meaning_plain.specs.Grown.{Grown, at_path, thing_at, pointer_at, node_of}
 use Rattle.scc_meaning_plain.specs.Worth.{Site, at_now, local_there, kind_there}
-use Rattle.scc_meaning_plain.specs.Construct.{Making, Now, Fell, ran}
+use Rattle.scc_meaning_plain.specs.Construct.{Making, Now, Fell, sizes_of, ran}
+use Rattle.scc_meaning_plain.specs.Typed.{IsTypedCode}
 use Rattle.scc_meaning_plain.specs.Spoken.{body_of}
 
--- what stands there is a number, be it behind pointers and in arrays
-abbrev pub is_number : Option Base → Bool
-is_number (Some (Number k)) = true
-is_number b = false
+-- arrays have at most 65,536 elements
+abbrev pub is_small : List ℕ → Bool
+is_small [] = true
+is_small (n ∷ ns) = nat_le n 65536 && is_small ns
 
--- Statements that processes have, too, but for writes of signals, calls, `return` and waits. They assign numbers alone: at a signal the machine would
--- make a request.
-abbrev pub is_common : Plain → Function → Code → Bool
-is_common q f End = true
-is_common q f (Declare p n r) = is_common q f r
-is_common q f (Assign p l k e r) = is_number (base_at q f l) && is_common q f r
-is_common q f (Point p l t r) = is_common q f r
-is_common q f (If p t a b r) = is_common q f a && (is_common q f b && is_common q f r)
-is_common q f (Loop p n b r) = is_common q f b && is_common q f r
-is_common q f (Block p b r) = is_common q f b && is_common q f r
-is_common q f (Exit p d r) = is_common q f r
-is_common q f (Write p l e r) = false
-is_common q f (Call p n g o args r) = false
-is_common q f (Return p v r) = false
-is_common q f (Wait p n r) = false
-is_common q f (Make p l b args r) = false
-is_common q f (Bind p l t r) = false
-is_common q f (Process p t g e r) = false
-is_common q f (Sensitive p items r) = false
-is_common q f (Quiet p r) = false
-is_common q f (Reset p s e a r) = false
+-- statements that processes have, too, but for writes of signals, calls, `return` and waits
+abbrev pub is_common : Function → Code → Bool
+is_common f End = true
+is_common f (Declare p n r) = is_small (sizes_of (slice_get f.locals n)) && is_common f r
+is_common f (Assign p l k e r) = is_common f r
+is_common f (Point p l t r) = is_common f r
+is_common f (If p t a b r) = is_common f a && (is_common f b && is_common f r)
+is_common f (Loop p n b r) = is_common f b && is_common f r
+is_common f (Block p b r) = is_common f b && is_common f r
+is_common f (Exit p d r) = is_common f r
+is_common f (Write p l e r) = false
+is_common f (Call p n g o args r) = false
+is_common f (Return p v r) = false
+is_common f (Wait p n r) = false
+is_common f (Make p l b args r) = false
+is_common f (Bind p l t r) = false
+is_common f (Process p t g e r) = false
+is_common f (Sensitive p items r) = false
+is_common f (Quiet p r) = false
+is_common f (Reset p s e a r) = false
 
 -- what stands where by now: the objects that are made, and the constructor's locals
 abbrev pub channel_of : Option Node → Option Thing
@@ -70,13 +70,17 @@ names_of s = record { process = s.object; calls = []; object = Some (at_path s.p
 abbrev pub held_in : Grown → Held
 held_in g = record { store = g.store; requests = [] }
 
--- Where nothing stands, nothing is held; and a pointer holds no word.
+-- where no number stands, no word is held, and where no pointer stands, no target
 pub record IsRegular (s : Site) : Type 0 where
-  pub words : (l : Location) → thing_now s l ≡ None → s.now.store.words l ≡ 0
-  pub wordless : (l : Location) → pointer_now s l ≡ true → s.now.store.words l ≡ 0
+  pub words : (l : Location) → kind_there s l ≡ None → s.now.store.words l ≡ 0
   pub targets : (l : Location) → pointer_now s l ≡ false → s.now.store.targets l ≡ None
 
--- What such statements make of the store the machine makes of it, with some number of steps.
+-- how a constructor's statements run as a process's
+abbrev pub machine_run : Site → Code → ℕ → Grown → Outcome
+machine_run s c bound g = run (places_now (at_now s g)) (λ f. machine.End) (λ l. 0) bound (Go Inner (names_of s) (body_of s.plain s.function [] c) Stop) (held_in g)
+
+-- What such statements make of the store the machine makes of it, with some number of steps. Of requests nothing is said: where an assignment meets a
+-- signal, the constructor does nothing, and the machine makes a request.
 abbrev pub Agrees : Making → Site → Code → Type 0
-Agrees make s c = (n m : Now) → IsRegular (at_now s n.grown) → is_common s.plain s.function c ≡ true → ran make s c n ≡ Fell m
-    → (bound : ℕ) × (run (places_now (at_now s n.grown)) (λ f. machine.End) (λ l. 0) bound (Go Inner (names_of s) (body_of s.plain s.function [] c) Stop) (held_in n.grown) ≡ Ended (held_in m.grown))
+Agrees make s c = (n m : Now) → IsRegular (at_now s n.grown) → is_common s.function c ≡ true → IsTypedCode c → ran make s c n ≡ Fell m
+    → (bound : ℕ) × (h : Held) × (machine_run s c bound n.grown ≡ Ended h) × (h.store ≡ m.grown.store)

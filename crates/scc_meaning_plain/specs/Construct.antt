@@ -68,7 +68,7 @@ is_local None = false
 -- a pointer takes a target; a member none that is a local (E404); where no pointer stands, nothing is written
 abbrev pub pointed : Site → Place → Location → Root → Option Location → Tried Grown
 pointed s p l Top t = if is_local t then Stopped (refused reason.Constructor p) else Made (if is_some (pointer_at s.now l) then with_target s.now l t else s.now)
-pointed s p l r t = Made (if is_some (local_there s l r) then with_target s.now l t else s.now)
+pointed s p l r t = Made (if unwrap_or (option_map (λ m. not (is_direct m.shape.reach)) (local_there s l r)) false then with_target s.now l t else s.now)
 
 abbrev pub point_at : Site → Place → Option Location → Option Location → Tried Grown
 point_at s p None t = Made s.now

@@ -19,6 +19,7 @@ pub mod Static
 pub mod Spoken
 pub mod Meant
 pub mod Stages
+pub mod Typed
 pub mod Common
 pub mod Worked
 pub mod WorkedMade
