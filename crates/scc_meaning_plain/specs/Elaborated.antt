@@ -1,9 +1,9 @@
--- The design of a program: what the run of its top's constructor leaves, or what is refused first (IEEE 1666-2011, 4.1).
-use Rattle.std.specs.Prelude.{ℕ, zero, suc, Bool, true, false, not, ◌&&◌, List, [], ◌∷◌, ◌++◌, map, filter_map, Option, Some, None, option_map, option_and_then, slice_get, unwrap_or, if◌then◌else◌}
+-- The design of a program: what the run of its top's constructor leaves, or what is refused first (IEEE 1666-2011, 4.2).
+use Rattle.std.specs.Prelude.{ℕ, zero, suc, min, Bool, true, false, not, ◌&&◌, List, [], ◌∷◌, ◌++◌, map, filter_map, Option, Some, None, option_map, option_and_then, slice_get, unwrap_or, if◌then◌else◌}
 use Rattle.scc_base.specs.declared.refusal.Place.{Place}
 use Rattle.scc_base.specs.declared.refusal.Refusal.{Refusal}
 use Rattle.scc_base.specs.declared.code.Code.TheVariants as reason
-use Rattle.scc_meaning.specs.Location.{Location, Part}
+use Rattle.scc_meaning.specs.Location.{Location, Part, Element}
 use Rattle.scc_meaning_core.specs.First.{refused}
 use Rattle.scc_meaning_core.specs.Resolved.{Tried, Made, Stopped, and_made}
 use Rattle.scc_meaning_plain.specs.Program.{Member, Class, Plain}
@@ -30,9 +30,14 @@ abbrev pub objects_left : Grown → ℕ → List Object → List Object
 objects_left g n [] = []
 objects_left g n (o ∷ os) = record { path = o.path; place = o.place; node = left_node g n o o.node } ∷ objects_left g (suc n) os
 
+-- No array has so many elements that the greatest index names one: it stands for all that are greater.
+abbrev pub kept_part : Part → Part
+kept_part (Element i) = Element (min i 4294967295)
+kept_part p = p
+
 -- the targets of pointers that aren't null, by the pointers' numbers
 abbrev pub target_if : Grown → ℕ → Object → Node → List Target
-target_if g n o (Pointer t) = unwrap_or (option_map (λ path. record { object = n; path = path } ∷ []) (option_and_then path_if_top (led_to g o.path))) []
+target_if g n o (Pointer t) = unwrap_or (option_map (λ path. record { object = n; path = map kept_part path } ∷ []) (option_and_then path_if_top (led_to g o.path))) []
 target_if g n o node = []
 
 abbrev pub targets_left : Grown → ℕ → List Object → List Target

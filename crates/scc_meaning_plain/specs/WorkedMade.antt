@@ -1,13 +1,14 @@
 -- `struct C { int n; C(int k) : n(k) {} };` and a top `C* q; C r; int* z;` whose constructor is
--- `T() : r(3), z(&r.n) { for (int i = 0; i < 2; i++) *z = *z + i; q = new C(*z + 4); }`. And a top with an array of two pointers to vectors.
+-- `T() : r(3), z(&r.n) { for (int i = 0; i < 2; i++) *z = *z + i; q = new C(*z + 4); }`. A top with an array of two pointers to vectors; and one with a
+-- pointer past the end of an array.
 use Rattle.std.specs.Prelude.{ℕ, true, false, List, [], ◌∷◌, map, Option, Some, None}
 use Rattle.scc_kinds.specs.declared.op.Op.TheVariants as op
 use Rattle.scc_kinds.specs.declared.kind.Kind.TheVariants as kind
 use Rattle.scc_meaning_core.specs.Resolved.{Tried, Made}
 use Rattle.scc_meaning_plain.specs.Term.{Term, Left, Literal, Load, Binary, Local, This, Follow, Index, Whole, Value, Address}
 use Rattle.scc_meaning_plain.specs.Term as term
-use Rattle.scc_meaning_plain.specs.Program.{Base, Number, OfClass, Signal, Pointer, Member, End, Assign, Point, If, Loop, Block, Exit, Make, Function, Plain}
-use Rattle.scc_meaning_plain.specs.Design.{Design, Node}
+use Rattle.scc_meaning_plain.specs.Program.{Base, Number, OfClass, Signal, Direct, Pointer, Member, End, Assign, Point, If, Loop, Block, Exit, Make, Function, Plain}
+use Rattle.scc_meaning_plain.specs.Design.{Design, Node, Target}
 use Rattle.scc_meaning_plain.specs.Worked.{here, int, member, number}
 
 abbrev pub pointer : ℕ → Base → Member
@@ -79,3 +80,21 @@ to_vectors = record {
 abbrev pub nodes_of : Option (Tried Design) → List Node
 nodes_of (Some (Made d)) = map (λ o. o.node) d.objects
 nodes_of o = []
+
+abbrev pub targets_of : Option (Tried Design) → List Target
+targets_of (Some (Made d)) = d.targets
+targets_of o = []
+
+-- `int a[1]; int* p; T() : p(&a[-1]) {}`
+abbrev pub past_the_end : Plain
+past_the_end = record {
+  top = 0;
+  functions = record { name = 43; place = here; class = Some 0; params = 0; locals = []; result = None; inits = Point here (own 1) (Address (Index (own 0) (number 4294967295))) End; body = End } ∷ [];
+  classes = record {
+    name = 44;
+    place = here;
+    is_module = true;
+    members = record { name = 45; place = here; shape = record { base = Number int; reach = Direct; vector = false; sizes = 1 ∷ [] } } ∷ pointer 46 (Number int) ∷ [];
+    constructor = Some 0;
+  } ∷ [];
+}

@@ -11,7 +11,8 @@ ghost use Rattle.scc_meaning_plain.specs.Elaborated.{elaborated};
 ghost use Rattle.scc_base.specs.declared.code.Code.TheVariants as reason;
 ghost use Rattle.scc_meaning_core.specs.First.{refused};
 ghost use Rattle.scc_meaning_core.specs.Resolved.{and_made, made_map, Made, Stopped};
-ghost use Rattle.scc_meaning_plain.specs.WorkedMade.{pointers, to_vectors, nodes_of};
+ghost use Rattle.scc_meaning_plain.specs.WorkedMade.{pointers, to_vectors, past_the_end, nodes_of, targets_of};
+ghost use Rattle.scc_meaning.specs.Location.{Member, Element};
 ghost use Rattle.scc_meaning_plain.specs.WorkedLocals.{to_locals};
 ghost use Rattle.scc_meaning_plain.specs.WorkedRefused.{at, to_bits};
 ghost use Rattle.scc_meaning_plain.specs.WorkedRun.{word_after};
@@ -49,6 +50,11 @@ pub fn pointers_lead_to_what_is_made()
 /// What is made for an element of an array of pointers to vectors is a vector: two pointers and three signals, and no object at the vector's own path.
 pub fn an_element_leads_to_a_vector()
     ensures { nodes_of (elaborated false to_vectors) ≡ design.Module 0 ∷ design.Pointer None ∷ design.Pointer None ∷ design.Signal int ∷ design.Signal int ∷ design.Signal int ∷ [] }
+{}
+
+/// The object that a pointer is, and where it leads: to an element that no array has, since -1 is no index.
+pub fn a_pointer_leads_past_the_end()
+    ensures { targets_of (elaborated false past_the_end) ≡ record { object = 2; path = Member 45 ∷ Element 4294967295 ∷ [] } ∷ [] }
 {}
 
 /// A constructor writes a local of the one that made its object: n is 5.
