@@ -25,4 +25,6 @@ pub mod Worked
 pub mod WorkedMade
 pub mod WorkedLocals
 pub mod WorkedRefused
+pub mod WorkedClocks
+pub mod WorkedChosen
 pub mod WorkedRun

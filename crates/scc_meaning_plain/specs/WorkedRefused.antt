@@ -1,10 +1,10 @@
--- What construction refuses of small programs. `struct C { int n; };` and a top `C* p; C* q; int x[1];` whose constructor is
+-- What construction refuses of small programs: null that is followed, ports without a binding or with two, a top with a parameter. `struct C { int n; };` and a top `C* p; C* q; int x[1];` whose constructor is
 -- `T() { x[i][q->n] = p->n; }`: the index of the bit comes first, also where i is past the end.
-use Rattle.std.specs.Prelude.{ℕ, true, false, [], ◌∷◌, Some, None}
+use Rattle.std.specs.Prelude.{ℕ, true, false, List, [], ◌∷◌, Some, None}
 use Rattle.scc_base.specs.declared.refusal.Place.{Place}
-use Rattle.scc_meaning_plain.specs.Term.{Term, Load, This, Follow, Index, OneBit}
+use Rattle.scc_meaning_plain.specs.Term.{Term, Left, Load, This, Follow, Index, OneBit}
 use Rattle.scc_meaning_plain.specs.Term as term
-use Rattle.scc_meaning_plain.specs.Program.{Number, OfClass, Direct, Member, End, Assign, Function, Plain}
+use Rattle.scc_meaning_plain.specs.Program.{Base, Number, OfClass, Input, Signal, Direct, Member, Code, End, Assign, Bind, Wait, Function, Plain}
 use Rattle.scc_meaning_plain.specs.Worked.{here, int, member, number}
 use Rattle.scc_meaning_plain.specs.WorkedMade.{pointer, own}
 
@@ -28,4 +28,38 @@ to_bits i = record {
   classes =
       record { name = 62; place = here; is_module = false; members = member 63 (Number int) ∷ []; constructor = None }
       ∷ record { name = 64; place = here; is_module = true; members = pointer 65 (OfClass 0) ∷ pointer 66 (OfClass 0) ∷ array ∷ []; constructor = Some 0 } ∷ [];
+}
+
+abbrev pub member_at : ℕ → ℕ → Base → Member
+member_at place n b = record { name = n; place = at place; shape = record { base = b; reach = Direct; vector = false; sizes = [] } }
+
+abbrev pub constructor_of : List Member → Code → Function
+constructor_of params body = record { name = 70; place = here; class = Some 0; params = 1; locals = params; result = None; inits = End; body = body }
+
+abbrev pub without_params : Code → Function
+without_params body = record { name = 70; place = here; class = Some 0; params = 0; locals = []; result = None; inits = End; body = body }
+
+-- `SC_MODULE(M) { sc_in<int> a; };` and a top `M m; sc_signal<int> s;` whose constructor has such a body
+abbrev pub with_port : Code → Plain
+with_port body = record {
+  top = 0;
+  functions = without_params body ∷ [];
+  classes =
+      record { name = 71; place = here; is_module = true; members = member 72 (OfClass 1) ∷ member 73 (Signal int) ∷ []; constructor = Some 0 }
+      ∷ record { name = 74; place = here; is_module = true; members = member_at 5 75 (Input int) ∷ []; constructor = None } ∷ [];
+}
+
+-- `m.a(s); m.a(s);`
+abbrev pub port : Left
+port = term.Member (own 0) 0
+
+abbrev pub bound_twice : Code
+bound_twice = Bind (at 6) port (Some (own 1)) (Bind (at 7) port (Some (own 1)) End)
+
+-- `T(int k) { wait(); }`
+abbrev pub with_param : Plain
+with_param = record {
+  top = 0;
+  functions = constructor_of (member_at 8 76 (Number int) ∷ []) (Wait (at 9) 1 End) ∷ [];
+  classes = record { name = 77; place = here; is_module = true; members = []; constructor = Some 0 } ∷ [];
 }

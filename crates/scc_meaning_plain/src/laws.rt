@@ -9,12 +9,14 @@ ghost use Rattle.scc_meaning_plain.specs.Grown.{nothing};
 ghost use Rattle.scc_meaning_plain.specs.Made.{built, none_given, grown_of};
 ghost use Rattle.scc_meaning_plain.specs.Elaborated.{elaborated};
 ghost use Rattle.scc_base.specs.declared.code.Code.TheVariants as reason;
-ghost use Rattle.scc_meaning_core.specs.First.{refused};
+ghost use Rattle.scc_meaning_core.specs.First.{refused, refused_beside};
 ghost use Rattle.scc_meaning_core.specs.Resolved.{and_made, made_map, Made, Stopped};
 ghost use Rattle.scc_meaning_plain.specs.WorkedMade.{pointers, to_vectors, past_the_end, nodes_of, targets_of};
 ghost use Rattle.scc_meaning.specs.Location.{Member, Element};
 ghost use Rattle.scc_meaning_plain.specs.WorkedLocals.{to_locals};
-ghost use Rattle.scc_meaning_plain.specs.WorkedRefused.{at, to_bits};
+ghost use Rattle.scc_meaning_plain.specs.WorkedRefused.{at, to_bits, with_port, bound_twice, with_param};
+ghost use Rattle.scc_meaning_plain.specs.WorkedClocks.{two_clocks, edges_of};
+ghost use Rattle.scc_meaning_plain.specs.WorkedChosen.{chosen, choosing};
 ghost use Rattle.scc_meaning_plain.specs.WorkedRun.{word_after};
 ghost use Rattle.scc_meaning_plain.specs.Design as design;
 ghost use Rattle.scc_meaning_plain.specs.Stages.{accepted, compiled};
@@ -66,6 +68,28 @@ pub fn a_parameter_leads_to_a_local()
 pub fn the_index_of_a_bit_comes_first()
     ensures inside { elaborated false (to_bits 0) ≡ Some (Stopped (refused reason.EmptyPointer (at 3))) }
     ensures past { elaborated false (to_bits 1) ≡ Some (Stopped (refused reason.EmptyPointer (at 3))) }
+{}
+
+/// A port has one binding: without one it is refused where it is declared, with a second one there, beside the first.
+pub fn a_port_has_one_binding()
+    ensures without { elaborated false (with_port End) ≡ Some (Stopped (refused reason.Unbound (at 5))) }
+    ensures twice { elaborated false (with_port bound_twice) ≡ Some (Stopped (refused_beside reason.BoundTwice (at 7) (at 6))) }
+{}
+
+/// A top with a parameter is refused before its constructor runs, in which a wait would be refused.
+pub fn a_top_has_no_parameter()
+    ensures { elaborated false with_param ≡ Some (Stopped (refused reason.Constructor (at 8))) }
+{}
+
+/// A second clock is refused beside the first, unless several are allowed.
+pub fn two_clocks_are_refused_unless_allowed()
+    ensures one { elaborated false two_clocks ≡ Some (Stopped (refused_beside reason.ClockPort (at 4) (at 3))) }
+    ensures several { edges_of (elaborated true two_clocks) ≡ Some (record { root = 1; rising = true }) ∷ Some (record { root = 2; rising = true }) ∷ [] }
+{}
+
+/// An index that isn't static chooses no object of a call.
+pub fn an_index_that_is_not_static_chooses_no_object()
+    ensures { inlined chosen choosing ≡ Stopped (refused reason.StaticIndex (at 3)) }
 {}
 
 /// The method runs its calls: 1 and 0 are 1.
