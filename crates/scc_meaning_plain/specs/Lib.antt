@@ -18,6 +18,7 @@ pub mod Elaborated
 pub mod Static
 pub mod Spoken
 pub mod Meant
+pub mod Started
 pub mod Stages
 pub mod Typed
 pub mod Common

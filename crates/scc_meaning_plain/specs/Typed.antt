@@ -1,8 +1,8 @@
 -- Expressions whose operations have the kinds that their operators give (ISO C++ [expr]; IEEE 1666-2011, 7.2): all of a program that the static stage makes.
 use Rattle.std.specs.Prelude.{◌≡◌, Some}
 use Rattle.scc_bits.specs.Values.{kind_of as operator_kind}
-use Rattle.scc_meaning_plain.specs.Term.{Term, Literal, Load, Read, Convert, Unary, Binary, Choose, Bit, Range, Join, Left, Local, Answer, This, Follow, Member, Index, Pick, Whole, OneBit, Bits, Target, Null, Address, Copy, kind_of}
-use Rattle.scc_meaning_plain.specs.Program.{Code, End, Declare, Assign, Point, Write, Call, If, Loop, Block, Exit, Return, Wait, Make, Bind, Process, Sensitive, Quiet, Reset}
+use Rattle.scc_meaning_plain.specs.Term.{Term, Literal, Load, Read, Convert, Unary, Binary, Choose, Bit, Range, Join, Left, Local, Answer, This, Follow, Member, Index, Pick, OneBit, Target, Null, Address, Copy, kind_of}
+use Rattle.scc_meaning_plain.specs.Program.{Code, Declare, Assign, Point, If, Loop, Block, Exit}
 
 abbrev mutual
   pub IsTyped : Term → Type 0

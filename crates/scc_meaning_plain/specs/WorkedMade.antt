@@ -8,7 +8,7 @@ use Rattle.scc_meaning_core.specs.Resolved.{Tried, Made}
 use Rattle.scc_meaning_plain.specs.Term.{Term, Left, Literal, Load, Binary, Local, This, Follow, Index, Whole, Value, Address}
 use Rattle.scc_meaning_plain.specs.Term as term
 use Rattle.scc_meaning_plain.specs.Program.{Base, Number, OfClass, Signal, Direct, Pointer, Member, End, Assign, Point, If, Loop, Block, Exit, Make, Function, Plain}
-use Rattle.scc_meaning_plain.specs.Design.{Design, Node, Target}
+use Rattle.scc_meaning_plain.specs.Design.{Design, Object, Node, Target}
 use Rattle.scc_meaning_plain.specs.Worked.{here, int, member, number}
 
 abbrev pub pointer : ℕ → Base → Member
@@ -76,10 +76,13 @@ to_vectors = record {
   } ∷ [];
 }
 
--- the nodes of the objects that are left
+-- the objects that are left, and their nodes
+abbrev pub objects_of : Option (Tried Design) → List Object
+objects_of (Some (Made d)) = d.objects
+objects_of o = []
+
 abbrev pub nodes_of : Option (Tried Design) → List Node
-nodes_of (Some (Made d)) = map (λ o. o.node) d.objects
-nodes_of o = []
+nodes_of o = map (λ o. o.node) (objects_of o)
 
 abbrev pub targets_of : Option (Tried Design) → List Target
 targets_of (Some (Made d)) = d.targets

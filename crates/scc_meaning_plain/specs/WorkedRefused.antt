@@ -2,7 +2,7 @@
 -- `T() { x[i][q->n] = p->n; }`: the index of the bit comes first, also where i is past the end.
 use Rattle.std.specs.Prelude.{ℕ, true, false, List, [], ◌∷◌, Some, None}
 use Rattle.scc_base.specs.declared.refusal.Place.{Place}
-use Rattle.scc_meaning_plain.specs.Term.{Term, Left, Load, This, Follow, Index, OneBit}
+use Rattle.scc_meaning_plain.specs.Term.{Term, Left, Load, Follow, Index, OneBit}
 use Rattle.scc_meaning_plain.specs.Term as term
 use Rattle.scc_meaning_plain.specs.Program.{Base, Number, OfClass, Input, Signal, Direct, Member, Code, End, Assign, Bind, Wait, Function, Plain}
 use Rattle.scc_meaning_plain.specs.Worked.{here, int, member, number}

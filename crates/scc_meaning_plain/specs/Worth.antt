@@ -11,7 +11,7 @@ use Rattle.scc_meaning.specs.Location.{Location, Part, Member, Element, Root, Lo
 use Rattle.scc_meaning.specs.Value.{chosen, index_of, bit_at, with_bit}
 use Rattle.scc_meaning_core.specs.First.{refused}
 use Rattle.scc_meaning_core.specs.Resolved.{Tried, Made, Stopped, and_made, made_map}
-use Rattle.scc_meaning_plain.specs.Term.{Term, Literal, Load, Read, Convert, Unary, Binary, Choose, Bit, Range, Join, Left, Answer, This, Follow, Index, Pick, Whole, OneBit, Bits, Target, Null, Address, Copy, Argument, Value, Leads, ModuleName, kind_of, place_at}
+use Rattle.scc_meaning_plain.specs.Term.{Term, Literal, Load, Read, Convert, Unary, Binary, Choose, Bit, Range, Join, Left, Answer, This, Follow, Index, Pick, OneBit, Bits, Target, Null, Address, Copy, Argument, Value, Leads, ModuleName, kind_of, place_at}
 use Rattle.scc_meaning_plain.specs.Term as term
 use Rattle.scc_meaning_plain.specs.Program as plain
 use Rattle.scc_meaning_plain.specs.Program.{Base, Number, Function, Plain}

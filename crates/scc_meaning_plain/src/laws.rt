@@ -11,12 +11,14 @@ ghost use Rattle.scc_meaning_plain.specs.Elaborated.{elaborated};
 ghost use Rattle.scc_base.specs.declared.code.Code.TheVariants as reason;
 ghost use Rattle.scc_meaning_core.specs.First.{refused, refused_beside};
 ghost use Rattle.scc_meaning_core.specs.Resolved.{and_made, made_map, Made, Stopped};
-ghost use Rattle.scc_meaning_plain.specs.WorkedMade.{pointers, to_vectors, past_the_end, nodes_of, targets_of};
+ghost use Rattle.scc_meaning_plain.specs.WorkedMade.{pointers, to_vectors, past_the_end, objects_of, nodes_of, targets_of};
 ghost use Rattle.scc_meaning.specs.Location.{Member, Element};
 ghost use Rattle.scc_meaning_plain.specs.WorkedLocals.{to_locals};
 ghost use Rattle.scc_meaning_plain.specs.WorkedRefused.{at, to_bits, with_port, bound_twice, with_param};
 ghost use Rattle.scc_meaning_plain.specs.WorkedClocks.{two_clocks, edges_of};
 ghost use Rattle.scc_meaning_plain.specs.WorkedChosen.{chosen, choosing};
+ghost use Rattle.scc_meaning_plain.specs.Started.{started};
+ghost use Rattle.scc_meaning_plain.specs.Grown.{at_path};
 ghost use Rattle.scc_meaning_plain.specs.WorkedRun.{word_after};
 ghost use Rattle.scc_meaning_plain.specs.Design as design;
 ghost use Rattle.scc_meaning_plain.specs.Stages.{accepted, compiled};
@@ -90,6 +92,14 @@ pub fn two_clocks_are_refused_unless_allowed()
 /// An index that isn't static chooses no object of a call.
 pub fn an_index_that_is_not_static_chooses_no_object()
     ensures { inlined chosen choosing ≡ Stopped (refused reason.StaticIndex (at 3)) }
+{}
+
+/// The words of a start go to signals and variables in construction order: behind a top and two pointers three signals take the three words. A pointer
+/// takes none.
+pub fn a_start_gives_words_in_construction_order()
+    ensures signal { started (objects_of (elaborated false to_vectors)) (3 ∷ 4 ∷ 5 ∷ []) (at_path (Member 42 ∷ Element 0 ∷ Element 1 ∷ [])) ≡ 4 }
+    ensures pointer { started (objects_of (elaborated false to_vectors)) (3 ∷ 4 ∷ 5 ∷ []) (at_path (Member 42 ∷ Element 0 ∷ [])) ≡ 0 }
+    ensures variable { started choosing.objects (7 ∷ []) (at_path (Member 95 ∷ [])) ≡ 7 }
 {}
 
 /// The method runs its calls: 1 and 0 are 1.

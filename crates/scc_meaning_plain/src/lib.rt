@@ -5,9 +5,9 @@ mod laws;
 
 pub use laws::{
     a_method_with_calls_runs, a_parameter_leads_to_a_local, a_pointer_leads_past_the_end,
-    a_port_has_one_binding, a_top_has_no_parameter, an_element_leads_to_a_vector,
-    an_index_that_is_not_static_chooses_no_object, calls_are_accepted, calls_are_copied,
-    constructors_and_processes_agree, pointers_lead_to_what_is_made,
-    the_index_of_a_bit_comes_first, the_stages_accept, the_top_is_elaborated, the_top_is_made,
-    two_clocks_are_refused_unless_allowed,
+    a_port_has_one_binding, a_start_gives_words_in_construction_order, a_top_has_no_parameter,
+    an_element_leads_to_a_vector, an_index_that_is_not_static_chooses_no_object,
+    calls_are_accepted, calls_are_copied, constructors_and_processes_agree,
+    pointers_lead_to_what_is_made, the_index_of_a_bit_comes_first, the_stages_accept,
+    the_top_is_elaborated, the_top_is_made, two_clocks_are_refused_unless_allowed,
 };
