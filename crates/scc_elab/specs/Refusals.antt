@@ -1,4 +1,4 @@
--- What construction may refuse.
+-- What construction may refuse. This project's own.
 use Rattle.std.specs.Prelude.{Bool, true, ◌&&◌, ◌||◌, not, nat_eq, nat_le, is_none}
 use Rattle.scc_base.specs.declared.code.Code.{Code}
 use Rattle.scc_base.specs.Code.{code_number}

@@ -1,4 +1,4 @@
--- The roots of ports, and what processes have: every design that construction gives keeps both.
+-- The roots of ports, and what processes have: every design that construction gives keeps both. This project's own.
 use Rattle.std.specs.Prelude.{ℕ, Bool, true, false, ◌&&◌, not, List, [], ◌∷◌, Option, Some, None, is_none, slice_get}
 use Rattle.std.specs.List.{list_all}
 use Rattle.scc_base.specs.declared.path.PathPart.{PathPart}

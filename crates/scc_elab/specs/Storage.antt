@@ -1,4 +1,4 @@
--- The bits of storage of a design.
+-- The bits of storage of a design. This project's own.
 use Rattle.std.specs.Prelude.{ℕ, List}
 use Rattle.std.specs.List.{sum_by}
 use Rattle.scc_kinds.specs.Kinds.{width_of}

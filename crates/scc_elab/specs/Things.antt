@@ -1,4 +1,4 @@
--- The bits of storage of what construction has made.
+-- The bits of storage of what construction has made. This project's own.
 use Rattle.std.specs.Prelude.{ℕ, ◌≡◌, ◌≤◌, List, length}
 use Rattle.std.specs.List.{sum_by}
 use Rattle.scc_kinds.specs.Kinds.{width_of}

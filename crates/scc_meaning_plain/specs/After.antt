@@ -1,5 +1,6 @@
 -- What is looked for after the run of the top's constructor: construction in other functions (E404), ports without a binding (E401), then process by
--- process its sensitivity and resets (E406), its clock (E407, E413) and a missing reset (E409). IEEE 1666-2011, 4.1.3, 5.2.10 and 5.12; this project's own choice of what is allowed.
+-- process its sensitivity and resets (E406), its clock (E407, E413) and a missing reset (E409). IEEE 1666-2011, 5.2.9 to 5.2.14, and
+-- 6.9 for the edges of `sc_in<bool>`; this project's own choice of what is allowed.
 use Rattle.std.specs.Prelude.{ℕ, zero, suc, Bool, true, false, not, ◌&&◌, ◌||◌, nat_eq, nat_le, List, [], ◌∷◌, ◌++◌, filter, length, Option, Some, None, option_map, option_and_then, unwrap_or, find, is_some, if◌then◌else◌}
 use Rattle.std.specs.List.{list_any}
 use Rattle.scc_base.specs.declared.refusal.Place.{Place}

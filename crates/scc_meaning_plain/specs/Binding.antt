@@ -1,4 +1,4 @@
--- Bindings, processes and sensitivities in a constructor (IEEE 1666-2011, 4.1.3, 5.2.4, 5.2.9, 5.2.10, 5.12; resets as in 5.2.13).
+-- Bindings, processes and sensitivities in a constructor (IEEE 1666-2011, 4.1.3, 5.2.9, 5.2.13: resets, 5.2.14: `sensitive`, 5.2.15: `dont_initialize`, 5.12: ports).
 use Rattle.std.specs.Prelude.{ℕ, zero, suc, Bool, true, false, not, ◌&&◌, ◌||◌, nat_eq, List, [], ◌∷◌, ◌++◌, Option, Some, None, option_map, option_and_then, slice_get, unwrap_or, find, is_some, if◌then◌else◌}
 use Rattle.std.specs.List.{list_any}
 use Rattle.scc_base.specs.declared.refusal.Place.{Place}

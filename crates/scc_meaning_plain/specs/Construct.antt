@@ -1,4 +1,4 @@
--- Statements of a constructor, one after another (IEEE 1666-2011, 4.1.1; ISO C++ [class.base.init]). This project's own: what a constructor may hold. On the
+-- Statements of a constructor, one after another (IEEE 1666-2011, 4.1.1, 4.1.2; ISO C++ [stmt.stmt], [class.ctor]). This project's own: what a constructor may hold. On the
 -- statements that processes have too it does what their machine does.
 use Rattle.std.specs.Prelude.{ℕ, zero, suc, Bool, true, false, not, nat_le, List, [], ◌∷◌, map, length, Option, Some, None, option_map, slice_get, unwrap_or, is_some, if◌then◌else◌}
 use Rattle.std.specs.List.{list_any}

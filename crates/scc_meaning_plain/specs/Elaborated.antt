@@ -1,4 +1,4 @@
--- The design of a program: what the run of its top's constructor leaves, or what is refused first (IEEE 1666-2011, 4.2).
+-- The design of a program: what the run of its top's constructor leaves, or what is refused first (IEEE 1666-2011, 4.1).
 use Rattle.std.specs.Prelude.{ℕ, zero, suc, min, Bool, true, false, not, ◌&&◌, List, [], ◌∷◌, ◌++◌, map, filter_map, Option, Some, None, option_map, option_and_then, slice_get, unwrap_or, if◌then◌else◌}
 use Rattle.scc_base.specs.declared.refusal.Place.{Place}
 use Rattle.scc_base.specs.declared.refusal.Refusal.{Refusal}

@@ -1,5 +1,5 @@
 -- Objects: their members in declaration order, each with its initialisers, then what belongs to no member, then the constructor's body (ISO C++
--- [class.base.init]; IEEE 1666-2011, 4.1.1).
+-- [class.base.init]; IEEE 1666-2011, 4.1).
 use Rattle.std.specs.Prelude.{ℕ, zero, suc, ◌+◌, ◌-◌, min, Bool, true, false, nat_eq, List, [], ◌∷◌, ◌++◌, map, length, Option, Some, None, option_map, option_and_then, slice_get, unwrap_or, if◌then◌else◌}
 use Rattle.std.specs.List.{range_with_len}
 use Rattle.scc_base.specs.declared.refusal.Place.{Place}

@@ -1,4 +1,4 @@
--- A plain program with its design as a design that runs (IEEE 1666-2011, 4.2, 5.2; ISO C++ [expr.call], [dcl.ref]): its
+-- A plain program with its design as a design that runs (IEEE 1666-2011, 4.1, 4.2, 5.2; ISO C++ [expr.call], [dcl.ref]): its
 -- objects and locals as things at locations.
 use Rattle.std.specs.Prelude.{ℕ, Bool, true, false, not, ◌&&◌, List, [], map, filter_map, Option, Some, None, option_map, option_and_then, slice_get, unwrap_or, find, is_some, if◌then◌else◌}
 use Rattle.scc_meaning.specs.Location.{Location, Part, Element, Root, Top, Answer, same_path}

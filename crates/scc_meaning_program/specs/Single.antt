@@ -1,4 +1,4 @@
--- Statements of any function that hold no others (ISO C++ [stmt.dcl], [stmt.return]; IEEE 1666-2011, 5.2.17).
+-- Statements of any function that hold no others (ISO C++ [stmt.dcl], [stmt.return]; IEEE 1666-2011, 5.2.18).
 use Rattle.std.specs.Prelude.{ℕ, nat_eq, nat_lt, nat_le, Bool, true, false, not, ◌&&◌, List, ◌∷◌, Option, Some, None, if◌then◌else◌}
 use Rattle.scc_base.specs.declared.refusal.Place.{Place}
 use Rattle.scc_base.specs.declared.code.Code.TheVariants as reason

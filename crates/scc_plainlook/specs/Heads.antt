@@ -1,4 +1,4 @@
--- What the declarations of every plain program have: their kinds are kinds, their numbers name what is there, and sizes keep their limit.
+-- What the declarations of every plain program have: their kinds are kinds, their numbers name what is there, and sizes keep their limit. This project's own.
 use Rattle.std.specs.Prelude.{ℕ, Bool, true, ◌&&◌, nat_lt, nat_le, length, Option, Some, None}
 use Rattle.std.specs.List.{list_all}
 use Rattle.scc_kinds.specs.declared.kind.Kind.{Kind}

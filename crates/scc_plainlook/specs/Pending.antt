@@ -1,4 +1,4 @@
--- A stack of statements that are still to come, the next ones last.
+-- A stack of statements that are still to come, the next ones last. This project's own.
 use Rattle.std.specs.Prelude.{ℕ, List, [], ◌∷◌, Option, Some, option_and_then}
 use Rattle.scc_plaintree.specs.declared.stmt.PlainStmt.{PlainStmt}
 use Rattle.scc_plaintree.specs.declared.program.Plain.{Plain}

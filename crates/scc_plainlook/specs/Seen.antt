@@ -1,4 +1,4 @@
--- What is seen of expressions and locations: their numbers where they are constants, what stands there, and whether they are whole.
+-- What is seen of expressions and locations: their numbers where they are constants, what stands there, and whether they are whole. This project's own.
 use Rattle.std.specs.Prelude.{Bool, true, false, not, ◌&&◌, ◌||◌, nat_le, nat_lt, List, [], ◌∷◌, Option, Some, None, option_and_then, if◌then◌else◌}
 use Rattle.scc_kinds.specs.declared.kind.Kind.{Kind}
 use Rattle.scc_kinds.specs.declared.op.Op.{Op}

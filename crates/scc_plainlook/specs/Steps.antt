@@ -1,5 +1,5 @@
 -- Whether statements are whole. They are gone through in their order, with the functions that are called so far, and with the number of
--- blocks that stand round them.
+-- blocks that stand round them. This project's own.
 use Rattle.std.specs.Prelude.{ℕ, ◌+◌, Bool, true, false, ◌&&◌, nat_eq, nat_le, nat_lt, List, [], ◌∷◌, ◌++◌, length, Option, Some, None, option_and_then, slice_get, map}
 use Rattle.scc_plaintree.specs.declared.expr.PlainExpr.{PlainExpr}
 use Rattle.scc_plaintree.specs.declared.expr.PlainLeft.{PlainLeft}

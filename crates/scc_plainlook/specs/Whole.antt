@@ -1,4 +1,4 @@
--- What every plain program has, in its declarations and in the bodies of its functions.
+-- What every plain program has, in its declarations and in the bodies of its functions. This project's own.
 use Rattle.std.specs.Prelude.{Bool, ◌&&◌, nat_lt, [], length, is_some}
 use Rattle.std.specs.List.{list_all}
 use Rattle.scc_plaintree.specs.declared.program.PlainFunction.{PlainFunction}
