@@ -3,20 +3,22 @@ use Rattle.std.specs.Prelude.{◌≡◌, ℕ, Bool, true, false, ◌&&◌, ◌||
 use Rattle.scc_meaning.specs.Location.{Location}
 use Rattle.scc_meaning.specs.Design as thing
 use Rattle.scc_meaning.specs.Design.{Thing, Places}
-use Rattle.scc_meaning.specs.Value.{Names}
+use Rattle.scc_meaning.specs.Value.{Names, Scene}
 use Rattle.scc_running.specs.Body as machine
-use Rattle.scc_running.specs.Value.{Held}
+use Rattle.scc_running.specs.Value.{Held, value}
 use Rattle.scc_running.specs.Machine.{Go, Inner, Stop, Outcome, Ended, run}
+use Rattle.scc_meaning_core.specs.Resolved.{Made}
+use Rattle.scc_meaning_plain.specs.Term.{Term}
 use Rattle.scc_meaning_plain.specs.Program.{Function, Code, End, Declare, Assign, Point, Write, Call, If, Loop, Block, Exit, Return}
 use Rattle.scc_meaning_plain.specs.Program.{Wait, Make, Bind, Process, Sensitive, Quiet, Reset}
 use Rattle.scc_meaning_plain.specs.Types.{is_direct}
 use Rattle.scc_meaning_plain.specs.Design as design
 use Rattle.scc_meaning_plain.specs.Design.{Node}
 use Rattle.scc_meaning_plain.specs.Grown.{Grown, at_path, thing_at, pointer_at, node_of}
-use Rattle.scc_meaning_plain.specs.Worth.{Site, at_now, local_there, kind_there}
+use Rattle.scc_meaning_plain.specs.Worth.{Site, at_now, worth, local_there, kind_there}
 use Rattle.scc_meaning_plain.specs.Construct.{Making, Now, Fell, sizes_of, ran}
-use Rattle.scc_meaning_plain.specs.Typed.{IsTypedCode}
-use Rattle.scc_meaning_plain.specs.Spoken.{body_of}
+use Rattle.scc_meaning_plain.specs.Typed.{IsTyped, IsTypedCode}
+use Rattle.scc_meaning_plain.specs.Spoken.{body_of, expr_of}
 
 -- arrays have at most 65,536 elements
 abbrev pub is_small : List ℕ → Bool
@@ -74,6 +76,14 @@ held_in g = record { store = g.store; requests = [] }
 pub record IsRegular (s : Site) : Type 0 where
   pub words : (l : Location) → kind_there s l ≡ None → s.now.store.words l ≡ 0
   pub targets : (l : Location) → pointer_now s l ≡ false → s.now.store.targets l ≡ None
+
+-- what expressions meet in the machine; no constructor reads a signal
+abbrev pub scene_now : Site → Scene
+scene_now s = record { places = places_now s; signals = λ l. 0; names = names_of s; store = s.now.store }
+
+-- the word that an expression has in a constructor it has in the machine
+abbrev pub AgreesOnValues : Site → Type 0
+AgreesOnValues s = (e : Term) (x : ℕ) → IsTyped e → worth s e ≡ Made x → value (scene_now s) (expr_of s.plain s.function e) ≡ Some x
 
 -- how a constructor's statements run as a process's
 abbrev pub machine_run : Site → Code → ℕ → Grown → Outcome

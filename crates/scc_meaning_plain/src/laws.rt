@@ -22,7 +22,7 @@ ghost use Rattle.scc_meaning_plain.specs.Grown.{at_path};
 ghost use Rattle.scc_meaning_plain.specs.WorkedRun.{word_after};
 ghost use Rattle.scc_meaning_plain.specs.Design as design;
 ghost use Rattle.scc_meaning_plain.specs.Stages.{accepted, compiled};
-ghost use Rattle.scc_meaning_plain.specs.Common.{Agrees};
+ghost use Rattle.scc_meaning_plain.specs.Common.{IsRegular, AgreesOnValues, Agrees};
 ghost use Rattle.scc_meaning_plain.specs.Construct.{Making};
 ghost use Rattle.scc_meaning_plain.specs.Worth.{Site};
 ghost use Rattle.scc_meaning_plain.specs.Program.{End};
@@ -116,6 +116,11 @@ pub fn calls_are_accepted()
 pub fn the_stages_accept()
     ensures calls { and_made (inlined program made) accepted ≡ Made (copied_program program made) }
     ensures top { option_map (λ t. made_map (λ c. c.processes) t) (compiled false program) ≡ Some (Made []) }
+{}
+
+/// An expression has one word in a constructor and in the machine, where nothing is held where nothing stands.
+pub fn constructors_and_processes_have_the_same_values()
+    ensures { (s : Site) → IsRegular s → AgreesOnValues s }
 {}
 
 /// No statements make nothing of what is made, in a constructor and by the machine.
