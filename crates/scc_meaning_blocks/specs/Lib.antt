@@ -16,4 +16,5 @@ pub mod Worked
 pub mod WorkedPaths
 pub mod WorkedClocks
 pub mod WorkedList
+pub mod WorkedLowered
 pub mod WorkedSchedule

@@ -1,5 +1,5 @@
 -- Expressions and statements of a process as those of emitted text (IEEE 1800-2017, 11.6 and 12.4): what it means that they are the same.
-use Rattle.std.specs.Prelude.{◌≡◌, ℕ, ◌<◌, ◌^◌, false, List, flat_map, Option, Some, slice_get}
+use Rattle.std.specs.Prelude.{◌≡◌, ℕ, ◌<◌, ◌^◌, false, List, flat_map, Option, Some, None, slice_get}
 use Rattle.scc_kinds.specs.Kinds.{width_of}
 use Rattle.scc_svtree.specs.Term as emitted
 use Rattle.scc_svtree.specs.Code as emitted_code
@@ -7,10 +7,10 @@ use Rattle.scc_svtree.specs.Sizes.{Sized, sized}
 use Rattle.scc_svtree.specs.Running.{run}
 use Rattle.scc_meaning_core.specs.Term.{Term, kind_of}
 use Rattle.scc_meaning_core.specs.Code.{Code}
-use Rattle.scc_meaning_core.specs.Program.{Cell}
+use Rattle.scc_meaning_core.specs.Program.{Cell, is_root}
 use Rattle.scc_meaning_core.specs.Static.{Cells}
 use Rattle.scc_meaning_core.specs.Live.{live}
-use Rattle.scc_meaning_core.specs.Uses.{loads, acts}
+use Rattle.scc_meaning_core.specs.Uses.{loads, acts, has_sort}
 use Rattle.scc_meaning_blocks.specs.Acting.{Acting, word_in}
 use Rattle.scc_meaning_blocks.specs.Effect.{Fell, effect}
 use Rattle.scc_meaning_blocks.specs.Shown.{View, Shows, NoneAsked}
@@ -21,9 +21,10 @@ pub record Gives (e : Sized) (width : ℕ) (word : Option ℕ) : Type 0 where
   pub unsigned : e.signed ≡ false
   pub value : Some (e.word width false) ≡ word
 
--- each cell holds a word of its width
-abbrev pub Fits : Cells → Acting → Type 0
-Fits cs a = (c : ℕ) (x : Cell) → slice_get cs c ≡ Some x → a.now c < 2 ^ width_of x.kind
+-- Each cell holds a word of its width, and only signals, and ports of the top, are asked to take a word.
+pub record Fits (cs : Cells) (a : Acting) : Type 0 where
+  pub words : (c : ℕ) (x : Cell) → slice_get cs c ≡ Some x → a.now c < 2 ^ width_of x.kind
+  pub roots : (c : ℕ) → has_sort is_root cs c ≡ false → a.asked c ≡ None
 
 -- On each valuation that shows a store, the code in front leaves it shown, and then the expression has the word of the value, in the width of its kind.
 abbrev pub IsLoweredTerm : Cells → List View → (width : ℕ → ℕ) → Term → (front : emitted_code.Code) → emitted.Term → Type 0

@@ -19,6 +19,8 @@ ghost use Rattle.scc_meaning_blocks.specs.Acting.{Acting};
 ghost use Rattle.scc_meaning_blocks.specs.Effect.{Place, effect, Fell};
 ghost use Rattle.scc_meaning_blocks.specs.Shown.{View, Shows};
 ghost use Rattle.scc_meaning_blocks.specs.Lowered.{IsLoweredTerm, IsLoweredCode};
+ghost use Rattle.scc_meaning_blocks.specs.WorkedLowered.{one_variable, as_itself, eight, its_text, gives_three, three};
+ghost use Rattle.scc_meaning_core.specs.Worked.{load};
 ghost use Rattle.scc_meaning_blocks.specs.Turns.{Regs};
 ghost use Rattle.scc_meaning_blocks.specs.Places.{frames_at};
 ghost use Rattle.scc_meaning_blocks.specs.Tied.{Tied, Mirrors, Registers, own_names};
@@ -68,6 +70,12 @@ pub fn valuations_show_stores()
     ensures term { (cs : Cells) (views : List View) (width : ℕ → ℕ) (e : Term) (front : emitted_code.Code) (t : emitted.Term) → IsLoweredTerm cs views width e front t → IsLoweredTerm cs views width e front t }
     ensures code { (cs : Cells) (views : List View) (width : ℕ → ℕ) (c : Code) (code : emitted_code.Code) → IsLoweredCode cs views width c code → IsLoweredCode cs views width c code }
     ensures leaving { (cs : Cells) (views : List View) (a : Acting) (x : ℕ → ℕ) → Shows cs views a x → Shows cs views a x }
+{}
+
+/// A variable that is read and written as itself is lowered by the variable of its cell, and an assignment to it by one to that variable.
+pub fn a_variable_is_lowered_as_itself()
+    ensures term { IsLoweredTerm one_variable as_itself eight (load 0) emitted_code.End its_text }
+    ensures code { IsLoweredCode one_variable as_itself eight three gives_three }
 {}
 
 /// A pass keeps what its law says; the rules tell what paths do.
