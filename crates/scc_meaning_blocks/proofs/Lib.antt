@@ -1,3 +1,4 @@
 pub mod Telling
 pub mod Scheduling
 pub mod Lowering
+pub mod Edged

@@ -1,5 +1,5 @@
--- What the module of a core is made of: its blocks in order with the processes to which they belong, what each mentions, its registers, and how many statements
--- it has. This project's own.
+-- What the module of a core is made of: its blocks in order with the processes to which they belong, the clocks and resets of those at edges, what each mentions,
+-- its registers, and how many statements it has. This project's own.
 use Rattle.std.specs.Prelude.{◌≡◌, ◌⊎◌, ◌<◌, ◌≤◌, ◌^◌, ◌*◌, ◌+◌, ◌-◌, ℕ, max, Bool, true, false, not, ◌&&◌, List, [], ◌∷◌, ◌++◌, map, filter, flat_map, length, sum, Some, slice_get, codes, decimal, is_some}
 use Rattle.std.specs.List.{range_with_len}
 use Rattle.scc_svtree.specs.declared.module.SvModule.{SvModule}
@@ -8,7 +8,7 @@ use Rattle.scc_svtree.specs.declared.module.SvBlock.{SvBlock}
 use Rattle.scc_svtree.specs.Code as emitted
 use Rattle.scc_svtree.specs.Sound.{block_names}
 use Rattle.scc_meaning_text.specs.Renamed.{BlockCode, Comb, Edge, block_code}
-use Rattle.scc_meaning_text.specs.Matches.{registers, name_at, width_of_var, is_port}
+use Rattle.scc_meaning_text.specs.Matches.{block_view, registers, name_at, width_of_var, is_port}
 use Rattle.scc_meaning_core.specs.Program.{Program, Process, Cell, is_output}
 use Rattle.scc_meaning_core.specs.Static.{Cells}
 use Rattle.scc_meaning_core.specs.Uses.{among, has_sort, width_at}
@@ -18,6 +18,7 @@ use Rattle.scc_meaning_core.specs.Feeding.{IsOrder, of_process}
 use Rattle.scc_meaning_core.specs.Rules.{reset_cells}
 use Rattle.scc_meaning_core.specs.Segments.{counts}
 use Rattle.scc_meaning_core.specs.Sizes.{live_body, states, measure}
+use Rattle.scc_meaning_blocks.specs.Edged.{own_view}
 use Rattle.scc_meaning_blocks.specs.Names.{is_register, state_name, counter_name, has_state, has_counter}
 
 -- what a block stands for: the outputs that are constant, a process, or the edge of a clocked one
@@ -89,12 +90,14 @@ MayStand text p x Constants = IsNameOf text p.cells (constant_outputs p) x.name
 MayStand text p x (Acts i) = (is_port x.dir ≡ true) ⊎ ((q : Process) × (slice_get p.processes i ≡ Some q) × MayMention text p.cells q x.name)
 MayStand text p x (AtEdge i) = (is_port x.dir ≡ true) ⊎ ((q : Process) × (slice_get p.processes i ≡ Some q) × MayMention text p.cells q x.name)
 
--- The blocks stand in that order, and each mentions no more than that.
+-- The blocks stand in that order, a block at an edge has its own process's clock, edge and asynchronous reset, and each mentions no more than that.
 pub record InOrder (text : ℕ → List ℕ) (p : Program) (m : SvModule) : Type 0 where
   pub order : List ℕ
   pub ordered : IsOrder p order
   pub as_many : length m.blocks ≡ length (owners p order)
   pub belong : (k : ℕ) (o : Owner) (b : SvBlock) → slice_get (owners p order) k ≡ Some o → slice_get m.blocks k ≡ Some b → Belongs o (block_code b)
+  pub edges : (k i : ℕ) (q : Process) (b : SvBlock) → slice_get (owners p order) k ≡ Some (AtEdge i) → slice_get p.processes i ≡ Some q → slice_get m.blocks k ≡ Some b
+      → block_view m b ≡ own_view text p.cells q
   pub mention : (k v : ℕ) (o : Owner) (b : SvBlock) (x : SvVar) → slice_get (owners p order) k ≡ Some o → slice_get m.blocks k ≡ Some b
       → slice_get m.vars v ≡ Some x → block_names b v ≡ true → MayStand text p x o
 

@@ -10,6 +10,7 @@ pub mod Passed
 pub mod Rounds
 pub mod Names
 pub mod Listed
+pub mod Edged
 pub mod Built
 pub mod Traced
 pub mod Worked
@@ -17,4 +18,5 @@ pub mod WorkedPaths
 pub mod WorkedClocks
 pub mod WorkedList
 pub mod WorkedLowered
+pub mod WorkedEdged
 pub mod WorkedSchedule

@@ -1,5 +1,5 @@
 //! Laws that cite the definitions.
-ghost use Rattle.std.specs.Prelude.{◌≡◌, ℕ, List, [], ◌∷◌, ◌++◌, codes, decimal, Option, Some, None, true, false, map, slice_get};
+ghost use Rattle.std.specs.Prelude.{◌≡◌, ℕ, List, [], ◌∷◌, ◌++◌, codes, decimal, Option, Some, None, true, false, map, flat_map, slice_get};
 ghost use Rattle.scc_meaning.specs.Location.{Location};
 ghost use Rattle.scc_running.specs.Process.{State};
 ghost use Rattle.scc_running.specs.Design.{Design};
@@ -21,6 +21,9 @@ ghost use Rattle.scc_meaning_blocks.specs.Shown.{View, Shows};
 ghost use Rattle.scc_meaning_blocks.specs.Lowered.{IsLoweredTerm, IsLoweredCode};
 ghost use Rattle.scc_meaning_blocks.specs.WorkedLowered.{one_variable, as_itself, eight, its_text, gives_three, three};
 ghost use Rattle.scc_meaning_core.specs.Worked.{load};
+ghost use Rattle.scc_meaning_blocks.specs.Edged.{own_view};
+ghost use Rattle.scc_meaning_blocks.specs.WorkedEdged.{by_number, clocked_by};
+ghost use Rattle.scc_meaning_blocks.specs.WorkedClocks.{asynchronous, two_clocks};
 ghost use Rattle.scc_meaning_blocks.specs.Turns.{Regs};
 ghost use Rattle.scc_meaning_blocks.specs.Places.{frames_at};
 ghost use Rattle.scc_meaning_blocks.specs.Tied.{Tied, Mirrors, Registers, own_names};
@@ -94,6 +97,15 @@ pub fn modules_are_built_of_processes()
     ensures mentions { (text : ℕ → List ℕ) (p : Program) (m : SvModule) → InOrder text p m → (order : List ℕ) × IsOrder p order }
     ensures state { (text : ℕ → List ℕ) (p : Program) (m : SvModule) → HasRegisters text p m → HasRegisters text p m }
     ensures bounded { (p : Program) (m : SvModule) → IsBounded p m → IsBounded p m }
+{}
+
+/// A block at an edge has the clock and the edge of its own process, and its asynchronous reset: the counting thread's stands at no other clock.
+pub fn an_edge_is_that_of_its_process()
+    ensures alone { own_view by_number count_cells counting_process ≡ record { clock = 0 ∷ []; rising = true; reset = None } ∷ [] }
+    ensures reset { own_view by_number count_cells asynchronous ≡ record { clock = 0 ∷ []; rising = true; reset = Some (1 ∷ [], true) } ∷ [] }
+    ensures clocks { flat_map (own_view by_number two_clocks.cells) two_clocks.processes ≡ record { clock = 0 ∷ []; rising = true; reset = None } ∷ record { clock = 1 ∷ []; rising = true; reset = None } ∷ [] }
+    ensures own { InOrder by_number counting (clocked_by 0) }
+    ensures other { InOrder by_number counting (clocked_by 1) → ⊥ }
 {}
 
 /// The writer of a signal comes first.
