@@ -4,8 +4,11 @@ pub mod Taken
 pub mod Memory
 pub mod Edges
 pub mod Steps
+pub mod Likened
+pub mod Sound
 pub mod HasMemories
 pub mod Matches
 pub mod Text
 pub mod Worked
 pub mod WorkedTaken
+pub mod WorkedSound

@@ -32,7 +32,7 @@ mutual
 
   pub data MemArms : Type 0 where
     None_left : MemArms
-    Arm : (label : ℕ) (body : MemCode) (more : MemArms) → MemArms
+    Arm : (width label : ℕ) (body : MemCode) (more : MemArms) → MemArms
 
 pub record MemSet : Type 0 where
   pub target : ℕ
@@ -92,7 +92,7 @@ module _ (m : MemModule) (elements : ℕ → ℕ → ℕ) where
 
     pub run_arms : ℕ → MemArms → (ℕ → ℕ) → ℕ → ℕ
     run_arms word None_left x = x
-    run_arms word (Arm label body more) x = cond (nat_eq word label) (run body x) (run_arms word more x)
+    run_arms word (Arm w label body more) x = cond (nat_eq word label) (run body x) (run_arms word more x)
 
   abbrev pub set_word : List MemSet → (ℕ → ℕ) → ℕ → Option ℕ
   set_word [] x v = None
@@ -107,7 +107,7 @@ abbrev mutual
 
   pub arms_assign : MemArms → ℕ → Bool
   arms_assign None_left v = false
-  arms_assign (Arm label body more) v = assigns body v || arms_assign more v
+  arms_assign (Arm w label body more) v = assigns body v || arms_assign more v
 
 abbrev pub combs_of : List MemBlock → List MemCode
 combs_of [] = []

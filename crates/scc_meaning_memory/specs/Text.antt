@@ -1,7 +1,7 @@
 -- The text of a module with memories (IEEE 1800-2017, 7.4.2, 11.5.2): that of any module, with three more forms: a memory is declared before the variable that tells
--- whether it is written, an element stands behind the memory's name in brackets, and an edge writes a memory in three lines. A relation, since `{a, b, c}` and
--- `{a, {b, c}}` are one expression.
-use Rattle.std.specs.Prelude.{◌≡◌, ◌<◌, ◌^◌, ◌-◌, ◌+◌, ℕ, nat_eq, Bool, true, false, List, [], ◌∷◌, ◌++◌, map, flat_map, codes, decimal, Option, Some, None, slice_get, if◌then◌else◌}
+-- whether it is written, an element stands behind the memory's name in brackets, and an edge writes a memory in three lines. A relation, since an expression
+-- joins two at a time what the text has as the parts of one concatenation.
+use Rattle.std.specs.Prelude.{◌≡◌, ◌-◌, ◌+◌, ℕ, nat_eq, Bool, true, false, List, [], ◌∷◌, ◌++◌, map, flat_map, codes, decimal, Option, Some, None, slice_get, if◌then◌else◌}
 use Rattle.scc_svtree.specs.declared.expr.SvLeft.{SvLeft}
 use Rattle.scc_svtree.specs.declared.expr.SvUnary.{SvUnary}
 use Rattle.scc_svtree.specs.declared.expr.SvBinary.{SvBinary}
@@ -14,6 +14,7 @@ use Rattle.scc_svtext.specs.ModuleText.{names_of, ports_text, decl_text, edge_te
 use Rattle.scc_meaning_text.specs.Renamed.{Loaded, ResetCode}
 use Rattle.scc_meaning_memory.specs.Array.{width_of}
 use Rattle.scc_meaning_memory.specs.Memory.{MemTerm, Literal, Part, Unary, Binary, Cond, Join, Cast, Sign, Element, MemCode, End, Assign, If, Case, MemArms, None_left, Arm, MemSet, MemBlock, Comb, Edge, Memory, MemModule}
+use Rattle.scc_meaning_memory.specs.Sound.{IsSoundMemory}
 
 -- the names of variables and of memories as they are written
 pub record Spelled : Type 0 where
@@ -23,7 +24,7 @@ pub record Spelled : Type 0 where
 abbrev pub spelled_in : MemModule → Spelled
 spelled_in m = record { vars = names_of m.vars; memories = map (λ b. spelled b.name) m.memories }
 
--- what the parts of a concatenation are together
+-- what the parts of a concatenation are together; a concatenation has two parts or more
 abbrev pub joined_terms : List MemTerm → MemTerm
 joined_terms [] = Literal 0 0
 joined_terms (e ∷ []) = Sign false e
@@ -38,7 +39,8 @@ mutual
         → IsTermText n (Binary o e f) (fixed_text piece.Open ++ (t ++ (fixed_text piece.Space ++ (binary_text o ++ (fixed_text piece.Space ++ (u ++ fixed_text piece.Close))))))
     choice : {c e f : MemTerm} {s t u : List ℕ} → IsTermText n c s → IsTermText n e t → IsTermText n f u
         → IsTermText n (Cond c e f) (fixed_text piece.Open ++ (s ++ (fixed_text piece.Question ++ (t ++ (fixed_text piece.Colon ++ (u ++ fixed_text piece.Close))))))
-    concat : {es : List MemTerm} {ts : List (List ℕ)} → AreTermTexts n es ts → IsTermText n (joined_terms es) (fixed_text piece.BraceOpen ++ (joined true ts ++ fixed_text piece.BraceClose))
+    concat : {e f : MemTerm} {es : List MemTerm} {ts : List (List ℕ)} → AreTermTexts n (e ∷ f ∷ es) ts
+        → IsTermText n (joined_terms (e ∷ f ∷ es)) (fixed_text piece.BraceOpen ++ (joined true ts ++ fixed_text piece.BraceClose))
     cast : {e : MemTerm} {t : List ℕ} → (w : ℕ) → IsTermText n e t → IsTermText n (Cast w e) (decimal w ++ (fixed_text piece.CastOpen ++ (t ++ fixed_text piece.Close)))
     sign : {e : MemTerm} {t : List ℕ} → (s : Bool) → IsTermText n e t → IsTermText n (Sign s e) (sign_text s ++ (t ++ fixed_text piece.Close))
     element : {e : MemTerm} {t : List ℕ} → (k : ℕ) → IsTermText n e t
@@ -61,14 +63,13 @@ mutual
         → IsCodeText n k (Assign l e c) (blanks k ++ (left_text n.vars l ++ (fixed_text piece.Assign ++ (t ++ (fixed_text piece.LineEnd ++ u)))))
     tests : {k : ℕ} {e : MemTerm} {a b c : MemCode} {t u v w : List ℕ} → IsTermText n e t → IsCodeText n (k + 2) a u → IsCodeText n (k + 2) b v → IsCodeText n k c w
         → IsCodeText n k (If e a b c) (blanks k ++ (fixed_text piece.If ++ (t ++ (fixed_text piece.Then ++ (u ++ (else_text k b v ++ (blanks k ++ (fixed_text piece.End ++ w))))))))
-    cases : {k : ℕ} {e : MemTerm} {ms : MemArms} {c : MemCode} {t u v : List ℕ} → (width : ℕ) → IsTermText n e t → AreArmTexts n width (k + 2) ms u → IsCodeText n k c v
+    cases : {k : ℕ} {e : MemTerm} {ms : MemArms} {c : MemCode} {t u v : List ℕ} → IsTermText n e t → AreArmTexts n (k + 2) ms u → IsCodeText n k c v
         → IsCodeText n k (Case e ms c) (blanks k ++ (fixed_text piece.Case ++ (t ++ (fixed_text piece.CaseOpen ++ (u ++ (blanks k ++ (fixed_text piece.CaseEnd ++ v)))))))
 
-  -- arms whose labels have one width
-  pub data AreArmTexts (n : Spelled) : (width : ℕ) → ℕ → MemArms → List ℕ → Type 0 where
-    no_arms : (width k : ℕ) → AreArmTexts n width k None_left []
-    arm : {width k : ℕ} {c : MemCode} {ms : MemArms} {t u : List ℕ} → (label : ℕ) → label < 2 ^ width → IsCodeText n (k + 2) c t → AreArmTexts n width k ms u
-        → AreArmTexts n width k (Arm label c ms) (blanks k ++ (literal_text width label ++ (fixed_text piece.ArmOpen ++ (t ++ (blanks k ++ (fixed_text piece.End ++ u))))))
+  pub data AreArmTexts (n : Spelled) : ℕ → MemArms → List ℕ → Type 0 where
+    no_arms : (k : ℕ) → AreArmTexts n k None_left []
+    arm : {k : ℕ} {c : MemCode} {ms : MemArms} {t u : List ℕ} → (width label : ℕ) → IsCodeText n (k + 2) c t → AreArmTexts n k ms u
+        → AreArmTexts n k (Arm width label c ms) (blanks k ++ (literal_text width label ++ (fixed_text piece.ArmOpen ++ (t ++ (blanks k ++ (fixed_text piece.End ++ u))))))
 
 -- the lines that write a memory
 abbrev pub write_text : Spelled → ℕ → ℕ → Memory → List ℕ
@@ -119,8 +120,9 @@ abbrev pub decls_text : List Memory → ℕ → List SvVar → List ℕ
 decls_text bs v [] = []
 decls_text bs v (x ∷ xs) = flat_map (λ b. if nat_eq b.write v then memory_text b else []) bs ++ (decl_text x ++ decls_text bs (v + 1) xs)
 
--- The bytes are the text of the module.
+-- The bytes are the text of the module, which is without faults.
 pub record MemReads (bytes : List ℕ) (m : MemModule) : Type 0 where
+  pub sound : IsSoundMemory m
   pub blocks : List ℕ
   pub are_blocks : AreBlockTexts m m.blocks blocks
   pub whole : bytes ≡ fixed_text piece.Module ++ (spelled m.name ++ (fixed_text piece.PortsOpen ++ (ports_text false m.vars ++ (fixed_text piece.PortsClose

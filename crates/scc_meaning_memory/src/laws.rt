@@ -7,10 +7,13 @@ ghost use Rattle.scc_svtree.specs.declared.expr.SvBinary.TheVariants.{Lt};
 ghost use Rattle.scc_svtree.specs.Term.{Cond, Binary, Literal};
 ghost use Rattle.scc_meaning_memory.specs.Array.{Array, IsNamed, element_name, with_part, width_of, tree, whole};
 ghost use Rattle.scc_meaning_memory.specs.Taken.{IsTaken, Uses};
-ghost use Rattle.scc_meaning_memory.specs.Memory.{Edge, Element, End, MemModule, Memory, Part, run};
+ghost use Rattle.scc_meaning_memory.specs.Memory.{Edge, Element, End, Join, MemModule, Memory, Part, Sign, run};
 ghost use Rattle.scc_meaning_memory.specs.Edges.{after_edges};
 ghost use Rattle.scc_meaning_memory.specs.HasMemories.{HasMemories, HasParts, IsGone, StandsFor};
 ghost use Rattle.scc_meaning_memory.specs.Matches.{MemoryShows};
+ghost use Rattle.scc_meaning_memory.specs.Sound.{IsSoundMemory};
+ghost use Rattle.scc_meaning_memory.specs.Likened.{term_like};
+ghost use Rattle.scc_meaning_memory.specs.WorkedSound.{kept, twice};
 ghost use Rattle.scc_meaning_memory.specs.Text.{IsBlockText, IsCodeText, IsTermText, MemReads, Spelled, memory_text, spelled_in};
 ghost use Rattle.scc_svtree.specs.declared.expr.SvLeft.TheVariants.{Whole};
 ghost use Rattle.scc_meaning_memory.specs.WorkedTaken.{buffer, buffer_vars, buffer_blocks, choosing_edge, clearing};
@@ -62,7 +65,15 @@ pub fn arrays_that_a_reset_clears_are_not_taken()
 pub fn memories_are_written_as_text()
     ensures declared { memory_text memory ≡ codes "  logic [" ++ (decimal 3 ++ (codes ":0] m [0:" ++ (decimal 2 ++ codes "];\n"))) }
     ensures element { IsTermText (spelled_in with_memory) (Element 0 (Part (Whole (record { 0 = 4 })))) (codes "m[i]") }
+    ensures parts { IsTermText (spelled_in with_memory) (Join (Part (Whole (record { 0 = 4 }))) (Sign false (Part (Whole (record { 0 = 5 }))))) (codes "{i, x}") }
     ensures edge { IsBlockText with_memory (Edge true 0 None [] (0 ∷ [])) (codes "  always_ff @(posedge c) begin\n    if (m$$w) begin\n      m[m$$a] <= m$$d;\n    end\n  end\n") }
     ensures statements { (n : Spelled) → IsCodeText n 4 End [] }
-    ensures whole { (bytes : List ℕ) (m : MemModule) → MemReads bytes m → MemReads bytes m }
+    ensures whole { (bytes : List ℕ) (m : MemModule) → MemReads bytes m → IsSoundMemory m }
+{}
+
+/// A module whose ports write a memory is right; one in which a memory has a variable's name isn't. An element counts as a choice by its index.
+pub fn modules_with_memories_are_right()
+    ensures right { IsSoundMemory kept }
+    ensures twice { IsSoundMemory twice → ⊥ }
+    ensures element { term_like kept.memories (Element 0 (Part (Whole (record { 0 = 4 })))) ≡ Cond (whole 4) (Literal 4 0) (Literal 4 0) }
 {}
