@@ -13,10 +13,12 @@ pub mod Listed
 pub mod Edged
 pub mod Built
 pub mod Traced
+pub mod Generated
 pub mod Worked
 pub mod WorkedPaths
 pub mod WorkedClocks
 pub mod WorkedList
 pub mod WorkedLowered
 pub mod WorkedEdged
+pub mod WorkedGenerated
 pub mod WorkedSchedule

@@ -1,15 +1,12 @@
--- The trace of a design on a stimulus: what its steps show from storage 0, line by line; and the line of a generated design. This project's own.
-use Rattle.std.specs.Prelude.{◌≡◌, ℕ, ◌+◌, Bool, true, false, nat_eq, List, [], ◌∷◌, ◌++◌, map, length, sum, filter, Option, Some, None, unwrap_or, option_map, codes, decimal, Ok, if◌then◌else◌}
+-- The trace of a design on a stimulus: what its steps show from storage 0, line by line. This project's own.
+use Rattle.std.specs.Prelude.{◌≡◌, ℕ, ◌+◌, Bool, true, false, nat_eq, List, [], ◌∷◌, ◌++◌, map, Option, Some, None, unwrap_or, option_map, codes, Ok, if◌then◌else◌}
 use Rattle.scc_kinds.specs.declared.kind.Word.{Word}
 use Rattle.scc_meaning.specs.Location.{Location}
 use Rattle.scc_running.specs.Design.{Design, inputs, outputs, clocks}
 use Rattle.scc_running.specs.Process.{State}
 use Rattle.scc_running.specs.Run.{Step, Observation, Shown, Shows}
 use Rattle.scc_running.specs.Start.{IsStart}
-use Rattle.scc_svtree.specs.declared.module.SvModule.{SvModule}
-use Rattle.scc_meaning_text.specs.Matches.{thing_width, registers}
-use Rattle.scc_meaning_core.specs.Program.{Program}
-use Rattle.scc_meaning_core.specs.Sizes.{states}
+use Rattle.scc_meaning_text.specs.Matches.{thing_width}
 use Rattle.scc_trace.specs.declared.stim.StimPort.{StimPort}
 use Rattle.scc_trace.specs.declared.stim.StimStep.{StimStep}
 use Rattle.scc_trace.specs.declared.stim.ClockStep.{ClockStep}
@@ -18,7 +15,7 @@ use Rattle.scc_trace.specs.declared.stim.Version.TheVariants as version
 use Rattle.scc_trace.specs.Cut.{Bytes, first}
 use Rattle.scc_trace.specs.Stimulus.{stim_of, version_of}
 use Rattle.scc_trace.specs.Clocks.{clock_stim_of}
-use Rattle.scc_trace.specs.Text.{trace_text, hex_text}
+use Rattle.scc_trace.specs.Text.{trace_text}
 use Rattle.scc_kinds.specs.Bits.{part}
 
 -- from a start whose storage is 0, but for what holds a constant
@@ -97,8 +94,3 @@ module _ (text : Location → Bytes) (d : Design) where
     pub lines : Bytes
     pub shown : IsShown (map clock_step steps) lines
     pub whole : trace ≡ header version.Two ++ lines
-
--- the line of a generated design of so many stages, by its core and module, and what its output holds behind the last edge
-abbrev pub generated_line : (stages : ℕ) → Program → SvModule → (q : ℕ) → Bytes
-generated_line n p m q = codes "stages " ++ (decimal n ++ (codes " processes " ++ (decimal (length p.processes) ++ (codes " registers " ++ (decimal (length (registers m))
-    ++ (codes " states " ++ (decimal (sum (map (λ r. states p.cells r.body) (filter (λ r. r.is_thread) p.processes))) ++ (codes " q " ++ (hex_text 4 q ++ codes "\n")))))))))

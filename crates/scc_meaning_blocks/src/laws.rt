@@ -1,5 +1,5 @@
 //! Laws that cite the definitions.
-ghost use Rattle.std.specs.Prelude.{◌≡◌, ℕ, List, [], ◌∷◌, ◌++◌, codes, decimal, Option, Some, None, true, false, map, flat_map, slice_get};
+ghost use Rattle.std.specs.Prelude.{◌≡◌, ℕ, List, [], ◌∷◌, ◌++◌, codes, decimal, Option, Some, None, true, false, map, flat_map, length, slice_get};
 ghost use Rattle.scc_meaning.specs.Location.{Location};
 ghost use Rattle.scc_running.specs.Process.{State};
 ghost use Rattle.scc_running.specs.Design.{Design};
@@ -31,7 +31,10 @@ ghost use Rattle.scc_meaning_blocks.specs.Passed.{Law, SameShape, TellsAccepted,
 ghost use Rattle.scc_meaning_blocks.specs.Names.{registers, is_own, location_text, is_kept_at};
 ghost use Rattle.scc_meaning_blocks.specs.Listed.{process_line};
 ghost use Rattle.scc_trace.specs.Text.{hex_text};
-ghost use Rattle.scc_meaning_blocks.specs.Traced.{trace_from, IsTrace, IsClockedTrace, generated_line};
+ghost use Rattle.scc_meaning_blocks.specs.Traced.{trace_from, IsTrace, IsClockedTrace};
+ghost use Rattle.scc_meaning_blocks.specs.Generated.{IsGenerated, generated_line, steps_of};
+ghost use Rattle.scc_meaning_blocks.specs.WorkedGenerated.{passing};
+ghost use Rattle.scc_svtree.specs.Steps.{Steps};
 ghost use Rattle.scc_meaning_blocks.specs.Built.{Acts, AtEdge, owners, constant_outputs, InOrder, HasRegisters, IsBounded};
 ghost use Rattle.scc_svtree.specs.declared.module.SvModule.{SvModule};
 ghost use Rattle.scc_meaning_blocks.specs.Worked.{anything, first_edge, second_edge, first_frames_in, registers_after, words_after, waiting_thread, waiting_body, count_first, two_outputs, unwritten_local, unwritten_member, reader_first, some_cells, early_code};
@@ -118,13 +121,20 @@ pub fn an_element_is_read_early()
     ensures { map (λ e. e.1) (flow some_cells early_code (λ x. true)).early ≡ (0 ∷ []) ∷ (0 ∷ []) ∷ (2 ∷ []) ∷ [] }
 {}
 
-/// The trace of a design, with one clock and with several, and the line of a generated design.
+/// The trace of a design, with one clock and with several.
 pub fn the_trace_of_a_design()
     ensures none { (text : Location → List ℕ) (d : Design) → trace_from text d 0 [] ≡ [] }
     ensures trace { (text : Location → List ℕ) (d : Design) (file : ℕ) (stimulus trace : List ℕ) → IsTrace text d file stimulus trace → IsTrace text d file stimulus trace }
     ensures clocked { (text : Location → List ℕ) (d : Design) (file : ℕ) (stimulus trace : List ℕ) → IsClockedTrace text d file stimulus trace → IsClockedTrace text d file stimulus trace }
+{}
+
+/// The line of a generated design. A module that hands on what stands at d shows 1 behind the edges of two steps.
+pub fn the_line_of_a_generated_design()
     ensures line { generated_line 1 counting (record { name = []; vars = []; blocks = [] }) 7 ≡ codes "stages " ++ (decimal 1 ++ (codes " processes " ++ (decimal 1 ++ (codes " registers " ++ (decimal 0
         ++ (codes " states " ++ (decimal 2 ++ (codes " q " ++ (hex_text 4 7 ++ codes "\n"))))))))) }
+    ensures steps { (m : SvModule) → length (steps_of m 2) ≡ 3 }
+    ensures ran { (n : ℕ) (p : Program) (m : SvModule) (line : List ℕ) → IsGenerated n p m line → (observed : List (List (ℕ → ℕ))) × Steps m (λ v. 0) (steps_of m n) observed }
+    ensures passes { IsGenerated 1 counting passing (generated_line 1 counting passing 1) }
 {}
 
 /// The line of the counting thread, and which names are a thread's own.

@@ -9,8 +9,8 @@ pub use laws::{
     a_reader_stands_behind_its_writer, a_variable_is_lowered_as_itself,
     an_edge_is_that_of_its_process, an_element_is_read_early, modules_are_built_of_processes,
     passes_keep_shapes, registers_count, registers_wait_and_are_reset,
-    the_list_of_the_counting_thread, the_trace_of_a_design, valuations_show_stores,
-    waits_have_frames,
+    the_line_of_a_generated_design, the_list_of_the_counting_thread, the_trace_of_a_design,
+    valuations_show_stores, waits_have_frames,
 };
 pub use told::{
     a_list_is_whole, a_reset_that_reads_is_refused, a_schedule_runs, clocks_and_resets_act,
