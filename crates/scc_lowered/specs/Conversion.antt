@@ -1,4 +1,4 @@
--- The text that converts a lowered operand from one kind to another.
+-- The text that converts a lowered operand from one kind to another. This project's own.
 use Rattle.std.specs.Prelude.{ℕ, Bool, true, false, not, ◌&&◌, nat_eq, nat_lt, if◌then◌else◌}
 use Rattle.scc_kinds.specs.declared.kind.Kind.{Kind}
 use Rattle.scc_kinds.specs.Kinds.{width_of, is_signed, is_bool}

@@ -1,4 +1,4 @@
--- What an emitted expression gives.
+-- What an emitted expression gives (IEEE 1800-2017, 11.6 and 11.8).
 use Rattle.std.specs.Prelude.{◌≡◌, ℕ, Bool}
 use Rattle.scc_svtree.specs.Sizes.{Sized}
 

@@ -1,4 +1,4 @@
--- The text of an operator on operands that are converted to the kinds in which it is computed.
+-- The text of an operator on operands that are converted to the kinds in which it is computed (IEEE 1800-2017, 11.4; the choice of text is this project's own).
 use Rattle.std.specs.Prelude.{Bool, true, false, Option, Some, None, if◌then◌else◌}
 use Rattle.scc_kinds.specs.declared.op.Op.{Op}
 use Rattle.scc_kinds.specs.declared.op.Op.TheVariants as op

@@ -1,4 +1,4 @@
--- Texts of identifiers and numbers, joined by `$`.
+-- Texts of identifiers and numbers, joined by `$`. This project's own.
 use Rattle.std.specs.Prelude.{◌≡◌, ℕ, ◌^◌, ◌<◌, nat_eq, nat_le, Bool, true, false, ◌&&◌, ◌||◌, List, [], ◌∷◌, ◌++◌, slice_get, Some, unwrap_or, decimal}
 use Rattle.std.specs.List.{flat_map, list_all}
 use Rattle.scc_base.specs.declared.path.PathPart.{PathPart}

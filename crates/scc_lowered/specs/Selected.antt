@@ -1,4 +1,4 @@
--- Bits of variables and values, and concatenations.
+-- Bits of variables and values, and concatenations (IEEE 1800-2017, 11.4.12 and 11.5.1).
 use Rattle.std.specs.Prelude.{ℕ, ◌+◌, ◌-◌, ◌*◌, ◌^◌, ◌<◌, Bool, false, ◌&&◌, nat_eq, if◌then◌else◌, List, [], ◌∷◌}
 use Rattle.scc_svtree.specs.declared.expr.VarId.{VarId}
 use Rattle.scc_svtree.specs.declared.expr.SvLeft.{SvLeft}

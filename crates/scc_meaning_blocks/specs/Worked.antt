@@ -1,5 +1,6 @@
--- Values worked by hand: threads on registers, of which one waits for several edges and one writes two outputs; a local that nothing writes; a reader before its
--- writer; an array of which one element is read too early.
+-- Values worked by hand. This project's own.
+-- Threads on registers, of which one waits for several edges and one writes two outputs; a local that nothing writes; a reader before its writer; an array of which
+-- one element is read too early.
 use Rattle.std.specs.Prelude.{ℕ, nat_eq, true, false, List, [], ◌∷◌, map, Option, Some, None, if◌then◌else◌}
 use Rattle.scc_kinds.specs.declared.kind.Kind.TheVariants as kind
 use Rattle.scc_meaning.specs.Location as location

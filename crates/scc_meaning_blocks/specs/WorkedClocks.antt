@@ -1,4 +1,4 @@
--- Two methods, each at a clock of its own; and the counting thread under an asynchronous reset, which acts without an edge.
+-- Two methods, each at a clock of its own; and the counting thread under an asynchronous reset, which acts without an edge. This project's own.
 use Rattle.std.specs.Prelude.{ℕ, true, false, List, [], ◌∷◌, map, Option, Some, None}
 use Rattle.scc_kinds.specs.declared.kind.Kind.TheVariants as kind
 use Rattle.scc_kinds.specs.declared.op.Op.TheVariants as op

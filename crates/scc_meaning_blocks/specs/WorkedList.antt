@@ -1,4 +1,4 @@
--- A module of the counting thread: its registers are the output q and the variable n.
+-- A module of the counting thread: its registers are the output q and the variable n. This project's own.
 use Rattle.std.specs.Prelude.{ℕ, true, List, [], ◌∷◌, None, codes}
 use Rattle.scc_svtree.specs.declared.expr.SvExpr.{SvExpr}
 use Rattle.scc_svtree.specs.declared.module.SvModule.{SvModule}

@@ -1,4 +1,4 @@
--- What walks tell, worked by hand: the first answer of a walk, two methods in a cycle, and bodies whose paths are known.
+-- What walks tell, worked by hand: the first answer of a walk, two methods in a cycle, and bodies whose paths are known. This project's own.
 use Rattle.std.specs.Prelude.{ℕ, nat_lt, true, false, List, [], ◌∷◌, Option, Some, None}
 use Rattle.scc_kinds.specs.declared.kind.Kind.TheVariants as kind
 use Rattle.scc_meaning_core.specs.Code.{Code, End, If, Block, Loop, Exit, Wait}

@@ -1,4 +1,4 @@
--- A schedule of one step without an edge: of two methods, the reader and the writer of a signal, both run, then the reader again, then none.
+-- A schedule of one step without an edge: of two methods, the reader and the writer of a signal, both run, then the reader again, then none. This project's own.
 use Rattle.std.specs.Prelude.{ℕ, List, [], ◌∷◌, map, None}
 use Rattle.scc_running.specs.Design.{Design}
 use Rattle.scc_running.specs.Machine.{Stop}

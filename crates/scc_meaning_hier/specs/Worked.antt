@@ -1,5 +1,5 @@
--- Two inverters in a row: `Inv` with an input x and an output y that is its complement, and a top `Two` with an input a, an output b, a signal m and
--- instances p and q.
+-- A worked value: two inverters in a row. This project's own.
+-- `Inv` has an input x and an output y that is its complement, the top `Two` an input a, an output b, a signal m and instances p and q.
 use Rattle.std.specs.Prelude.{ℕ, List, [], ◌∷◌, ◌++◌, codes}
 use Rattle.scc_svtree.specs.declared.expr.SvExpr.{SvExpr}
 use Rattle.scc_svtree.specs.declared.expr.SvExprNode.{SvExprNode, roll-SvExprNode}

@@ -1,5 +1,5 @@
--- A top with two module objects, of which each has a method, and objects of another class that have one each: `SC_MODULE(M) { C part; .. }`, `struct C { .. }`,
--- and a top `M a; C c; M b;`.
+-- A worked value: a top with two module objects, of which each has a method, and objects of another class that have one each. This project's own.
+-- `SC_MODULE(M) { C part; .. }`, `struct C { .. }`, and a top `M a; C c; M b;`.
 use Rattle.std.specs.Prelude.{ℕ, Bool, true, false, List, [], ◌∷◌, map, None}
 use Rattle.scc_meaning.specs.Location.{Member}
 use Rattle.scc_meaning_plain.specs.Program.{Class, Plain}

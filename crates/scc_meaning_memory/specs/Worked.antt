@@ -1,4 +1,4 @@
--- An array of three elements of 4 bits, of which a variable of two bits chooses one.
+-- An array of three elements of 4 bits, of which a variable of two bits chooses one. This project's own.
 use Rattle.std.specs.Prelude.{ℕ, zero, suc, true, List, [], ◌∷◌, None, codes}
 use Rattle.scc_svtree.specs.declared.module.SvVar.{SvVar}
 use Rattle.scc_svtree.specs.declared.module.Dir.TheVariants.{Inner}

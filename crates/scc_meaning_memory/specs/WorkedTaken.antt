@@ -1,5 +1,5 @@
--- A buffer of two elements of 4 bits, as code: `m[i] = d; x = m[i];` for an index i of one bit, and an edge that keeps both; and the same edge where a reset clears
--- the elements.
+-- A worked value: a buffer of two elements of 4 bits, as code. This project's own.
+-- `m[i] = d; x = m[i];` for an index i of one bit, and an edge that keeps both; and the same edge where a reset clears the elements.
 use Rattle.std.specs.Prelude.{ℕ, true, List, [], ◌∷◌, Option, None, codes}
 use Rattle.scc_svtree.specs.declared.module.SvVar.{SvVar}
 use Rattle.scc_svtree.specs.declared.expr.SvLeft.TheVariants.{Whole}

@@ -1,4 +1,4 @@
--- A core with one variable, one process and one local, which is named as the variable.
+-- A core with one variable, one process and one local, which is named as the variable. This project's own.
 use Rattle.std.specs.Prelude.{ℕ, Bool, true, false, ◌&&◌, nat_eq, List, [], ◌∷◌, Some, None, codes}
 use Rattle.scc_kinds.specs.declared.kind.Kind.TheVariants as kind
 use Rattle.scc_meaning.specs.Location.{Part, Member}
