@@ -1,7 +1,7 @@
 -- Names that are declared twice in one scope (ISO C++ [basic.scope], [basic.def.odr]), in the order of the text (E302): a file, a class with its parameters, a function's
 -- parameters, each block and each statement that stands alone are scopes, and so are the head of a `for` and the braces of a `switch`. A specialisation and a body
 -- outside its class don't count; a function may be declared again, and has one body.
-use Rattle.std.specs.Prelude.{ℕ, nat_eq, Bool, true, false, ◌&&◌, List, [], ◌∷◌, ◌++◌, find, is_some, Option, Some, None, if◌then◌else◌}
+use Rattle.std.specs.Prelude.{ℕ, nat_eq, Bool, true, false, ◌&&◌, List, [], ◌∷◌, ◌++◌, find, is_some, map, Option, Some, None, if◌then◌else◌}
 use Rattle.scc_base.specs.declared.refusal.Place.{Place}
 use Rattle.scc_base.specs.declared.code.Code.TheVariants as reason
 use Rattle.scc_meaning_static.specs.Walk.{Event, Fault}
@@ -89,9 +89,11 @@ body_walk (Some b) = scope (declared b)
 abbrev pub inside : Function → List Event
 inside f = scope (taken_names f.params) ++ body_walk f.body
 
+abbrev pub param_namings : List Param → List Naming
+param_namings ps = map (λ p. naming p.name p.place) ps
+
 abbrev pub param_names : List Param → List Scoped
-param_names [] = []
-param_names (p ∷ ps) = Names (naming p.name p.place) ∷ param_names ps
+param_names ps = map (λ n. Names n) (param_namings ps)
 
 abbrev pub enumerator_names : List Enumerator → List Scoped
 enumerator_names [] = []
@@ -112,15 +114,17 @@ of_members [] = []
 of_members (Variable k f ∷ ms) = Names (naming f.name f.place) ∷ of_members ms
 of_members (Declares n i ∷ ms) = of_said i.name i.place i.said ++ of_members ms
 
+-- members are in one scope with the class's parameters
 abbrev pub of_class : Class → List Event
-of_class c = scope (param_names c.params ++ of_members c.members)
+of_class c = clashing (param_namings c.params) (of_members c.members)
 
 abbrev pub class_name : Option ℕ → Place → Class → List Scoped
 class_name x p c = if is_some c.special then [] else named x p
 
+-- the parameters of a class stand before its name
 abbrev pub of_tops : List Top → List Scoped
 of_tops [] = []
-of_tops (OfClass p x c ∷ ts) = class_name x p c ++ (Inside (of_class c) ∷ of_tops ts)
+of_tops (OfClass p x c ∷ ts) = Inside (scope (param_names c.params)) ∷ (class_name x p c ++ (Inside (of_class c) ∷ of_tops ts))
 of_tops (Outside p ps c as_given f ∷ ts) = Inside (scope (param_names ps)) ∷ Inside (inside f) ∷ of_tops ts
 of_tops (Plain i ∷ ts) = of_said i.name i.place i.said ++ of_tops ts
 

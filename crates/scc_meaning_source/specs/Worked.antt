@@ -1,13 +1,14 @@
--- A class that is declared twice, and a body in which a variable has the name of a parameter.
+-- Classes that are declared twice, the second one as a template too, and a body in which a variable has the name of a parameter.
 use Rattle.std.specs.Prelude.{ℕ, nat_eq, true, false, [], ◌∷◌, Some, None, if◌then◌else◌}
 use Rattle.scc_base.specs.declared.refusal.Place.{Place}
 use Rattle.scc_kinds.specs.declared.kind.Kind.TheVariants as kind
 use Rattle.scc_tree.specs.declared.local.Hold.TheVariants as hold
+use Rattle.scc_tree.specs.declared.item.ParamSort.TheVariants as sort
 use Rattle.scc_meaning_static.specs.Walk.{Arg, Value}
-use Rattle.scc_meaning_source.specs.Tree.{Tree, Nil, OfKind}
+use Rattle.scc_meaning_source.specs.Tree.{Tree, Nil, OfKind, NoArgs}
 use Rattle.scc_meaning_source.specs.Statements.{Stmts, End, Declare, Return}
 use Rattle.scc_meaning_source.specs.Replace.{Bound}
-use Rattle.scc_meaning_source.specs.Source.{Source, OfClass, Class}
+use Rattle.scc_meaning_source.specs.Source.{Source, OfClass, Class, Param}
 
 abbrev pub at : ℕ → Place
 at n = record { file = 0; at = n }
@@ -18,6 +19,16 @@ empty_class = record { params = []; special = None; is_module = false; members =
 
 abbrev pub both : Source
 both = record { items = OfClass (at 2) (Some 20) empty_class ∷ OfClass (at 4) (Some 20) empty_class ∷ []; end = at 9 }
+
+-- `struct T {}; template<int A, int A> struct T {};`, with the names 20 and 21
+abbrev pub param : ℕ → Param
+param n = record { place = at n; name = 21; sort = sort.Int; preset = NoArgs }
+
+abbrev pub same_params : Source
+same_params = record {
+  items = OfClass (at 2) (Some 20) empty_class ∷ OfClass (at 8) (Some 20) (record { params = param 4 ∷ param 6 ∷ []; special = None; is_module = false; members = [] }) ∷ [];
+  end = at 9;
+}
 
 -- the parameter 22 is 8
 abbrev pub eight : Arg

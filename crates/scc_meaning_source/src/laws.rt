@@ -7,7 +7,7 @@ ghost use Rattle.scc_meaning_source.specs.Tree.{Name, Given};
 ghost use Rattle.scc_meaning_source.specs.ReplaceBody.{replace_stmts};
 ghost use Rattle.scc_meaning_source.specs.SourceView.{source_of, top_of};
 ghost use Rattle.scc_meaning_source.specs.Twice.{twice};
-ghost use Rattle.scc_meaning_source.specs.Worked.{at, both, bound, eight, body};
+ghost use Rattle.scc_meaning_source.specs.Worked.{at, both, same_params, bound, eight, body};
 
 /// A source has the declarations of its tree.
 pub fn a_source_is_its_tree()
@@ -20,7 +20,8 @@ pub fn parameters_are_replaced()
     ensures other { replace_stmts (λ x. Some eight) (body (Name (at 2) 23) (Name (at 4) 22)) ≡ body (Given (at 2) eight) (Name (at 4) 22) }
 {}
 
-/// A class that is declared again is refused there; the other place is the first.
+/// A class that is declared again is refused there; the other place is the first. The parameters of a template come before its name.
 pub fn names_are_declared_once()
-    ensures { twice both ≡ Fault reason.DuplicateName (at 4) (Some (at 2)) ∷ [] }
+    ensures class { twice both ≡ Fault reason.DuplicateName (at 4) (Some (at 2)) ∷ [] }
+    ensures params { twice same_params ≡ Fault reason.DuplicateName (at 6) (Some (at 4)) ∷ (Fault reason.DuplicateName (at 8) (Some (at 2)) ∷ []) }
 {}
