@@ -1,5 +1,5 @@
--- The walk over a class with arguments: its members in the order of the text, the bodies of its functions, and then the bodies outside that it doesn't declare; and the
--- walk over a function of the file (ISO C++ [class.mem], [class.mfct], [class.base.init]; the order is this project's own).
+-- The walk over the members of a class with arguments in the order of the text, with its functions that have bodies, and which bodies outside are its own (ISO C++
+-- [class.mem], [class.mfct], [class.base.init]; the order is this project's own).
 use Rattle.std.specs.Prelude.{ℕ, suc, nat_eq, Bool, true, false, not, ◌&&◌, ◌||◌, List, [], ◌∷◌, ◌++◌, find, Option, Some, None, is_some, if◌then◌else◌}
 use Rattle.std.specs.List.{list_any}
 use Rattle.scc_base.specs.declared.refusal.Place.{Place}
@@ -16,8 +16,8 @@ use Rattle.scc_meaning_program.specs.Scope.{Answer, Body}
 use Rattle.scc_meaning_program.specs.Functions.{Routine, routine_of, functions_in, is_named}
 use Rattle.scc_meaning_program.specs.Meaning.{args_at}
 use Rattle.scc_meaning_program.specs.Forms.{Form, is_direct}
-use Rattle.scc_meaning_program.specs.Shapes.{Signature, field_form, signature}
-use Rattle.scc_meaning_program.specs.Making.{Constructor, constructor_of, are_names}
+use Rattle.scc_meaning_program.specs.Shapes.{field_form, signature}
+use Rattle.scc_meaning_program.specs.Making.{made_bare}
 
 -- a function of a program, with a place where it was looked for
 pub record Met : Type 0 where
@@ -38,17 +38,6 @@ is_begun x None = false
 is_begun x (Some r) = list_any (is_name_of x) r.function.inits
 
 module _ (s : Source) (w : World Answer) where
-  -- what is made without arguments: its constructor has a body (E301), and no parameters but names (E304)
-  abbrev pub bare : Place → Constructor → Walked (Unit {0})
-  bare p k = by_signature k.signature
-    where
-      by_signature : Option Signature → Walked (Unit {0})
-      by_signature None = if k.declared then fault reason.UnknownName p else pure tt
-      by_signature (Some g) = if are_names g.params then pure tt else fault reason.Mismatch p
-
-  abbrev pub made_bare : ℕ → Args → Place → Walked (Unit {0})
-  made_bare c as_given p = and_walk (constructor_of s w c as_given p) (bare p)
-
   -- asked, for its refusals
   abbrev pub asked : Key → Place → Walked (List Met)
   asked k p = and_walk (w k p) (λ a. pure [])
@@ -56,7 +45,7 @@ module _ (s : Source) (w : World Answer) where
   module _ (c : ℕ) (as_given : Args) (b : Body) where
     -- a member variable; an object is made as a vector's elements are, or without an initialiser
     abbrev pub object_field : Field → Form → Base → Walked (List Met)
-    object_field f h (OfObject d xs) = if is_direct h then and_walk (routine_of s w (Constructs c as_given) f.place) (λ r. if h.vector || not (is_begun f.name r) then and_walk (made_bare d xs f.place) (λ u. pure []) else pure []) else pure []
+    object_field f h (OfObject d xs) = if is_direct h then and_walk (routine_of s w (Constructs c as_given) f.place) (λ r. if h.vector || not (is_begun f.name r) then and_walk (made_bare s w d xs f.place f.place) (λ u. pure []) else pure []) else pure []
     object_field f h base = pure []
 
     abbrev pub field : ℕ → Field → Walked (List Met)

@@ -51,6 +51,22 @@ module _ (s : Source) (w : World Answer) where
   constructor_of c as_given p = and_walk (construction c as_given p) (λ k. and_walk (signed c as_given p k.routine) (λ g.
       pure (record { is_module = k.is_module; declared = k.declared; signature = g })))
 
+  -- what is made without arguments: its constructor has a body (E301 at a name), and no parameters but names (E304 at a place)
+  abbrev pub bare : Place → Place → Constructor → Walked (Unit {0})
+  bare p name k = by_signature k.signature
+    where
+      by_signature : Option Signature → Walked (Unit {0})
+      by_signature None = if k.declared then fault reason.UnknownName name else pure tt
+      by_signature (Some g) = if are_names g.params then pure tt else fault reason.Mismatch p
+
+  abbrev pub made_bare : ℕ → Args → Place → Place → Walked (Unit {0})
+  made_bare c as_given p name = and_walk (constructor_of c as_given name) (bare p name)
+
+  -- the elements of a vector, which are made without arguments
+  abbrev pub elements : Place → Place → Base → Walked (Unit {0})
+  elements p name (OfObject c as_given) = made_bare c as_given p name
+  elements p name b = pure tt
+
   module _ (a : Around) (ks : List Known) (late : Bool) (xs : Trees) where
     -- at most one argument for each form (E304)
     abbrev pub given : Place → List Form → Step (List Argument)
@@ -76,7 +92,7 @@ module _ (s : Source) (w : World Answer) where
 
     -- the arguments of what is made of a form's type: at a place, and the place of the type's name
     abbrev pub make_args : Place → Place → Base → Bool → Step (List Argument)
-    make_args p name b true = given p (direct OfName ∷ direct (OfNumber (kind.Native 64 false)) ∷ [])
+    make_args p name b true = and_step (given p (direct OfName ∷ direct (OfNumber (kind.Native 64 false)) ∷ [])) (λ as_given. and_step (found (elements p name b)) (λ u. done as_given))
     make_args p name (OfObject c as_given) false = and_step (found (constructor_of c as_given name)) (by_constructor p name)
     make_args p name (OfNumber k) false = given p (if nat_eq (count xs) 1 then direct (OfNumber k) ∷ [] else [])
     make_args p name OfName false = and_step (any s w a ks late xs) (λ u. found (fault reason.Mismatch p))
