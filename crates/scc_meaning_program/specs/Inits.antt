@@ -1,4 +1,4 @@
--- Initialisers of constructors (ISO C++ [class.base.init]; IEEE 1666-2011, 5.3), and functions whole.
+-- Initialisers of constructors (ISO C++ [class.base.init]; IEEE 1666-2011, 5.3).
 use Rattle.std.specs.Prelude.{ℕ, nat_eq, nat_le, Bool, true, false, not, ◌&&◌, ◌||◌, List, Option, Some, None, if◌then◌else◌}
 use Rattle.scc_base.specs.declared.refusal.Place.{Place}
 use Rattle.scc_base.specs.declared.code.Code.TheVariants as reason
@@ -63,9 +63,9 @@ module _ (s : Source) (w : World Answer) (a : Around) (ks : List Known) where
   number_from p l k f None = found (fault reason.Mismatch p)
   number_from p l k f (Some x) = if nat_eq f.dims 0 then and_step (found (converted k x)) (λ y. written (λ n c. Assign p l term.Whole y.term c)) else found (fault reason.Mismatch p)
 
-  -- a port, signal or name is named at most once; a number begins with a value, or without one as it is made
+  -- a port, signal or name is named at most once, and nothing but the calls of its argument is written; a number begins with a value, or without one as it is made
   abbrev pub named_once : Place → Trees → Step Writes
-  named_once p xs = and_step (names xs) (λ u. if nat_le (count xs) 1 then done nothing else found (fault reason.Mismatch p))
+  named_once p xs = and_step (names xs) (λ u. if nat_le (count xs) 1 then written nothing else found (fault reason.Mismatch p))
 
   abbrev pub plain_begun : Place → Form → Left → Trees → Base → Step Writes
   plain_begun p f l xs (OfNumber k) = and_step (each_value s w a ks false xs) (λ vs. if nat_eq (count xs) 0 then done nothing else number_from p l k f (only s w a ks false vs))
@@ -88,5 +88,5 @@ module _ (s : Source) (w : World Answer) (a : Around) (ks : List Known) where
 
   -- `sc_module(name)` has one name
   abbrev pub init : Place → Option ℕ → Trees → Step Writes
-  init p None xs = and_step (names xs) (λ u. if nat_eq (count xs) 1 then done nothing else found (fault reason.Mismatch p))
+  init p None xs = and_step (names xs) (λ u. if nat_eq (count xs) 1 then written nothing else found (fault reason.Mismatch p))
   init p (Some x) xs = by_owner a.owner p x xs
