@@ -1,5 +1,5 @@
--- The bodies of functions that count (ISO C++ [class.mfct], [temp.mem.func], [temp.expl.spec]): one outside its class for equal arguments goes before all; else the first
--- in the text counts, inside the class or outside it.
+-- The bodies of functions that count (ISO C++ [class.mfct], [temp.mem.func], [temp.expl.spec]): those for equal arguments, inside a specialisation or outside, go before
+-- those of the template; of several the first in the text counts.
 use Rattle.std.specs.Prelude.{ℕ, suc, nat_eq, nat_lt, Bool, true, false, ◌&&◌, List, [], ◌∷◌, ◌++◌, find, Option, Some, None, option_map, option_and_then, is_some, option_to_list, slice_get, if◌then◌else◌}
 use Rattle.scc_base.specs.declared.refusal.Place.{Place}
 use Rattle.scc_meaning_static.specs.Walk.{Args, Need, Free, Callee, OfFile, OfClass, Constructs, same_args, same_bool}
@@ -67,9 +67,9 @@ module _ (s : Source) where
       of_top t = None
 
   -- of a class body with arguments: the bodies outside for these, those outside for all, the body inside
-  abbrev pub exact_body : Args → List Outer → Option Routine
+  abbrev pub exact_body : Args → List Outer → Option Beside
   exact_body as_given [] = None
-  exact_body as_given (Exact n xs ∷ os) = if same_args xs as_given then option_map (λ o. o.routine) (outside_at n (λ ps. unbound)) else exact_body as_given os
+  exact_body as_given (Exact n xs ∷ os) = if same_args xs as_given then outside_at n (λ ps. unbound) else exact_body as_given os
   exact_body as_given (General n ∷ os) = exact_body as_given os
 
   abbrev pub general_body : Body → Args → List Outer → Option Beside
@@ -89,8 +89,10 @@ module _ (s : Source) where
   or_else (Some r) o = Some r
   or_else None o = o
 
+  -- the body inside a specialisation is one for its arguments
   abbrev pub counting : Body → Args → ℕ → Bool → List Outer → Option Routine
-  counting b as_given x constructor os = or_else (exact_body as_given os) (first_body b (inner_body b x constructor) (general_body b as_given os))
+  counting b as_given x constructor os = if is_some b.class.special then first_body b (inner_body b x constructor) (exact_body as_given os)
+      else or_else (option_map (λ o. o.routine) (exact_body as_given os)) (first_body b (inner_body b x constructor) (general_body b as_given os))
 
   module _ (w : World Answer) where
     abbrev pub outers : ℕ → Args → ℕ → Bool → Place → Body → Walked (Option Routine)
