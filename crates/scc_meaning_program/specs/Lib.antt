@@ -37,3 +37,5 @@ pub mod WorkedTemplates
 pub mod WorkedBodies
 pub mod WorkedConstructors
 pub mod WorkedScopes
+pub mod WorkedMaking
+pub mod WorkedChosen
