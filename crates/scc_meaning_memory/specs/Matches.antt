@@ -1,6 +1,6 @@
 -- A module with memories that matches a design, and shows what it shows: as any module does, with the elements of memories among its registers (IEEE 1800-2017,
 -- 23.2.2, 9.2.2.4; the names are this project's own).
-use Rattle.std.specs.Prelude.{◌≡◌, ◌⊎◌, ◌<◌, ℕ, nat_eq, Bool, true, List, [], ◌∷◌, map, flat_map, take, length, Some, option_map, slice_get}
+use Rattle.std.specs.Prelude.{◌≡◌, ◌⊎◌, ◌<◌, ℕ, nat_eq, Bool, true, List, [], ◌∷◌, map, flat_map, take, length, Some, option_map, slice_get, IsPermutation}
 use Rattle.std.specs.List.{list_any}
 use Rattle.scc_meaning.specs.Location.{Location}
 use Rattle.scc_running.specs.Design.{Design}
@@ -32,7 +32,7 @@ pub record MemoryMatches (text : Location → List ℕ) (own : List ℕ → Bool
   pub name : m.name ≡ top
   pub ports : map var_view (take (length d.ports) m.vars) ≡ map (port_view text d) d.ports
   pub inner : (v : ℕ) (x : SvVar) → slice_get m.vars v ≡ Some x → is_port x.dir ≡ true → slice_get (take (length d.ports) m.vars) v ≡ Some x
-  pub edges : (k : ℕ) (e : EdgeView) → slice_get (block_views m) k ≡ Some e → (j : ℕ) × (slice_get (process_views text d) j ≡ Some e)
+  pub edges : IsPermutation (process_views text d) (block_views m)
   pub registers : (v : ℕ) → list_any (nat_eq v) (registers m) ≡ true
       → (own (name_at m.vars v) ≡ true) ⊎ IsKeptAs text kept d (name_at m.vars v) (width_of m.vars v)
   pub elements : (k i : ℕ) (b : Memory) → slice_get m.memories k ≡ Some b → i < b.size → IsKeptAs text kept d (element_name b.name i) b.width
