@@ -110,34 +110,35 @@ abbrev pub looped : ℕ → Place → (Now → Ran) → (Now → Ran) → Now �
 looped zero p test turn n = Halted (refused reason.ConstructionTurns p)
 looped (suc left) p test turn n = then_run (test n) (λ n. turned p n (λ n. then_run (turn n) (looped left p test turn)))
 
--- the statements of a constructor of an object, in a site but for what is made
+-- one of two branches, by the word of the test
+abbrev pub choose_of : ℕ → (Now → Ran) → (Now → Ran) → Now → Ran
+choose_of zero a b n = b n
+choose_of (suc x) a b n = a n
+
+-- the statements of a constructor of an object, in a site but for what is made; a loop is refused that comes to so many turns
+module _ (turns : ℕ) where
+  abbrev pub ran_in : Making → Site → Code → Now → Ran
+  ran_in make s End n = Fell n
+  ran_in make s (Declare p k r) n = grow n (Made (declared_from s k (slice_get s.function.locals k) (elements (sizes_of (slice_get s.function.locals k))) n.grown)) (ran_in make s r)
+  ran_in make s (Assign p l k e r) n = grow n (assigned (at_now s n.grown) l k e) (ran_in make s r)
+  ran_in make s (Point p l t r) n = grow n (and_made (spot (at_now s n.grown) false false l) (λ o. and_made (target (at_now s n.grown) t) (point_at (at_now s n.grown) p o))) (ran_in make s r)
+  ran_in make s (If p t a b r) n = from_tried (worth (at_now s n.grown) t) (λ x. then_run (choose_of x (ran_in make s a) (ran_in make s b) n) (ran_in make s r))
+  ran_in make s (Block p b r) n = shut (ran_in make s b n) (ran_in make s r)
+  ran_in make s (Loop p c (If q t a b turn) r) n = looped turns p (λ n. from_tried (worth (at_now s n.grown) t) (λ x. choose_of x (ran_in make s a) (ran_in make s b) n)) (ran_in make s turn) n
+  ran_in make s (Loop p c turn r) n = looped turns p Fell (ran_in make s turn) n
+  ran_in make s (Exit p d r) n = Left_out d n
+  ran_in make s (Make p l base args r) n = grow n (and_made (spot (at_now s n.grown) false false l) (make_at make (at_now s n.grown) p base (ends_in_vector s l) args)) (ran_in make s r)
+  ran_in make s (Bind p port to r) n = grow n (bind (at_now s n.grown) p port to) (ran_in make s r)
+  ran_in make s (Process p thread f edge r) n = from_tried (declare (at_now s n.grown) p thread f edge) (λ g. ran_in make s r (record { grown = g; last = Some (length n.grown.declared) }))
+  ran_in make s (Sensitive p items r) n = of_last p n (λ k. grow n (made_map (λ is. with_declared n.grown (changed_at k (with_items is) n.grown.declared)) (items_of (at_now s n.grown) items)) (ran_in make s r))
+  ran_in make s (Quiet p r) n = of_last p n (λ k. ran_in make s r n)
+  ran_in make s (Reset p signal level asynchronous r) n = of_last p n (λ k. grow n (and_made (channel (at_now s n.grown) signal) (λ c. made_map
+      (λ w. with_declared n.grown (changed_at k (with_reset (record { place = p; signal = c; level = is_true w; asynchronous = asynchronous })) n.grown.declared)) (worth (at_now s n.grown) level))) (ran_in make s r))
+  -- writes of signals, calls, `return` and waits
+  ran_in make s (Write p l e r) n = Halted (refused reason.Constructor p)
+  ran_in make s (Call p k f o args r) n = Halted (refused reason.Constructor p)
+  ran_in make s (Return p v r) n = Halted (refused reason.Constructor p)
+  ran_in make s (Wait p k r) n = Halted (refused reason.Constructor p)
+
 abbrev pub ran : Making → Site → Code → Now → Ran
-ran make s End n = Fell n
-ran make s (Declare p k r) n = grow n (Made (declared_from s k (slice_get s.function.locals k) (elements (sizes_of (slice_get s.function.locals k))) n.grown)) (ran make s r)
-ran make s (Assign p l k e r) n = grow n (assigned (at_now s n.grown) l k e) (ran make s r)
-ran make s (Point p l t r) n = grow n (and_made (spot (at_now s n.grown) false false l) (λ o. and_made (target (at_now s n.grown) t) (point_at (at_now s n.grown) p o))) (ran make s r)
-ran make s (If p t a b r) n = from_tried (worth (at_now s n.grown) t) (λ x. then_run (choose_of x (ran make s a) (ran make s b) n) (ran make s r))
-  where
-    choose_of : ℕ → (Now → Ran) → (Now → Ran) → Now → Ran
-    choose_of zero a b n = b n
-    choose_of (suc x) a b n = a n
-ran make s (Block p b r) n = shut (ran make s b n) (ran make s r)
-ran make s (Loop p c (If q t a b turn) r) n = looped most_turns p (λ n. from_tried (worth (at_now s n.grown) t) (λ x. choose_in x (ran make s a) (ran make s b) n)) (ran make s turn) n
-  where
-    choose_in : ℕ → (Now → Ran) → (Now → Ran) → Now → Ran
-    choose_in zero a b n = b n
-    choose_in (suc x) a b n = a n
-ran make s (Loop p c turn r) n = looped most_turns p Fell (ran make s turn) n
-ran make s (Exit p d r) n = Left_out d n
-ran make s (Make p l base args r) n = grow n (and_made (spot (at_now s n.grown) false false l) (make_at make (at_now s n.grown) p base (ends_in_vector s l) args)) (ran make s r)
-ran make s (Bind p port to r) n = grow n (bind (at_now s n.grown) p port to) (ran make s r)
-ran make s (Process p thread f edge r) n = from_tried (declare (at_now s n.grown) p thread f edge) (λ g. ran make s r (record { grown = g; last = Some (length n.grown.declared) }))
-ran make s (Sensitive p items r) n = of_last p n (λ k. grow n (made_map (λ is. with_declared n.grown (changed_at k (with_items is) n.grown.declared)) (items_of (at_now s n.grown) items)) (ran make s r))
-ran make s (Quiet p r) n = of_last p n (λ k. ran make s r n)
-ran make s (Reset p signal level asynchronous r) n = of_last p n (λ k. grow n (and_made (channel (at_now s n.grown) signal) (λ c. made_map
-    (λ w. with_declared n.grown (changed_at k (with_reset (record { place = p; signal = c; level = is_true w; asynchronous = asynchronous })) n.grown.declared)) (worth (at_now s n.grown) level))) (ran make s r))
--- writes of signals, calls, `return` and waits
-ran make s (Write p l e r) n = Halted (refused reason.Constructor p)
-ran make s (Call p k f o args r) n = Halted (refused reason.Constructor p)
-ran make s (Return p v r) n = Halted (refused reason.Constructor p)
-ran make s (Wait p k r) n = Halted (refused reason.Constructor p)
+ran = ran_in most_turns

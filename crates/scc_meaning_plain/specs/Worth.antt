@@ -1,5 +1,4 @@
--- Locations and values in a constructor (ISO C++ [expr]), with what is refused: a port or signal is read (E404), null is followed (E405). All parts of an
--- expression are evaluated.
+-- Locations and values in a constructor (ISO C++ [expr]), all parts of an expression evaluated. Refused: a port or signal is read (E404), null is followed (E405).
 use Rattle.std.specs.Prelude.{ℕ, Bool, true, false, ◌&&◌, nat_eq, nat_lt, List, [], ◌∷◌, Option, Some, None, option_map, option_and_then, slice_get, unwrap_or, if◌then◌else◌}
 use Rattle.scc_base.specs.declared.refusal.Place.{Place}
 use Rattle.scc_base.specs.declared.code.Code.TheVariants as reason
@@ -125,17 +124,18 @@ picked k (OneBit e) (Some i) old new = with_bit (width_of k) old i new
 picked k (Bits h l) i old new = replaced h l old new
 picked k p i old new = new
 
--- an assignment of a number: its left side, then its value; where no variable stands, nothing is written
-abbrev pub assigned : Site → Left → Pick → Term → Tried Grown
-assigned s l k e = and_made (spot s false true l) (λ o. and_made (bit_given s k) (λ i. made_map (put_at o i) (worth s e)))
-  where
-    put_word : Location → Option ℕ → ℕ → Option Kind → Grown
-    put_word l i x None = s.now
-    put_word l i x (Some j) = with_word s.now l (picked j k i (s.now.store.words l) x)
+-- where no variable stands, nothing is written
+abbrev pub put_word : Site → Pick → Location → Option ℕ → ℕ → Option Kind → Grown
+put_word s k l i x None = s.now
+put_word s k l i x (Some j) = with_word s.now l (picked j k i (s.now.store.words l) x)
 
-    put_at : Option Location → Option ℕ → ℕ → Grown
-    put_at None i x = s.now
-    put_at (Some l) i x = put_word l i x (kind_there s l)
+abbrev pub put_at : Site → Pick → Option Location → Option ℕ → ℕ → Grown
+put_at s k None i x = s.now
+put_at s k (Some l) i x = put_word s k l i x (kind_there s l)
+
+-- an assignment of a number: its left side, then its value
+abbrev pub assigned : Site → Left → Pick → Term → Tried Grown
+assigned s l k e = and_made (spot s false true l) (λ o. and_made (bit_given s k) (λ i. made_map (put_at s k o i) (worth s e)))
 
 -- an argument as a constructor takes it
 pub data Given : Type 0 where

@@ -25,7 +25,7 @@ ghost use Rattle.scc_meaning_plain.specs.Stages.{accepted, compiled};
 ghost use Rattle.scc_meaning_plain.specs.Common.{IsRegular, AgreesOnValues, Agrees};
 ghost use Rattle.scc_meaning_plain.specs.Construct.{Making};
 ghost use Rattle.scc_meaning_plain.specs.Worth.{Site};
-ghost use Rattle.scc_meaning_plain.specs.Program.{End};
+ghost use Rattle.scc_meaning_plain.specs.Program.{Code, End};
 ghost use Rattle.scc_meaning_plain.specs.Worked.{here, int, program, made, copied, load};
 
 /// `m = pick(1) + pick(0)`: each call is copied with a result and a parameter of its own.
@@ -123,7 +123,7 @@ pub fn constructors_and_processes_have_the_same_values()
     ensures { (s : Site) → IsRegular s → AgreesOnValues s }
 {}
 
-/// No statements make nothing of what is made, in a constructor and by the machine.
+/// What the statements of a constructor make of the store, the machine makes of it: those that processes have, too.
 pub fn constructors_and_processes_agree()
-    ensures { (make : Making) (s : Site) → Agrees make s End }
+    ensures { (make : Making) (s : Site) (c : Code) → Agrees make s c }
 {}
