@@ -1,4 +1,4 @@
--- Ranges of bits and the calls of the language on numbers, ports and signals (IEEE 1666-2011, 6.4, 6.8, 6.10, 7.2).
+-- Ranges of bits and the calls of the language on numbers, ports and signals (IEEE 1666-2011, 6.4, 6.8, 6.12, 7.2).
 use Rattle.std.specs.Prelude.{ℕ, nat_eq, nat_lt, nat_le, ◌-◌, ◌+◌, Bool, true, false, ◌&&◌, Option, Some, None, if◌then◌else◌}
 use Rattle.scc_base.specs.declared.refusal.Place.{Place}
 use Rattle.scc_base.specs.declared.code.Code.TheVariants as reason

@@ -1,4 +1,4 @@
--- Assignments, `++` and `--`, and calls as statements (ISO C++ [expr.ass], [expr.pre.incr], [expr.call]; IEEE 1666-2011, 4.1.3, 6.4, 6.8, 6.10).
+-- Assignments, `++` and `--`, and calls as statements (ISO C++ [expr.ass], [expr.pre.incr], [expr.call]; IEEE 1666-2011, 4.2, 6.4, 6.8, 6.12).
 use Rattle.std.specs.Prelude.{ℕ, nat_eq, Bool, true, false, not, ◌&&◌, ◌||◌, List, [], ◌∷◌, Option, Some, None, is_some, if◌then◌else◌}
 use Rattle.scc_base.specs.declared.refusal.Place.{Place}
 use Rattle.scc_base.specs.declared.code.Code.TheVariants as reason

@@ -1,4 +1,4 @@
--- What types are, and the calls of the language (ISO C++ [dcl.type]; IEEE 1666-2011, 5.3, 6.4, 6.8, 6.10, 7, 8.5).
+-- What types are, and the calls of the language (ISO C++ [dcl.type]; IEEE 1666-2011, 5.3, 6.4, 6.8, 6.12, 7, 8.5).
 use Rattle.std.specs.Prelude.{ℕ, nat_eq, nat_lt, nat_le, Bool, true, false, ◌&&◌, Option, Some, None, if◌then◌else◌}
 use Rattle.scc_base.specs.declared.refusal.Place.{Place}
 use Rattle.scc_base.specs.declared.code.Code.TheVariants as reason
