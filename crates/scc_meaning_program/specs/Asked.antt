@@ -1,33 +1,38 @@
 -- What the calls on constants and classes give and meet (ISO C++ [expr.const], [temp.inst]): each begins a chain of its own.
-use Rattle.std.specs.Prelude.{ℕ, zero, suc, nat_lt, List, length, Option, Some, None, if◌then◌else◌}
+use Rattle.std.specs.Prelude.{ℕ, List, [], ◌∷◌, Option, Some, None}
 use Rattle.scc_base.specs.declared.refusal.Place.{Place}
 use Rattle.scc_base.specs.declared.code.Code.TheVariants as reason
 use Rattle.scc_bits.specs.Value.{Number}
-use Rattle.scc_meaning_static.specs.Walk.{Args, Nil, Cons}
+use Rattle.scc_meaning_static.specs.Walk.{Arg, Value, Sort, Of, Args, Nil, Cons}
 use Rattle.scc_meaning_static.specs.Walked.{Walked, pure, fault, and_walk}
 use Rattle.scc_meaning_static.specs.World.{Owner, World}
 use Rattle.scc_meaning_source.specs.Tree.{Tree, TyArgs, place_of}
-use Rattle.scc_meaning_program.specs.Types.{Object}
+use Rattle.scc_meaning_program.specs.Numbers.{number}
+use Rattle.scc_meaning_program.specs.Types.{Object, one, OfNumber, OfObject}
 use Rattle.scc_meaning_source.specs.Source.{Source, Param}
 use Rattle.scc_meaning_program.specs.Names.{Entry, IsClass, Named, class_at, file_names, meaning_in}
 use Rattle.scc_meaning_program.specs.Scope.{Answer, in_file}
-use Rattle.scc_meaning_program.specs.Uses.{class_use}
+use Rattle.scc_meaning_program.specs.Uses.{class_use, value_arg, type_args, more_args}
 use Rattle.scc_meaning_program.specs.Constants.{given}
 use Rattle.scc_meaning_program.specs.Meaning.{site_of, value_at}
 use Rattle.scc_meaning_program.specs.Keys.{outermost}
-
-abbrev pub count : Args → ℕ
-count Nil = zero
-count (Cons a as_given) = suc (count as_given)
 
 module _ (s : Source) (w : World Answer) where
   -- the value of an expression in the scope of an owner
   abbrev pub value_in : Owner → Tree → Walked Number
   value_in o e = and_walk (site_of s w o (place_of e)) (λ at. value_at s w at.scope at.bound e)
 
-  -- arguments that are handed in (E307 where there are more than parameters)
+  -- an argument that is handed in, for its parameter, as if it were written at the place (E306, E307)
+  abbrev pub handed_one : Place → Param → Arg → Walked Arg
+  handed_one p q (Value k v) = value_arg q p (pure (number k v)) (fault reason.Arguments p)
+  handed_one p q (Sort k) = type_args q p (pure (one (OfNumber k))) (fault reason.Arguments p)
+  handed_one p q (Of c as_given) = type_args q p (pure (one (OfObject c as_given))) (fault reason.Arguments p)
+
+  -- all, and no more than parameters (E307)
   abbrev pub handed : Place → Args → List Param → Walked Args
-  handed p as_given ps = if nat_lt (length ps) (count as_given) then fault reason.Arguments p else pure as_given
+  handed p Nil ps = pure Nil
+  handed p (Cons a as_given) [] = fault reason.Arguments p
+  handed p (Cons a as_given) (q ∷ qs) = and_walk (handed_one p q a) (λ b. more_args b (handed p as_given qs))
 
   -- a specialisation has its own arguments, and takes no others: it stands for its template with them
   abbrev pub own_use : Place → TyArgs → Option Entry → Walked Object

@@ -1,15 +1,21 @@
 -- `template<int N> struct S { int x; void f() { x = 0; } };` and `struct T { S<8> a; };`, with `template<> struct S<8> { int x; void f() { x = 1; } };` or
 -- `void S<8>::f() { x = 2; }` between them; and `C::g()` in `struct T`, of a `struct C { int n; int g() { return 1; } };` or one where g returns n.
 use Rattle.std.specs.Prelude.{ℕ, false, List, [], ◌∷◌, ◌++◌, Some, None}
+use Rattle.scc_meaning_static.specs.Walk.{Args}
+use Rattle.scc_meaning_static.specs.Walked.{Walked}
 use Rattle.scc_meaning_plain.specs.Term as term
 use Rattle.scc_meaning_plain.specs.Program as code
 use Rattle.scc_meaning_program.specs.Numbers.{int}
 use Rattle.scc_meaning_source.specs.Tree.{Tree, Scoped, Call, Nil, Named, TyArgs, NoArgs, ByValue}
 use Rattle.scc_meaning_source.specs.Statements.{End, Simply, Assign, Return}
 use Rattle.scc_meaning_source.specs.Source.{Source, Top, OfClass, Outside, Member, Variable, Function}
+use Rattle.scc_meaning_program.specs.Types.{Object}
+use Rattle.scc_meaning_program.specs.Names.{class_at}
+use Rattle.scc_meaning_program.specs.Keys.{behind_chain}
+use Rattle.scc_meaning_program.specs.Asked.{use_of}
 use Rattle.scc_meaning_program.specs.Worked.{here}
 use Rattle.scc_meaning_source.specs.Worked.{at}
-use Rattle.scc_meaning_program.specs.WorkedTemplates.{named, literal, int_type, field, parameter, method, user}
+use Rattle.scc_meaning_program.specs.WorkedTemplates.{named, literal, int_type, field, parameter, method, user, templated}
 use Rattle.scc_meaning_program.specs.WorkedBodies.{declares, with_body, set, put, number}
 use Rattle.scc_meaning_program.specs.WorkedMaking.{class}
 
@@ -44,3 +50,7 @@ called_by_class e = record { items = class 28 (Variable 0 (field 29 int_type) �
 
 abbrev pub class_code : code.Code
 class_code = code.Call (at 5) 0 2 None [] (put (term.Load (at 5) int (term.Answer (at 5) 0)) code.End)
+
+-- S with arguments that are handed in
+abbrev pub instance_by : Args → Walked Object
+instance_by xs = use_of (templated End) (behind_chain (templated End) 12 []) 0 xs here (class_at (templated End) 0)

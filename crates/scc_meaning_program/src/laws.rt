@@ -5,6 +5,7 @@ ghost use Rattle.scc_kinds.specs.declared.op.Op.TheVariants as op;
 ghost use Rattle.scc_kinds.specs.declared.kind.Kind.TheVariants as kind;
 ghost use Rattle.scc_tree.specs.declared.item.FileTree.{FileTree};
 ghost use Rattle.scc_tree.specs.declared.ty.Family.TheVariants as family;
+ghost use Rattle.scc_meaning_static.specs.Walk as walk;
 ghost use Rattle.scc_meaning_static.specs.Walked.{pure, fault};
 ghost use Rattle.scc_meaning_source.specs.SourceView.{source_of};
 ghost use Rattle.scc_meaning_program.specs.Numbers.{int, number, operated, concatenated, chosen};
@@ -20,7 +21,7 @@ ghost use Rattle.scc_meaning_core.specs.Resolved.{Made, Stopped};
 ghost use Rattle.scc_meaning_core.specs.First.{refused, refused_beside};
 ghost use Rattle.scc_meaning_program.specs.Program.{program_of};
 ghost use Rattle.scc_meaning_program.specs.Designs.{first_refusal, IsDesignOf};
-ghost use Rattle.scc_meaning_program.specs.Asked.{constant_of, instance_of, use_of, value_in};
+ghost use Rattle.scc_meaning_program.specs.Asked.{constant_of, instance_of, value_in};
 ghost use Rattle.scc_running.specs.Design.{Design};
 ghost use Rattle.scc_base.specs.declared.refusal.Refusal.{Refusal};
 ghost use Rattle.scc_meaning_program.specs.Scope.{Number_};
@@ -30,10 +31,10 @@ ghost use Rattle.scc_meaning_program.specs.WorkedBodies.{with_body, for_body, fo
 ghost use Rattle.scc_meaning_program.specs.WorkedScopes.{scoped_body, scoped_code, asking};
 ghost use Rattle.scc_meaning_program.specs.WorkedConstructors.{constructing, constructed};
 ghost use Rattle.scc_meaning_program.specs.WorkedMaking.{takes_number, makes_object, makes_vector, object_code, begun_by, begun_code, inits_by};
-ghost use Rattle.scc_meaning_program.specs.WorkedChosen.{chosen as source_with, written_number, inside, beside, called_by_class, class_code};
+ghost use Rattle.scc_meaning_program.specs.WorkedChosen.{chosen as source_with, written_number, inside, beside, called_by_class, class_code, instance_by};
 ghost use Rattle.scc_meaning_source.specs.Worked.{at, both};
 ghost use Rattle.scc_meaning_program.specs.Worked.{here, loaded, sum, nowhere, unasked, around};
-ghost use Rattle.scc_meaning_program.specs.Names.{class_at, file_names};
+ghost use Rattle.scc_meaning_program.specs.Names.{file_names};
 ghost use Rattle.scc_meaning_program.specs.Drafts.{literal, operate, concat};
 ghost use Rattle.scc_meaning_program.specs.Meant.{Valued, indexed};
 ghost use Rattle.scc_meaning_static.specs.World.{Constant, File, In};
@@ -103,11 +104,15 @@ pub fn what_is_refused_has_no_design()
     ensures design { (many : Bool) (t : FileTree) (top : ℕ) (d : Design) → IsDesignOf many t top d → IsDesignOf many t top d }
 {}
 
-/// A constant is asked for in its scope, a class with its arguments.
+/// A constant is asked for in its scope, a class with its arguments, which are converted as if they were written.
 pub fn constants_and_classes_are_asked_for()
     ensures constant { value_in counting (behind_chain counting 12 []) File (literal_tree 3) ≡ pure (number int 3) }
     ensures asked { (n : ℕ) → constant_of counting File (literal_tree n) ≡ constant_of counting File (literal_tree n) }
-    ensures class { (use_of (templated End) (behind_chain (templated End) 12 []) 0 (args 8) here (class_at (templated End) 0)).value ≡ Some (record { class = 0; args = args 8 }) }
+    ensures class { (instance_by (args 8)).value ≡ Some (record { class = 0; args = args 8 }) }
+    ensures converted { (instance_by (walk.Cons (walk.Value (kind.Uint 8) 8) walk.Nil)).value ≡ Some (record { class = 0; args = args 8 }) }
+    ensures range { instance_by (walk.Cons (walk.Value (kind.Uint 33) 4294967296) walk.Nil) ≡ fault reason.ConstRange here }
+    ensures sort { instance_by (walk.Cons (walk.Sort int) walk.Nil) ≡ fault reason.Arguments here }
+    ensures more { instance_by (walk.Cons (walk.Value int 8) (args 8)) ≡ fault reason.Arguments here }
     ensures none { instance_of nowhere 0 (args 1) here ≡ fault reason.UnknownName here }
 {}
 
