@@ -1,5 +1,6 @@
--- What the module of a core is made of: its blocks in order with the processes to which they belong, the clocks and resets of those at edges, what each mentions,
--- its registers, and how many statements it has. This project's own.
+-- What the module of a core is made of. This project's own.
+-- Its blocks in order with the processes to which they belong, the clocks and resets of those at edges, what each mentions, its registers, and how many statements
+-- it has.
 use Rattle.std.specs.Prelude.{◌≡◌, ◌⊎◌, ◌<◌, ◌≤◌, ◌^◌, ◌*◌, ◌+◌, ◌-◌, ℕ, max, Bool, true, false, not, ◌&&◌, List, [], ◌∷◌, ◌++◌, map, filter, flat_map, length, sum, Some, slice_get, codes, decimal, is_some}
 use Rattle.std.specs.List.{range_with_len}
 use Rattle.scc_svtree.specs.declared.module.SvModule.{SvModule}

@@ -1,5 +1,5 @@
--- The frames of a suspended thread by its place: the statements behind a wait of its live part, with what stands behind the statements around it. This
--- project's own.
+-- The frames of a suspended thread by its place. This project's own.
+-- They are the statements behind a wait of its live part, with what stands behind the statements around it.
 use Rattle.std.specs.Prelude.{ℕ, Bool, true, false, List, [], ◌∷◌, ◌++◌, Option, Some, None, option_map, slice_get}
 use Rattle.scc_meaning.specs.Value.{Names}
 use Rattle.scc_running.specs.Body as machine

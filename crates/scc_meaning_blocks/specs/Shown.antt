@@ -1,5 +1,5 @@
--- A valuation shows a store with requests: how the cells of a process stand among the variables of its block. With n cells the variable 2c is cell c, 2c + 1
--- its next value, and 2n the number of the block that is being left. This project's own.
+-- A valuation shows a store with requests: how the cells of a process stand among the variables of its block. This project's own.
+-- With n cells the variable 2c is cell c, 2c + 1 its next value, and 2n the number of the block that is being left.
 use Rattle.std.specs.Prelude.{◌≡◌, ℕ, ◌+◌, ◌*◌, Bool, true, false, List, length, Option, Some, None, slice_get}
 use Rattle.scc_meaning_core.specs.Program.{Sort, Pointer, Port, is_root}
 use Rattle.scc_meaning_core.specs.Static.{Cells}

@@ -13,7 +13,8 @@ use Rattle.scc_trace.specs.declared.stim.ClockStep.{ClockStep}
 use Rattle.scc_trace.specs.declared.stim.Version.{Version}
 use Rattle.scc_trace.specs.declared.stim.Version.TheVariants as version
 use Rattle.scc_trace.specs.Cut.{Bytes, first}
-use Rattle.scc_trace.specs.Stimulus.{stim_of, version_of}
+use Rattle.scc_trace.specs.Head.{version_of}
+use Rattle.scc_trace.specs.Stimulus.{stim_of}
 use Rattle.scc_trace.specs.Clocks.{clock_stim_of}
 use Rattle.scc_trace.specs.Text.{trace_text}
 use Rattle.scc_kinds.specs.Bits.{part}

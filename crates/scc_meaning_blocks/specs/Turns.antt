@@ -1,5 +1,5 @@
--- A machine of registers, between the source and the module: words by cells, and the place of each thread. It runs segments in place of frames of
--- statements. This project's own.
+-- A machine of registers, between the source and the module: words by cells, and the place of each thread. This project's own.
+-- It runs segments in place of frames of statements.
 use Rattle.std.specs.Prelude.{ℕ, zero, suc, nat_eq, Bool, true, false, ◌&&◌, ◌||◌, List, [], ◌∷◌, length, filter, Option, Some, None, option_map, option_and_then, slice_get, unwrap_or, is_some, not, if◌then◌else◌}
 use Rattle.scc_meaning_core.specs.Program.{Program, Process, Edge, Reset, is_combinational, is_local, is_root}
 use Rattle.scc_meaning_core.specs.Static.{Cells}

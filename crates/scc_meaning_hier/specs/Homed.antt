@@ -1,5 +1,5 @@
--- Which module objects a design has, and in which of them each block of its module stands: in that around the object whose constructor declared the
--- block's process (IEEE 1666-2011, 5.2.9; that a block stands there is this project's own).
+-- Which module objects a design has, and in which of them each block of its module stands (IEEE 1666-2011, 5.2.9; where a block stands is this project's own).
+-- It stands in the module object around the object whose constructor declared the block's process.
 use Rattle.std.specs.Prelude.{◌≡◌, ℕ, zero, suc, nat_eq, Bool, false, ◌||◌, List, [], ◌∷◌, ◌++◌, map, filter, flat_map, take, position, length, Option, Some, None, option_map, option_and_then, slice_get, unwrap_or, is_some, if◌then◌else◌}
 use Rattle.std.specs.List.{range_with_len}
 use Rattle.scc_meaning.specs.Location.{Part, same_path}

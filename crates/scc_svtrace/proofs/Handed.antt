@@ -15,7 +15,8 @@ use Rattle.scc_trace.specs.declared.stim.StimStep.{StimStep}
 use Rattle.scc_trace.specs.declared.stim.Version.{Version}
 use Rattle.scc_trace.specs.declared.found.Found.{Found}
 use Rattle.scc_trace.specs.Cut.{Bytes, Piece, lines, words}
-use Rattle.scc_trace.specs.Stimulus.{Outcome, ◌>>=◌, found_of, step_in, hex_of, with_value, first_wide, word, widths_of, names_of, edge_of, formed_step, fitting_step, step_of, each_line, steps_of, stim_of, next_line, version_at, line_at, names_line}
+use Rattle.scc_trace.specs.Head.{Outcome, ◌>>=◌, next_line, version_at, line_at, names_line}
+use Rattle.scc_trace.specs.Stimulus.{found_of, step_in, hex_of, with_value, first_wide, word, widths_of, names_of, edge_of, formed_step, fitting_step, step_of, each_line, steps_of, stim_of}
 use Rattle.scc_svtrace.specs.Ports.{port_of, in_ports}
 use Rattle.scc_svtrace.specs.Trace.{IsHanded, AreAllHanded}
 

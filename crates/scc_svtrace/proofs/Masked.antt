@@ -15,7 +15,8 @@ use Rattle.scc_trace.specs.declared.found.Found.{Found}
 use Rattle.scc_trace.specs.declared.clock_steps.Masked.{Masked}
 use Rattle.scc_trace.specs.Clocks.{with_mask, masked_of, fitting_step, formed_step, step_in, clock_step_of, clocked_at, clock_stim_of}
 use Rattle.scc_trace.specs.Cut.{Bytes, Piece, lines, words}
-use Rattle.scc_trace.specs.Stimulus.{Outcome, ◌>>=◌, found_of, hex_of, first_wide, word, widths_of, names_of, each_line, next_line, line_at, names_line, refused}
+use Rattle.scc_trace.specs.Head.{Outcome, ◌>>=◌, next_line, line_at, names_line, refused}
+use Rattle.scc_trace.specs.Stimulus.{found_of, hex_of, first_wide, word, widths_of, names_of, each_line}
 use Rattle.scc_base.specs.declared.code.Code.TheVariants.{StimText}
 use Rattle.scc_svtrace.specs.Ports.{in_ports}
 use Rattle.scc_svtrace.specs.Clocked.{IsHanded, AreAllHanded}

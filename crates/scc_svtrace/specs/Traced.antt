@@ -7,7 +7,8 @@ use Rattle.scc_svtree.specs.declared.module.SvModule.{SvModule}
 use Rattle.scc_trace.specs.declared.stim.StimStep.{StimStep}
 use Rattle.scc_trace.specs.declared.stim.Version.{Version}
 use Rattle.scc_trace.specs.Cut.{Bytes, first}
-use Rattle.scc_trace.specs.Stimulus.{stim_of, version_of}
+use Rattle.scc_trace.specs.Head.{version_of}
+use Rattle.scc_trace.specs.Stimulus.{stim_of}
 use Rattle.scc_svtrace.specs.Ports.{in_ports}
 use Rattle.scc_svtrace.specs.Trace.{Shown, input_of, header}
 

@@ -1,11 +1,11 @@
 -- A stimulus that is written is read as the steps that it was written of.
-use Rattle.std.specs.Prelude.{◌≡◌, ℕ, zero, suc, ◌+◌, ◌*◌, ◌/◌, ◌%◌, ◌^◌, ◌<◌, ◌≤◌, nat_eq, nat_le, nat_lt, Bool, true, false, not, ◌&&◌, cond, if◌then◌else◌, List, [], ◌∷◌, ◌++◌, length, map, flat_map, codes, bytes_eq, Option, Some, None, Ok, Err, refl}
+use Rattle.std.specs.Prelude.{◌≡◌, ℕ, zero, suc, ◌+◌, ◌*◌, ◌/◌, ◌%◌, ◌^◌, ◌<◌, ◌≤◌, nat_eq, nat_le, nat_lt, Bool, true, false, not, ◌&&◌, cond, if◌then◌else◌, List, [], ◌∷◌, ◌++◌, length, flat_map, codes, bytes_eq, Option, Some, None, Ok, refl}
 use Rattle.std.specs.List.{list_all}
 use Rattle.std.proofs.Common.{sym, ◌∙◌, ap, append_assoc, arith}
 use Rattle.std.proofs.lemmas.Bool.{and_parts, and_from, not-true, false≢true, le-leb, leb-true, ltb-true, ne_eqb, eqb-true, agree_below_at}
 use Rattle.std.proofs.lemmas.List.{append-nil}
 use Rattle.std.proofs.lemmas.Slice.Eq.{bytes_eq-Decides}
-use Rattle.std.proofs.lemmas.Nat.{pow-add, pow_pos, mod-pow-add}
+use Rattle.std.proofs.lemmas.Nat.{pow-add, mod-pow-add}
 use Rattle.std.proofs.Math.Nat.{mod-eq_of_lt}
 use Rattle.std.proofs.Math.Pow.{pow_mono}
 use Rattle.scc_base.specs.declared.code.Code.TheVariants.{StimText, StimPort as WrongPorts}
@@ -16,7 +16,8 @@ use Rattle.scc_trace.specs.declared.stim.Version.TheVariants.{Two}
 use Rattle.scc_trace.specs.declared.found.Found.{Found}
 use Rattle.scc_trace.specs.Cut.{Bytes, Piece, onto, lines, words, first}
 use Rattle.scc_trace.specs.Laws.{lacks, is_port}
-use Rattle.scc_trace.specs.Stimulus.{Outcome, ◌>>=◌, refused, word, digit_of, digit_more, number_from, hex_of, first_wide, with_value, found_of, widths_of, names_of, edge_of, formed_step, step_in, step_of, steps_of, each_line, next_line, version_at, names_text, names_line, line_at, stim_of}
+use Rattle.scc_trace.specs.Head.{◌>>=◌, refused, next_line, version_at, names_text, names_line, line_at}
+use Rattle.scc_trace.specs.Stimulus.{digit_of, digit_more, number_from, hex_of, with_value, found_of, widths_of, names_of, edge_of, formed_step, step_in, step_of, steps_of, each_line, stim_of}
 use Rattle.scc_trace.specs.Text.{digit, hex_text, digits_of, all_fit, values_text, edge_text, step_text, version_text, stim_text_of}
 
 abbrev piece : ℕ → Bytes → Piece

@@ -1,5 +1,5 @@
 -- Texts cut at a separator.
-use Rattle.std.specs.Prelude.{◌≡◌, ℕ, suc, ◌+◌, ◌-◌, ◌≤◌, ◌<◌, zero, nat_eq, not, Bool, true, false, cond, List, [], ◌∷◌, length, take, drop, refl}
+use Rattle.std.specs.Prelude.{◌≡◌, ℕ, suc, ◌+◌, ◌-◌, ◌≤◌, ◌<◌, nat_eq, not, Bool, true, false, cond, [], ◌∷◌, length, take, drop, refl}
 use Rattle.std.specs.List.{prefix_len}
 use Rattle.std.proofs.Common.{sym, ◌∙◌, ap, arith}
 use Rattle.std.proofs.lemmas.List.Sums.{prefix_len-le-length}

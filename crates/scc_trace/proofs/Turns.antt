@@ -1,5 +1,5 @@
 -- What one turn of a loop adds, and what is left at its end.
-use Rattle.std.specs.Prelude.{◌≡◌, ℕ, suc, ◌+◌, ◌^◌, ◌<◌, ◌≤◌, nat_lt, Bool, true, false, if◌then◌else◌, List, [], ◌∷◌, ◌++◌, length, drop, get_or, map, Option, Some, None, Ok, Err, refl}
+use Rattle.std.specs.Prelude.{◌≡◌, ℕ, suc, ◌+◌, ◌^◌, ◌<◌, ◌≤◌, nat_lt, Bool, true, false, if◌then◌else◌, List, [], ◌∷◌, ◌++◌, length, drop, get_or, Option, Some, None, Ok, Err, refl}
 use Rattle.std.proofs.Common.{sym, ◌∙◌, ap, append_assoc, arith}
 use Rattle.std.proofs.lemmas.List.{append-nil, drop_more, drop_all}
 use Rattle.scc_base.specs.declared.refusal.Refusal.{Refusal}
@@ -8,7 +8,8 @@ use Rattle.scc_kinds.specs.declared.kind.Word.{Word}
 use Rattle.scc_trace.specs.declared.stim.StimPort.{StimPort}
 use Rattle.scc_trace.specs.declared.found.Found.{Found}
 use Rattle.scc_trace.specs.Cut.{Bytes, Piece, lines, words_behind}
-use Rattle.scc_trace.specs.Stimulus.{Outcome, ◌>>=◌, refusal, refused, word, hex_of, found_of, first_wide, noted, with_value, widths_of, each_line, next_line}
+use Rattle.scc_trace.specs.Head.{Outcome, ◌>>=◌, refusal, refused, next_line}
+use Rattle.scc_trace.specs.Stimulus.{word, hex_of, found_of, first_wide, noted, with_value, widths_of, each_line}
 use Rattle.scc_trace.specs.Answer.{Fails}
 use Rattle.scc_base.specs.declared.refusal.Stop.{Stop}
 use Rattle.scc_base.specs.declared.refusal.Stop.TheVariants as stop

@@ -1,5 +1,5 @@
--- What a stimulus text of version 3 says, or where it is refused first.
-use Rattle.std.specs.Prelude.{ℕ, if◌then◌else◌, List, [], ◌∷◌, length, codes, bytes_eq, Option, Some, None, Ok, Err}
+-- What a stimulus text of version 3 says, or where it is refused first. This project's own.
+use Rattle.std.specs.Prelude.{ℕ, if◌then◌else◌, List, [], ◌∷◌, length, codes, bytes_eq, Option, Some, None, Ok}
 use Rattle.scc_base.specs.declared.code.Code.TheVariants.{StimText, StimValue}
 use Rattle.scc_kinds.specs.declared.kind.Word.{Word}
 use Rattle.scc_trace.specs.declared.stim.StimPort.{StimPort}
@@ -7,7 +7,8 @@ use Rattle.scc_trace.specs.declared.stim.ClockStep.{ClockStep}
 use Rattle.scc_trace.specs.declared.found.Found.{Found}
 use Rattle.scc_trace.specs.declared.clock_steps.Masked.{Masked}
 use Rattle.scc_trace.specs.Cut.{Bytes, Piece, lines, words}
-use Rattle.scc_trace.specs.Stimulus.{Outcome, ◌>>=◌, refused, word, hex_of, first_wide, found_of, widths_of, names_of, each_line, next_line, line_at, names_line}
+use Rattle.scc_trace.specs.Head.{Outcome, ◌>>=◌, refused, next_line, line_at, names_line}
+use Rattle.scc_trace.specs.Stimulus.{word, hex_of, first_wide, found_of, widths_of, names_of, each_line}
 
 -- a mask has a bit for each clock
 abbrev pub with_mask : ℕ → ℕ → Option ℕ → Option Found → Option Masked

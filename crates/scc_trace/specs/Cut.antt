@@ -1,4 +1,4 @@
--- A text cut into lines, and a line into words.
+-- A text cut into lines, and a line into words. This project's own.
 use Rattle.std.specs.Prelude.{ℕ, suc, nat_eq, cond, List, [], ◌∷◌}
 
 abbrev pub Bytes : Type 0

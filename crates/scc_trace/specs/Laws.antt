@@ -1,4 +1,4 @@
--- What a written stimulus says.
+-- What a written stimulus says. This project's own.
 use Rattle.std.specs.Prelude.{◌≡◌, ℕ, nat_eq, nat_le, Bool, true, not, ◌&&◌, List, [], ◌∷◌, Ok}
 use Rattle.std.specs.List.{list_all}
 use Rattle.scc_trace.specs.declared.stim.StimPort.{StimPort}

@@ -4,5 +4,6 @@ pub mod Cut
 pub mod Laws
 pub mod Source
 pub mod Spans
+pub mod Head
 pub mod Stimulus
 pub mod Text

@@ -1,4 +1,4 @@
--- The source of a generated design: a row of stages, each a thread that adds the stage's number.
+-- The source of a generated design: a row of stages, each a thread that adds the stage's number. This project's own.
 use Rattle.std.specs.Prelude.{ℕ, ◌++◌, codes, decimal}
 use Rattle.scc_trace.specs.Cut.{Bytes}
 

@@ -1,4 +1,4 @@
--- Spans of the code as pieces.
+-- Spans of the code as pieces. This project's own.
 use Rattle.std.specs.Prelude.{ℕ, ◌+◌, length, List, [], Option, Some, None}
 use Rattle.scc_trace.specs.declared.span.Span.{Span}
 use Rattle.scc_trace.specs.Cut.{Piece, lines, words, words_behind}

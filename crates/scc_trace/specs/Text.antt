@@ -1,11 +1,11 @@
--- The texts that are written: stimuli of version 2, and lines of traces.
-use Rattle.std.specs.Prelude.{ℕ, zero, suc, ◌+◌, ◌*◌, ◌/◌, ◌%◌, ◌^◌, nat_lt, nat_le, nat_eq, Bool, true, false, not, ◌&&◌, if◌then◌else◌, List, [], ◌∷◌, ◌++◌, flat_map, codes, decimal}
-use Rattle.std.specs.List.{list_all}
+-- The texts that are written: stimuli of version 2, and lines of traces. This project's own.
+use Rattle.std.specs.Prelude.{ℕ, zero, suc, ◌+◌, ◌*◌, ◌/◌, ◌%◌, ◌^◌, nat_lt, Bool, true, false, ◌&&◌, if◌then◌else◌, List, [], ◌∷◌, ◌++◌, flat_map, codes, decimal}
 use Rattle.scc_kinds.specs.declared.kind.Word.{Word}
 use Rattle.scc_trace.specs.declared.stim.StimPort.{StimPort}
 use Rattle.scc_trace.specs.declared.stim.StimStep.{StimStep}
 use Rattle.scc_trace.specs.Cut.{Bytes}
-use Rattle.scc_trace.specs.Stimulus.{names_of, names_line}
+use Rattle.scc_trace.specs.Head.{names_line}
+use Rattle.scc_trace.specs.Stimulus.{names_of}
 
 -- ---- words
 

@@ -3,8 +3,8 @@ ghost use Rattle.std.specs.Prelude.{◌≡◌, ◌++◌, IfOk};
 ghost use Rattle.scc_trace.specs.Answer.{Answers};
 ghost use Rattle.scc_trace.specs.Clocks.{clocked_at};
 ghost use Rattle.scc_trace.specs.Cut.{first};
+ghost use Rattle.scc_trace.specs.Head as head;
 ghost use Rattle.scc_trace.specs.Spans.{piece_of, lines_in, end_of};
-ghost use Rattle.scc_trace.specs.Stimulus as stimulus;
 
 use crate::refuse::refuse;
 use crate::span::{Span, before};
@@ -12,9 +12,9 @@ use crate::stim::Version;
 use scc_base::{Code, Stop, Text};
 
 /// The next line, and what is behind it.
-#[tactic(auto, unfolding(crate::specs::Stimulus::next_line))]
+#[tactic(auto, unfolding(crate::specs::Head::next_line))]
 pub fn next_line<'a>(file: u32, text: Span<'a>) -> Result<(Span<'a>, Span<'a>), Stop>
-    ensures next { Answers (λ x. (piece_of x.0, lines_in x.1)) result (stimulus.next_line file (end_of text.entry) (lines_in text.entry)) }
+    ensures next { Answers (λ x. (piece_of x.0, lines_in x.1)) result (head.next_line file (end_of text.entry) (lines_in text.entry)) }
     ensures end { IfOk result (λ x. end_of x.1 ≡ end_of text.entry) }
 {
     if text.bytes.is_empty() {
@@ -25,7 +25,7 @@ pub fn next_line<'a>(file: u32, text: Span<'a>) -> Result<(Span<'a>, Span<'a>), 
 
 // The version that a first line names.
 fn version_named(line: &[u8]) -> Option<Version>
-    ensures { result ≡ stimulus.version_of line.now }
+    ensures { result ≡ head.version_of line.now }
 {
     if line == b"scc-stim 1".as_slice() {
         Some(Version::One)
@@ -37,9 +37,9 @@ fn version_named(line: &[u8]) -> Option<Version>
 }
 
 /// The version of a stimulus, by its first line.
-#[tactic(auto, unfolding(crate::specs::Stimulus::version_at))]
+#[tactic(auto, unfolding(crate::specs::Head::version_at))]
 pub fn version_line(file: u32, line: Span<'_>) -> Result<Version, Stop>
-    ensures { Answers (λ v. v) result (stimulus.version_at file (piece_of line.entry)) }
+    ensures { Answers (λ v. v) result (head.version_at file (piece_of line.entry)) }
 {
     match version_named(line.bytes) {
         Some(version) => Ok(version),
@@ -60,9 +60,9 @@ pub fn clocked_line(file: u32, line: Span<'_>) -> Result<(), Stop>
 }
 
 /// Whether a line is this one, which begins with this word. It is of no form where it begins with another word.
-#[tactic(auto, unfolding(crate::specs::Stimulus::line_at))]
+#[tactic(auto, unfolding(crate::specs::Head::line_at))]
 pub fn this_line(file: u32, line: Span<'_>, word: &[u8], wanted: &Text) -> Result<(), Stop>
-    ensures { Answers (λ _. tt) result (stimulus.line_at file word.now wanted.now (piece_of line.entry)) }
+    ensures { Answers (λ _. tt) result (head.line_at file word.now wanted.now (piece_of line.entry)) }
 {
     let (first, _) = line.first_word();
     if first.bytes != word {
@@ -76,7 +76,7 @@ pub fn this_line(file: u32, line: Span<'_>, word: &[u8], wanted: &Text) -> Resul
 
 /// The version that the first line of a text names; None where it names none.
 pub fn version(bytes: &[u8]) -> Option<Version>
-    ensures { result ≡ stimulus.version_of (first 10 bytes.now) }
+    ensures { result ≡ head.version_of (first 10 bytes.now) }
 {
     version_named(before(10, bytes))
 }

@@ -1,6 +1,7 @@
 //! Lines of names.
 ghost use Rattle.std.specs.Prelude.{◌≡◌, ◌++◌, ◌∷◌, codes, IfOk, OnOk};
-ghost use Rattle.scc_trace.specs.Stimulus.{names_of, names_text, names_line};
+ghost use Rattle.scc_trace.specs.Head.{names_text, names_line};
+ghost use Rattle.scc_trace.specs.Stimulus.{names_of};
 
 use crate::stim::StimPort;
 use scc_base::{NoMemory, Text};
@@ -25,7 +26,7 @@ fn port_names(out: &mut Text, ports: &[StimPort]) -> Result<(), NoMemory>
 }
 
 /// The line that names the ports, without its end.
-#[tactic(auto, unfolding(crate::specs::Stimulus::names_line))]
+#[tactic(auto, unfolding(crate::specs::Head::names_line))]
 pub fn ports_line(alloc: Global, ports: &[StimPort]) -> Result<Text, NoMemory>
     ensures { IfOk result (λ t. t ≡ names_line (codes "ports") (names_of ports.now)) }
 {
@@ -36,7 +37,7 @@ pub fn ports_line(alloc: Global, ports: &[StimPort]) -> Result<Text, NoMemory>
 }
 
 /// The line that names the clocks, without its end.
-#[tactic(auto, unfolding(crate::specs::Stimulus::names_line))]
+#[tactic(auto, unfolding(crate::specs::Head::names_line))]
 pub fn clocks_line(alloc: Global, clocks: &[Text]) -> Result<Text, NoMemory>
     ensures { IfOk result (λ t. t ≡ names_line (codes "clocks") clocks.now) }
 {

@@ -1,7 +1,7 @@
 //! Refuses a text.
 ghost use Rattle.std.specs.Prelude.{◌≡◌, Err};
 ghost use Rattle.scc_base.specs.declared.refusal.Stop.TheVariants as stop;
-ghost use Rattle.scc_trace.specs.Stimulus.{refusal};
+ghost use Rattle.scc_trace.specs.Head.{refusal};
 
 use scc_base::{Code, Place, Refusal, Stop};
 

@@ -1,5 +1,5 @@
 use Rattle.std.proofs.Common.{◌≡◌, ◌++◌, take}
-use Rattle.scc_trace.specs.Stimulus.{names_text}
+use Rattle.scc_trace.specs.Head.{names_text}
 use Rattle.scc_trace.proofs.names.clocks_line.Given as goal
 
 abbrev pub invariant-loop-clock : goal.invariant-loop-clock

@@ -1,5 +1,6 @@
 use Rattle.std.proofs.Common.{◌≡◌, ◌++◌, take}
-use Rattle.scc_trace.specs.Stimulus.{names_of, names_text}
+use Rattle.scc_trace.specs.Head.{names_text}
+use Rattle.scc_trace.specs.Stimulus.{names_of}
 use Rattle.scc_trace.proofs.names.port_names.Given as goal
 
 abbrev pub invariant-loop-port : goal.invariant-loop-port

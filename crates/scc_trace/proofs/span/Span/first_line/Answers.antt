@@ -1,4 +1,4 @@
-use Rattle.std.proofs.Common.{arith, refl}
+use Rattle.std.proofs.Common.{refl}
 use Rattle.scc_trace.proofs.Cuts.{cut_last, cut_more}
 use Rattle.scc_trace.proofs.span.Span.first_line.Goals as goal
 
