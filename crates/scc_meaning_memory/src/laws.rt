@@ -71,9 +71,10 @@ pub fn memories_are_written_as_text()
     ensures whole { (bytes : List ℕ) (m : MemModule) → MemReads bytes m → IsSoundMemory m }
 {}
 
-/// A module whose ports write a memory is right; one in which a memory has a variable's name isn't. An element counts as a choice by its index.
+/// A module whose ports write a memory is right, and has a text; one in which a memory has a variable's name isn't. An element counts as a choice by its index.
 pub fn modules_with_memories_are_right()
     ensures right { IsSoundMemory kept }
     ensures twice { IsSoundMemory twice → ⊥ }
+    ensures read { (bytes : List ℕ) × MemReads bytes kept }
     ensures element { term_like kept.memories (Element 0 (Part (Whole (record { 0 = 4 })))) ≡ Cond (whole 4) (Literal 4 0) (Literal 4 0) }
 {}
