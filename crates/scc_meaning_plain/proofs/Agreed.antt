@@ -1,10 +1,10 @@
 -- Constructors and the machine agree on the statements that both have.
-use Rattle.std.proofs.Common.{◌≡◌, ℕ, zero, suc, List, [], ◌∷◌, ◌++◌, Bool, true, false, ◌&&◌, refl, ap, subst}
+use Rattle.std.proofs.Common.{◌≡◌, ℕ, zero, suc, List, [], ◌++◌, true, false, ◌&&◌, refl, subst}
 use Rattle.std.specs.Prelude.{slice_get}
 use Rattle.scc_meaning.specs.Store.{Request}
 use Rattle.scc_running.specs.Body as machine
 use Rattle.scc_running.specs.Body.{Body}
-use Rattle.scc_running.specs.Machine.{Frames, Mark, Inner, BehindBlock, Stop, Go, leave, pick, unless_stuck}
+use Rattle.scc_running.specs.Machine.{Frames, Mark, Inner, BehindBlock, Stop, Go, leave, pick}
 use Rattle.scc_meaning_core.specs.Resolved.{Tried, Made, Stopped, and_made}
 use Rattle.scc_meaning_plain.specs.Term.{Term}
 use Rattle.scc_meaning_plain.specs.Program.{Code, End, Declare, Assign, Point, If, Loop, Block, Exit}
@@ -12,12 +12,13 @@ use Rattle.scc_meaning_plain.specs.Design.{Object}
 use Rattle.scc_meaning_plain.specs.Bodies.{elements, aimed, local_as_whole}
 use Rattle.scc_meaning_plain.specs.Worth.{Site, at_now, spot, worth, target, assigned}
 use Rattle.scc_meaning_plain.specs.Construct.{Making, Now, Ran, Fell, sizes_of, declared_from, point_at, choose_of, most_turns, then_run, shut, from_tried, ran_in}
-use Rattle.scc_meaning_plain.specs.Spoken.{left_of, expr_of, body_of, is_first}
+use Rattle.scc_meaning_plain.specs.Spoken.{expr_of, body_of, is_first}
 use Rattle.scc_meaning_plain.specs.Typed.{IsTyped, IsTypedCode}
 use Rattle.scc_meaning_plain.specs.Common.{Agrees, is_small, is_common, names_of}
 use Rattle.scc_meaning_plain.proofs.Chains.{and-first, and-second}
-use Rattle.scc_meaning_plain.proofs.Regular.{IsFine, places_by, valued-at}
-use Rattle.scc_meaning_plain.proofs.Follows.{Follows, reaches-same, reaches-one, reaches-end, follows-after, follows-then, follows-shut, follows-tried, follows-looped, go, held}
+use Rattle.scc_meaning_plain.proofs.Regular.{IsFine, places_by, regular-at, valued-at}
+use Rattle.scc_meaning_plain.proofs.Steps.{reaches-same, reaches-one, step-end, step-if}
+use Rattle.scc_meaning_plain.proofs.Follows.{Follows, follows-after, follows-then, follows-shut, follows-tried, follows-looped, held}
 use Rattle.scc_meaning_plain.proofs.Assigned.{assign-is}
 use Rattle.scc_meaning_plain.proofs.Pointed.{point-is}
 use Rattle.scc_meaning_plain.proofs.Cleared.{declare-is}
@@ -44,8 +45,7 @@ module _ (turns : ℕ) (make : Making) (s : Site) (os : List Object) where
       → Follows s os (from_tried (worth (at_now s n.grown) t) (λ x. choose_of x fa fb n)) (frames mark (machine.If (expr_of s.plain s.function t) a b rest) k) (held n rs) (frames Inner rest k)
   test-follows t d fa fb a b rest mark k n rs fine p q = follows-tried s os (worth (at_now s n.grown) t) (λ x. choose_of x fa fb n) (frames mark (machine.If (expr_of s.plain s.function t) a b rest) k) (frames Inner rest k) (held n rs)
       (λ x e. follows-after s os (choose_of x fa fb n) (frames mark (machine.If (expr_of s.plain s.function t) a b rest) k) (frames Inner (pick x a b) (frames Inner rest k)) (frames Inner rest k) (held n rs) (held n rs)
-      (reaches-one (places_by s os) (frames mark (machine.If (expr_of s.plain s.function t) a b rest) k) (frames Inner (pick x a b) (frames Inner rest k)) (held n rs) (held n rs)
-      (λ j. ap (λ o. unless_stuck (held n rs) o (λ x. go (places_by s os) j (frames Inner (pick x a b) (frames Inner rest k)) (held n rs))) (valued-at s os n fine t x d e)))
+      (step-if (places_by s os) mark (names_of s) rest k (held n rs) (expr_of s.plain s.function t) a b x (valued-at s os n fine t x d e))
       (choose-follows x fa fb a b n rs (frames Inner rest k) p q))
 
   then-tried : {A : Type 0} (t : Tried A) (f : A → Ran) (next : Now → Ran) → then_run (from_tried t f) next ≡ from_tried t (λ x. then_run (f x) next)
@@ -54,7 +54,7 @@ module _ (turns : ℕ) (make : Making) (s : Site) (os : List Object) where
 
   pub follows-code : (c : Code) → is_common s.function c ≡ true → IsTypedCode c → (before : List ℕ) (mark : Mark) (k : Frames) (n : Now) (rs : List Request) → IsFine s os n
       → Follows s os (ran_in turns make s c n) (frames mark (body before c) k) (held n rs) k
-  follows-code End common typed before mark k n rs fine = (rs, reaches-end (places_by s os) mark (names_of s) k (held n rs), fine)
+  follows-code End common typed before mark k n rs fine = (rs, step-end (places_by s os) mark (names_of s) machine.End k (held n rs), fine)
   follows-code (Declare q l r) common typed before mark k n rs fine =
       let small = and-first (is_small (sizes_of (slice_get s.function.locals l))) (is_common s.function r) common in
       let d = declare-is s os l small n fine (body before r) mark k rs in
@@ -80,8 +80,8 @@ module _ (turns : ℕ) (make : Making) (s : Site) (os : List Object) where
       subst (λ (z : Ran). Follows s os z (frames mark (body before (If q t a b r)) k) (held n rs) k) (then-tried (worth (at_now s n.grown) t) (λ x. choose_of x (ran_in turns make s a) (ran_in turns make s b) n) (ran_in turns make s r))
       (follows-then s os (from_tried (worth (at_now s n.grown) t) (λ x. choose_of x (ran_in turns make s a) (ran_in turns make s b) n)) (ran_in turns make s r) (frames mark (body before (If q t a b r)) k) (frames Inner rest k) k (held n rs)
       (test-follows t typed.0 (ran_in turns make s a) (ran_in turns make s b) (body before a) (body (aimed a ++ before) b) rest mark k n rs fine
-        (follows-code a ca typed.1 before Inner (frames Inner rest k) n rs fine)
-        (follows-code b (and-first (is_common s.function b) (is_common s.function r) cr) typed.2 (aimed a ++ before) Inner (frames Inner rest k) n rs fine))
+      (follows-code a ca typed.1 before Inner (frames Inner rest k) n rs fine)
+      (follows-code b (and-first (is_common s.function b) (is_common s.function r) cr) typed.2 (aimed a ++ before) Inner (frames Inner rest k) n rs fine))
       (λ d. refl)
       (λ m rs fine. follows-code r (and-second (is_common s.function b) (is_common s.function r) cr) typed.3 (aimed a ++ (aimed b ++ before)) Inner k m rs fine))
   follows-code (Block q b r) common typed before mark k n rs fine =
@@ -102,8 +102,8 @@ module _ (turns : ℕ) (make : Making) (s : Site) (os : List Object) where
       let cr = and-second (is_common s.function a) (is_common s.function b && is_common s.function turn) cl in
       follows-looped s os turns q (λ n. from_tried (worth (at_now s n.grown) t) (λ x. choose_of x (ran_in turns make s a) (ran_in turns make s b) n)) (ran_in turns make s turn) (names_of s) inside rest (frames Inner next around) k
       (λ n rs fine. test-follows t typed.0.0 (ran_in turns make s a) (ran_in turns make s b) (body before a) (body (aimed a ++ before) b) next Inner around n rs fine
-        (follows-code a ca typed.0.1 before Inner (frames Inner next around) n rs fine)
-        (follows-code b (and-first (is_common s.function b) (is_common s.function turn) cr) typed.0.2 (aimed a ++ before) Inner (frames Inner next around) n rs fine))
+      (follows-code a ca typed.0.1 before Inner (frames Inner next around) n rs fine)
+      (follows-code b (and-first (is_common s.function b) (is_common s.function turn) cr) typed.0.2 (aimed a ++ before) Inner (frames Inner next around) n rs fine))
       (λ n rs fine. follows-code turn (and-second (is_common s.function b) (is_common s.function turn) cr) typed.0.3 (aimed a ++ (aimed b ++ before)) Inner around n rs fine)
       (λ d. refl) mark n rs fine
   follows-code (Loop q c b r) common typed before mark k n rs fine =
@@ -120,4 +120,4 @@ pub agrees : (make : Making) (s : Site) (c : Code) → Agrees make s c
 agrees make s c n m regular common typed e =
     let fine : IsFine s n.grown.objects n = record { objects = refl; words = regular.words; targets = regular.targets } in
     let r = subst (λ (z : Ran). Follows s n.grown.objects z (Go Inner (names_of s) (body_of s.plain s.function [] c) Stop) (held n []) Stop) e (follows-code most_turns make s n.grown.objects c common typed [] Inner Stop n [] fine) in
-    (r.1.steps 0, held m r.0, r.1.same 0, refl)
+    (r.1.steps 0, held m r.0, r.1.same 0, refl, regular-at s n.grown.objects m r.2)

@@ -1,18 +1,16 @@
 -- An assignment of a constructor, as the machine does it.
-use Rattle.std.proofs.Common.{◌≡◌, ℕ, zero, suc, List, Bool, true, false, Option, Some, None, option_map, option_and_then, ap, refl, sym, ◌∙◌, subst}
+use Rattle.std.proofs.Common.{◌≡◌, ℕ, List, Bool, true, false, Option, Some, None, option_map, option_and_then, ap, refl, sym, ◌∙◌, subst}
 use Rattle.scc_kinds.specs.declared.kind.Kind.{Kind}
 use Rattle.scc_kinds.specs.declared.kind.Kind.TheVariants as kind
-use Rattle.scc_kinds.specs.Kinds.{width_of}
 use Rattle.scc_meaning.specs.Location.{Location}
 use Rattle.scc_meaning.specs.Design.{Number, Places}
 use Rattle.scc_meaning.specs.Body as body
 use Rattle.scc_meaning.specs.Store.{Request, changed}
-use Rattle.scc_meaning.specs.Value.{Scene, index_of, with_bit, followed}
+use Rattle.scc_meaning.specs.Value.{index_of}
 use Rattle.scc_running.specs.Body as machine
 use Rattle.scc_running.specs.Body.{Body}
-use Rattle.scc_running.specs.Machine.{Frames, Mark, Inner, Go, unless_stuck}
+use Rattle.scc_running.specs.Machine.{Frames, Mark, Inner, Go}
 use Rattle.scc_running.specs.Value as value
-use Rattle.scc_running.specs.Value.{Held}
 use Rattle.scc_meaning_core.specs.Resolved.{Made, and_made, made_map}
 use Rattle.scc_meaning_plain.specs.Term.{Term, Left, Pick, Whole, OneBit, Bits, kind_of}
 use Rattle.scc_meaning_plain.specs.Design.{Object, Node, Module, Port, Signal, Variable, Pointer}
@@ -25,7 +23,8 @@ use Rattle.scc_meaning_plain.specs.Common.{names_of, channel_of, thing_now}
 use Rattle.scc_meaning_plain.proofs.Chains.{and_made-is, made_map-is}
 use Rattle.scc_meaning_plain.proofs.Valued.{kind_is, firm}
 use Rattle.scc_meaning_plain.proofs.Regular.{IsFine, of_objects, standing, places_by, scene_with, kind-at, valued-at, located-at, regular-at, changed-at}
-use Rattle.scc_meaning_plain.proofs.Follows.{Reaches, reaches-one, go, held}
+use Rattle.scc_meaning_plain.proofs.Steps.{Reaches, step-assign}
+use Rattle.scc_meaning_plain.proofs.Follows.{held}
 
 some_none : {A : Type 0} {a : A} → Some a ≡ None → (n : ℕ) → n ≡ 0
 some_none e n = cc
@@ -74,14 +73,16 @@ module _ (s : Site) (os : List Object) (n : Now) (fine : IsFine s os n) where
           (c.0, ap (λ q. value.put_at q (scene_with s os n.grown.store) (held n rs) l (pick_of s.plain s.function k) x) (thing-none (standing s os) l d) ∙ c.1, fine)
 
       some : (j : Kind) → kind_there (standing s os) l ≡ Some j → Put (Some j)
-      some j d = (rs,
-          ap (λ q. value.put_at q (scene_with s os n.grown.store) (held n rs) l (pick_of s.plain s.function k) x) (thing-some (standing s os) l j d)
-          ∙ ap (λ q. option_map (λ w. value.with_words (held n rs) (changed l w n.grown.store.words)) q) (pick-is k i j (n.grown.store.words l) x t e),
-          record {
-            objects = fine.objects;
-            words = λ m z. changed-at l (picked j k i (n.grown.store.words l) x) n.grown.store.words m 0 (λ p. some_none (sym d ∙ (ap (kind_there (standing s os)) p ∙ z)) (picked j k i (n.grown.store.words l) x)) (fine.words m z);
-            targets = fine.targets;
-          })
+      some j d = (
+        rs,
+        ap (λ q. value.put_at q (scene_with s os n.grown.store) (held n rs) l (pick_of s.plain s.function k) x) (thing-some (standing s os) l j d)
+            ∙ ap (λ q. option_map (λ w. value.with_words (held n rs) (changed l w n.grown.store.words)) q) (pick-is k i j (n.grown.store.words l) x t e),
+        record {
+          objects = fine.objects;
+          words = λ m z. changed-at l (picked j k i (n.grown.store.words l) x) n.grown.store.words m 0 (λ p. some_none (sym d ∙ (ap (kind_there (standing s os)) p ∙ z)) (picked j k i (n.grown.store.words l) x)) (fine.words m z);
+          targets = fine.targets;
+        },
+      )
 
       by : (o : Option Kind) → kind_there (standing s os) l ≡ o → Put (kind_there (at_now s n.grown) l)
       by None d = subst Put (sym (kind-at s os n fine l ∙ d)) (none d)
@@ -94,7 +95,6 @@ module _ (s : Site) (os : List Object) (n : Now) (fine : IsFine s os n) where
       (Go Inner (names_of s) rest outer) (held (with_grown g) qs) × IsFine s os (with_grown g)
   assign-is l k e g tl tk te d rest mark outer rs =
       let now : Site = at_now s n.grown in
-      let sc : Scene = scene_with s os n.grown.store in
       let places : Places = places_by s os in
       let c = and_made-is (spot now false true l) (λ o. and_made (bit_given now k) (λ i. made_map (put_at now k o i) (worth now e))) g d in
       let f = firm now (regular-at s os n fine) true l c.0 c.1 in
@@ -102,17 +102,8 @@ module _ (s : Site) (os : List Object) (n : Now) (fine : IsFine s os n) where
       let w = made_map-is (put_at now k c.0 b.0) (worth now e) g b.2 in
       let q = put-is rs f.0 k b.0 w.0 tk b.1 in
       let same : put_at now k (Some f.0) b.0 w.0 ≡ g = sym (ap (λ o. put_at now k o b.0 w.0) f.1) ∙ w.2 in
-      let step : (j : ℕ) → go places (suc j) (Go mark (names_of s) (machine.Assign (left_of s.plain s.function true l) (pick_of s.plain s.function k) (expr_of s.plain s.function e) rest) outer) (held n rs)
-          ≡ go places j (Go Inner (names_of s) rest outer) (held (with_grown (put_at now k (Some f.0) b.0 w.0)) q.0) = λ j.
-          ap (λ o. unless_stuck (held n rs) o (λ x. unless_stuck (held n rs) (followed (value.locate sc (left_of s.plain s.function true l)))
-            (λ m. unless_stuck (held n rs) (value.put_at (places.things m) sc (held n rs) m (pick_of s.plain s.function k) x) (go places j (Go Inner (names_of s) rest outer)))))
-            (valued-at s os n fine e w.0 te w.1)
-          ∙ (ap (λ o. unless_stuck (held n rs) (followed o)
-            (λ m. unless_stuck (held n rs) (value.put_at (places.things m) sc (held n rs) m (pick_of s.plain s.function k) w.0) (go places j (Go Inner (names_of s) rest outer))))
-            (located-at s os n fine false true l c.0 tl c.1 ∙ ap Some f.1)
-          ∙ ap (λ o. unless_stuck (held n rs) o (go places j (Go Inner (names_of s) rest outer))) q.1) in
+      let step = step-assign places mark (names_of s) rest outer (held n rs) (left_of s.plain s.function true l) (pick_of s.plain s.function k) (expr_of s.plain s.function e) w.0 f.0
+      (held (with_grown (put_at now k (Some f.0) b.0 w.0)) q.0) (valued-at s os n fine e w.0 te w.1) (located-at s os n fine false true l c.0 tl c.1 ∙ ap Some f.1) q.1 in
       subst (λ g. (qs : List Request) × Reaches (places_by s os)
-        (Go mark (names_of s) (machine.Assign (left_of s.plain s.function true l) (pick_of s.plain s.function k) (expr_of s.plain s.function e) rest) outer) (held n rs)
-        (Go Inner (names_of s) rest outer) (held (with_grown g) qs) × IsFine s os (with_grown g)) same
-      (q.0, reaches-one (places_by s os) (Go mark (names_of s) (machine.Assign (left_of s.plain s.function true l) (pick_of s.plain s.function k) (expr_of s.plain s.function e) rest) outer)
-        (Go Inner (names_of s) rest outer) (held n rs) (held (with_grown (put_at now k (Some f.0) b.0 w.0)) q.0) step, q.2)
+      (Go mark (names_of s) (machine.Assign (left_of s.plain s.function true l) (pick_of s.plain s.function k) (expr_of s.plain s.function e) rest) outer) (held n rs)
+      (Go Inner (names_of s) rest outer) (held (with_grown g) qs) × IsFine s os (with_grown g)) same (q.0, step, q.2)

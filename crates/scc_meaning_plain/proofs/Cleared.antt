@@ -7,13 +7,12 @@ use Rattle.scc_kinds.specs.declared.kind.Kind.{Kind}
 use Rattle.scc_kinds.specs.declared.kind.Kind.TheVariants as kind
 use Rattle.scc_kinds.specs.Numbers.{low}
 use Rattle.scc_meaning.specs.Location.{Location, Element, within}
-use Rattle.scc_meaning.specs.Design.{Places}
 use Rattle.scc_meaning.specs.Body as body
 use Rattle.scc_meaning.specs.Store.{Request, changed}
-use Rattle.scc_meaning.specs.Value.{Scene, index_of, followed}
+use Rattle.scc_meaning.specs.Value.{Scene, index_of}
 use Rattle.scc_running.specs.Body as machine
 use Rattle.scc_running.specs.Body.{Body}
-use Rattle.scc_running.specs.Machine.{Frames, Mark, Inner, Go, unless_stuck, pointed_at, zeroed}
+use Rattle.scc_running.specs.Machine.{Frames, Mark, Inner, Go, pointed_at, zeroed}
 use Rattle.scc_running.specs.Machine as step
 use Rattle.scc_running.specs.Value as value
 use Rattle.scc_running.specs.Value.{Held}
@@ -28,7 +27,8 @@ use Rattle.scc_meaning_plain.specs.Spoken.{element, cleared}
 use Rattle.scc_meaning_plain.specs.Common.{is_small, names_of, channel_of, thing_now, pointer_now}
 use Rattle.scc_meaning_plain.proofs.Chains.{and-first, and-second}
 use Rattle.scc_meaning_plain.proofs.Regular.{IsFine, of_objects, standing, places_by, scene_with, changed-at, changed-same}
-use Rattle.scc_meaning_plain.proofs.Follows.{Reaches, reaches-same, reaches-one, reaches-then, go, held}
+use Rattle.scc_meaning_plain.proofs.Steps.{Reaches, reaches-same, reaches-then, step-clear}
+use Rattle.scc_meaning_plain.proofs.Follows.{held}
 use Rattle.scc_meaning_plain.proofs.Assigned.{thing-none, thing-some}
 
 -- indices of arrays that there may be
@@ -109,14 +109,19 @@ module _ (s : Site) (os : List Object) (k : ℕ) where
     Clears is rs g = (step.cleared (places_by s os) (held n rs) (place is) ≡ held (with_grown g) rs) × IsFine s os (with_grown g)
 
     none-is : (is : List ℕ) (rs : List Request) → slice_get s.function.locals k ≡ None → Clears is rs n.grown
-    none-is is rs e = (ap (λ b. pointed_at b (zeroed (thing_now (standing s os) (place is)) (held n rs) (place is)) (place is) None) (pointer-is None is e)
-        ∙ (ap (λ t. zeroed t (held n rs) (place is)) (thing-none (standing s os) (place is) (kind-is None is e refl))
-        ∙ zeroed-channel (option_and_then (node_of (of_objects os)) (thing_at (of_objects os) (place is))) (held n rs) (place is)), fine)
+    none-is is rs e = (
+      ap (λ b. pointed_at b (zeroed (thing_now (standing s os) (place is)) (held n rs) (place is)) (place is) None) (pointer-is None is e)
+          ∙ (ap (λ t. zeroed t (held n rs) (place is)) (thing-none (standing s os) (place is) (kind-is None is e refl))
+          ∙ zeroed-channel (option_and_then (node_of (of_objects os)) (thing_at (of_objects os) (place is))) (held n rs) (place is)),
+      fine,
+    )
 
     direct-is : (c : Member) (is : List ℕ) (rs : List Request) → slice_get s.function.locals k ≡ Some c → is_direct c.shape.reach ≡ true → Clears is rs (with_word n.grown (place is) 0)
-    direct-is c is rs e d = (ap (λ b. pointed_at b (zeroed (thing_now (standing s os) (place is)) (held n rs) (place is)) (place is) None) (pointer-is (Some c) is e ∙ no_pointer (is_inside c.shape.sizes (map Element is)))
-        ∙ zero_is (kind_there (standing s os) (place is)) refl,
-        record { objects = fine.objects; words = λ m z. changed-at (place is) 0 n.grown.store.words m 0 (λ p. refl) (fine.words m z); targets = fine.targets })
+    direct-is c is rs e d = (
+      ap (λ b. pointed_at b (zeroed (thing_now (standing s os) (place is)) (held n rs) (place is)) (place is) None) (pointer-is (Some c) is e ∙ no_pointer (is_inside c.shape.sizes (map Element is)))
+          ∙ zero_is (kind_there (standing s os) (place is)) refl,
+      record { objects = fine.objects; words = λ m z. changed-at (place is) 0 n.grown.store.words m 0 (λ p. refl) (fine.words m z); targets = fine.targets },
+    )
       where
         no_pointer : (b : Bool) → unwrap_or (option_map (λ m. not (is_direct m.shape.reach)) (if b then Some c else None)) false ≡ false
         no_pointer true = ap not d
@@ -132,11 +137,13 @@ module _ (s : Site) (os : List Object) (k : ℕ) where
             ∙ sym (ap with_words (changed-same (place is) 0 n.grown.store.words (fine.words (place is) z))))
 
     aimed-is : (c : Member) (is : List ℕ) (rs : List Request) → slice_get s.function.locals k ≡ Some c → is_direct c.shape.reach ≡ false → Clears is rs (with_target n.grown (place is) None)
-    aimed-is c is rs e d = (ap (λ h. pointed_at (pointer_now (standing s os) (place is)) h (place is) None)
-        (ap (λ t. zeroed t (held n rs) (place is)) (thing-none (standing s os) (place is) (kind-is (Some c) is e (no_kind (is_inside c.shape.sizes (map Element is)))))
-        ∙ zeroed-channel (option_and_then (node_of (of_objects os)) (thing_at (of_objects os) (place is))) (held n rs) (place is))
-        ∙ null_is (pointer_now (standing s os) (place is)) refl,
-        record { objects = fine.objects; words = fine.words; targets = λ m z. changed-at (place is) None n.grown.store.targets m None (λ p. refl) (fine.targets m z) })
+    aimed-is c is rs e d = (
+      ap (λ h. pointed_at (pointer_now (standing s os) (place is)) h (place is) None)
+          (ap (λ t. zeroed t (held n rs) (place is)) (thing-none (standing s os) (place is) (kind-is (Some c) is e (no_kind (is_inside c.shape.sizes (map Element is)))))
+          ∙ zeroed-channel (option_and_then (node_of (of_objects os)) (thing_at (of_objects os) (place is))) (held n rs) (place is))
+          ∙ null_is (pointer_now (standing s os) (place is)) refl,
+      record { objects = fine.objects; words = fine.words; targets = λ m z. changed-at (place is) None n.grown.store.targets m None (λ p. refl) (fine.targets m z) },
+    )
       where
         no_kind : (b : Bool) → option_and_then direct_kind (if b then Some c else None) ≡ None
         no_kind true = ap (λ b. if b then number_kind c.shape.base else None) d
@@ -160,10 +167,8 @@ module _ (s : Site) (os : List Object) (k : ℕ) where
     clear-step : (is : List ℕ) → AllBelow is → (g : Grown) (rs : List Request) → step.cleared (places_by s os) (held n rs) (place is) ≡ held (with_grown g) rs → (rest : Body) (mark : Mark) (outer : Frames)
         → Reaches (places_by s os) (Go mark (names_of s) (machine.Clear (element s.plain s.function (body.Declared k) is) rest) outer) (held n rs) (Go Inner (names_of s) rest outer) (held (with_grown g) rs)
     clear-step is h g rs e rest mark outer =
-        reaches-one (places_by s os) (Go mark (names_of s) (machine.Clear (element s.plain s.function (body.Declared k) is) rest) outer) (Go Inner (names_of s) rest outer) (held n rs) (held (with_grown g) rs) (λ j.
-        ap (λ o. unless_stuck (held n rs) (followed o) (λ l. go (places_by s os) j (Go Inner (names_of s) rest outer) (step.cleared (places_by s os) (held n rs) l)))
-          (element-is s.plain s.function (scene_with s os n.grown.store) (body.Declared k) (local_of s.object k []) is h refl)
-        ∙ ap (go (places_by s os) j (Go Inner (names_of s) rest outer)) e)
+        step-clear (places_by s os) mark (names_of s) rest outer (held n rs) (element s.plain s.function (body.Declared k) is) (place is) (held (with_grown g) rs)
+        (element-is s.plain s.function (scene_with s os n.grown.store) (body.Declared k) (local_of s.object k []) is h refl) e
 
   -- the machine clears the elements one after another
   abbrev Declares : Option Member → List (List ℕ) → Now → Body → Mark → Frames → List Request → Type 0
@@ -178,10 +183,13 @@ module _ (s : Site) (os : List Object) (k : ℕ) where
       let g : Grown = if is_direct c.shape.reach then with_word n.grown (place is) 0 else with_target n.grown (place is) None in
       let next : Now = record { grown = g; last = n.last } in
       let q = one-is n fine c is rs e in
-      let r = cleared-is c e all h.1 next q.1 rest Inner outer rs in
-      (r.0, reaches-then (places_by s os) (Go mark (names_of s) (cleared s.plain s.function k (is ∷ all) rest) outer) (Go Inner (names_of s) (cleared s.plain s.function k all rest) outer) (Go r.0 (names_of s) rest outer)
-        (held n rs) (held next rs) (held (record { grown = declared_from s k (Some c) all g; last = n.last }) rs)
-        (clear-step n fine is h.0 g rs q.0 (cleared s.plain s.function k all rest) mark outer) r.1, r.2)
+      let r = cleared-is c e all h.1 next q.1 rest Inner outer rs in (
+        r.0,
+        reaches-then (places_by s os) (Go mark (names_of s) (cleared s.plain s.function k (is ∷ all) rest) outer) (Go Inner (names_of s) (cleared s.plain s.function k all rest) outer) (Go r.0 (names_of s) rest outer)
+            (held n rs) (held next rs) (held (record { grown = declared_from s k (Some c) all g; last = n.last }) rs)
+            (clear-step n fine is h.0 g rs q.0 (cleared s.plain s.function k all rest) mark outer) r.1,
+        r.2,
+      )
 
   pub declare-is : is_small (sizes_of (slice_get s.function.locals k)) ≡ true → (n : Now) → IsFine s os n → (rest : Body) (mark : Mark) (outer : Frames) (rs : List Request)
       → Declares (slice_get s.function.locals k) (elements (sizes_of (slice_get s.function.locals k))) n rest mark outer rs

@@ -1,13 +1,12 @@
 -- Runs of the machine that follow the statements of a constructor, whatever comes behind them.
-use Rattle.std.proofs.Common.{◌≡◌, ℕ, zero, suc, List, Bool, true, false, nat_le, if◌then◌else◌, refl, ◌∙◌, subst}
+use Rattle.std.proofs.Common.{◌≡◌, ℕ, zero, suc, List, Bool, true, false, nat_le, if◌then◌else◌, refl, subst}
 use Rattle.scc_base.specs.declared.refusal.Place.{Place}
-use Rattle.scc_meaning.specs.Design.{Places}
 use Rattle.scc_meaning.specs.Store.{Request}
 use Rattle.scc_meaning.specs.Value.{Names}
 use Rattle.scc_running.specs.Body as machine
 use Rattle.scc_running.specs.Body.{Body}
 use Rattle.scc_running.specs.Value.{Held}
-use Rattle.scc_running.specs.Machine.{Frames, Mark, Inner, BehindBlock, Go, Next, leave, run}
+use Rattle.scc_running.specs.Machine.{Frames, Mark, Inner, BehindBlock, Go, leave}
 use Rattle.scc_meaning_core.specs.First.{refused}
 use Rattle.scc_base.specs.declared.code.Code.TheVariants as reason
 use Rattle.scc_meaning_core.specs.Resolved.{Tried, Made, Stopped}
@@ -16,32 +15,7 @@ use Rattle.scc_meaning_plain.specs.Grown.{with_turn}
 use Rattle.scc_meaning_plain.specs.Worth.{Site}
 use Rattle.scc_meaning_plain.specs.Construct.{Now, Ran, Fell, Left_out, Halted, then_run, shut, from_tried, turned, looped}
 use Rattle.scc_meaning_plain.proofs.Regular.{IsFine, places_by}
-
-abbrev pub go : Places → ℕ → Next
-go places = run places (λ f. machine.End) (λ l. 0)
-
--- with some more steps it comes to what it comes to from there
-pub record Reaches (places : Places) (f : Frames) (h : Held) (g : Frames) (i : Held) : Type 0 where
-  pub steps : ℕ → ℕ
-  pub same : (j : ℕ) → go places (steps j) f h ≡ go places j g i
-
-pub reaches-same : (places : Places) (f : Frames) (h : Held) → Reaches places f h f h
-reaches-same places f h = record { steps = λ j. j; same = λ j. refl }
-
-pub reaches-then : (places : Places) (f g k : Frames) (h i j : Held) → Reaches places f h g i → Reaches places g i k j → Reaches places f h k j
-reaches-then places f g k h i j a b = record { steps = λ n. a.steps (b.steps n); same = λ n. a.same (b.steps n) ∙ b.same n }
-
--- one step
-pub reaches-one : (places : Places) (f g : Frames) (h i : Held) → ((j : ℕ) → go places (suc j) f h ≡ go places j g i) → Reaches places f h g i
-reaches-one places f g h i e = record { steps = suc; same = e }
-
--- an empty list takes no step
-pub reaches-end : (places : Places) (mark : Mark) (names : Names) (k : Frames) (h : Held) → Reaches places (Go mark names machine.End k) h k h
-reaches-end places mark names k h = record { steps = λ j. j; same = by }
-  where
-    by : (j : ℕ) → go places j (Go mark names machine.End k) h ≡ go places j k h
-    by zero = refl
-    by (suc j) = refl
+use Rattle.scc_meaning_plain.proofs.Steps.{Reaches, reaches-then, reaches-one}
 
 abbrev pub held : Now → List Request → Held
 held n rs = record { store = n.grown.store; requests = rs }

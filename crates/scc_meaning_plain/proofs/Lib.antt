@@ -1,6 +1,7 @@
 pub mod Chains
 pub mod Valued
 pub mod Regular
+pub mod Steps
 pub mod Follows
 pub mod Assigned
 pub mod Pointed

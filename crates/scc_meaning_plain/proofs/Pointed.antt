@@ -1,14 +1,14 @@
 -- A pointer that is given a target by a constructor, as the machine does it.
-use Rattle.std.proofs.Common.{◌≡◌, ℕ, suc, List, Bool, true, false, ◌||◌, Option, Some, None, option_map, option_and_then, is_some, unwrap_or, if◌then◌else◌, ap, refl, sym, ◌∙◌, subst}
+use Rattle.std.proofs.Common.{◌≡◌, List, Bool, true, false, ◌||◌, Option, Some, None, option_and_then, is_some, if◌then◌else◌, ap, refl, sym, ◌∙◌, subst}
 use Rattle.scc_base.specs.declared.refusal.Place.{Place}
 use Rattle.scc_base.specs.declared.code.Code.TheVariants as reason
 use Rattle.scc_meaning.specs.Location.{Location, Part, Root, Top, Local, Answer}
 use Rattle.scc_meaning.specs.Design.{Places}
-use Rattle.scc_meaning.specs.Store.{Request, changed}
-use Rattle.scc_meaning.specs.Value.{Scene, pointed, followed}
+use Rattle.scc_meaning.specs.Store.{Request}
+use Rattle.scc_meaning.specs.Value.{pointed}
 use Rattle.scc_running.specs.Body as machine
 use Rattle.scc_running.specs.Body.{Body}
-use Rattle.scc_running.specs.Machine.{Frames, Mark, Inner, Go, unless_stuck, pointed_at}
+use Rattle.scc_running.specs.Machine.{Frames, Mark, Inner, Go, pointed_at}
 use Rattle.scc_running.specs.Value as value
 use Rattle.scc_meaning_core.specs.First.{refused}
 use Rattle.scc_meaning_core.specs.Resolved.{Tried, Made, Stopped, and_made}
@@ -24,7 +24,8 @@ use Rattle.scc_meaning_plain.specs.Common.{names_of, pointer_now}
 use Rattle.scc_meaning_plain.proofs.Chains.{made_same, and_made-is}
 use Rattle.scc_meaning_plain.proofs.Valued.{firm}
 use Rattle.scc_meaning_plain.proofs.Regular.{IsFine, standing, places_by, scene_with, pointer-at, located-at, regular-at, changed-at}
-use Rattle.scc_meaning_plain.proofs.Follows.{Reaches, reaches-one, go, held}
+use Rattle.scc_meaning_plain.proofs.Steps.{Reaches, step-point}
+use Rattle.scc_meaning_plain.proofs.Follows.{held}
 
 or_false : (b : Bool) → (b || false) ≡ b
 or_false true = refl
@@ -63,12 +64,14 @@ module _ (s : Site) (os : List Object) (n : Now) (fine : IsFine s os n) where
   Aims l t rs g = (pointed_at (pointer_now (standing s os) l) (held n rs) l t ≡ held (with_grown g) rs) × IsFine s os (with_grown g)
 
   aim : (l : Location) (t : Option Location) (rs : List Request) (b : Bool) → pointer_now (standing s os) l ≡ b → Aims l t rs (if b then with_target n.grown l t else n.grown)
-  aim l t rs true e = (ap (λ c. pointed_at c (held n rs) l t) e,
-      record {
-        objects = fine.objects;
-        words = fine.words;
-        targets = λ m z. changed-at l t n.grown.store.targets m None (λ p. true_false (sym e ∙ (ap (pointer_now (standing s os)) p ∙ z)) t) (fine.targets m z);
-      })
+  aim l t rs true e = (
+    ap (λ c. pointed_at c (held n rs) l t) e,
+    record {
+      objects = fine.objects;
+      words = fine.words;
+      targets = λ m z. changed-at l t n.grown.store.targets m None (λ p. true_false (sym e ∙ (ap (pointer_now (standing s os)) p ∙ z)) t) (fine.targets m z);
+    },
+  )
   aim l t rs false e = (ap (λ c. pointed_at c (held n rs) l t) e, fine)
 
   aim-is : (p : Place) (r : Root) (q : List Part) (t : Option Location) (g : Grown) (rs : List Request) → construct.pointed (at_now s n.grown) p (record { root = r; path = q }) r t ≡ Made g → Aims (record { root = r; path = q }) t rs g
@@ -96,20 +99,14 @@ module _ (s : Site) (os : List Object) (n : Now) (fine : IsFine s os n) where
       (Go Inner (names_of s) rest outer) (held (with_grown g) qs) × IsFine s os (with_grown g)
   point-is p l t g tl tt d declares rest mark outer rs =
       let now : Site = at_now s n.grown in
-      let sc : Scene = scene_with s os n.grown.store in
       let places : Places = places_by s os in
       let c = and_made-is (spot now false false l) (λ o. and_made (target now t) (point_at now p o)) g d in
       let f = firm now (regular-at s os n fine) false l c.0 c.1 in
       let b = and_made-is (target now t) (point_at now p c.0) g c.2 in
       let same : point_at now p (Some f.0) b.0 ≡ Made g = sym (ap (λ o. point_at now p o b.0) f.1) ∙ b.2 in
-      let q = aim-is p f.0.root f.0.path b.0 g rs same in
-      let step : (j : ℕ) → go places (suc j) (Go mark (names_of s) (machine.Point declares (left_of s.plain s.function false l) (target_of s.plain s.function t) rest) outer) (held n rs)
-          ≡ go places j (Go Inner (names_of s) rest outer) (held (with_grown g) rs) = λ j.
-          ap (λ o. unless_stuck (held n rs) o (λ o. unless_stuck (held n rs) (followed (value.locate sc (left_of s.plain s.function false l)))
-            (λ m. go places j (Go Inner (names_of s) rest outer) (pointed_at (places.pointers m) (held n rs) m o))))
-            (target-is t b.0 tt b.1)
-          ∙ (ap (λ o. unless_stuck (held n rs) (followed o) (λ m. go places j (Go Inner (names_of s) rest outer) (pointed_at (places.pointers m) (held n rs) m b.0)))
-            (located-at s os n fine false false l c.0 tl c.1 ∙ ap Some f.1)
-          ∙ ap (go places j (Go Inner (names_of s) rest outer)) q.0) in
-      (rs, reaches-one (places_by s os) (Go mark (names_of s) (machine.Point declares (left_of s.plain s.function false l) (target_of s.plain s.function t) rest) outer)
-        (Go Inner (names_of s) rest outer) (held n rs) (held (with_grown g) rs) step, q.1)
+      let q = aim-is p f.0.root f.0.path b.0 g rs same in (
+        rs,
+        step-point places mark (names_of s) rest outer (held n rs) declares (left_of s.plain s.function false l) (target_of s.plain s.function t) b.0 f.0 (held (with_grown g) rs)
+            (target-is t b.0 tt b.1) (located-at s os n fine false false l c.0 tl c.1 ∙ ap Some f.1) q.0,
+        q.1,
+      )

@@ -1,6 +1,5 @@
 -- What stands where while the statements of a constructor run, and what is held there.
 use Rattle.std.proofs.Common.{◌≡◌, ℕ, List, [], ◌∷◌, Bool, true, false, ◌&&◌, nat_eq, Option, Some, None, ap, refl, sym, ◌∙◌, subst, arith}
-use Rattle.scc_kinds.specs.declared.kind.Kind.{Kind}
 use Rattle.scc_meaning.specs.Location.{Location, Part, Member, Element, Root, Top, Local, Answer, same_part, same_path, same_calls, same_root, same}
 use Rattle.scc_meaning.specs.Design.{Places}
 use Rattle.scc_meaning.specs.Store.{Store, changed}
@@ -44,7 +43,7 @@ same_root-is Top Top e = refl
 same_root-is (Local p c d) (Local q k f) e =
     let h = and-first (nat_eq p q && same_calls c k) (nat_eq d f) e in
     λ i. Local (nat_eq-is p q (and-first (nat_eq p q) (same_calls c k) h) i) (same_calls-is c k (and-second (nat_eq p q) (same_calls c k) h) i)
-        (nat_eq-is d f (and-second (nat_eq p q && same_calls c k) (nat_eq d f) e) i)
+    (nat_eq-is d f (and-second (nat_eq p q && same_calls c k) (nat_eq d f) e) i)
 same_root-is (Answer p c) (Answer q k) e = λ i. Answer (nat_eq-is p q (and-first (nat_eq p q) (same_calls c k) e) i) (same_calls-is c k (and-second (nat_eq p q) (same_calls c k) e) i)
 same_root-is Top (Local q k f) e = cc
 same_root-is Top (Answer q k) e = cc

@@ -89,8 +89,8 @@ AgreesOnValues s = (e : Term) (x : ℕ) → IsTyped e → worth s e ≡ Made x �
 abbrev pub machine_run : Site → Code → ℕ → Grown → Outcome
 machine_run s c bound g = run (places_now (at_now s g)) (λ f. machine.End) (λ l. 0) bound (Go Inner (names_of s) (body_of s.plain s.function [] c) Stop) (held_in g)
 
--- What such statements make of the store the machine makes of it, with some number of steps. Of requests nothing is said: where an assignment meets a
--- signal, the constructor does nothing, and the machine makes a request.
+-- What such statements make of the store the machine makes of it, with some number of steps; and no more is held than before where nothing stands. Of
+-- requests nothing is said: where an assignment meets a signal, the constructor does nothing, and the machine makes a request.
 abbrev pub Agrees : Making → Site → Code → Type 0
 Agrees make s c = (n m : Now) → IsRegular (at_now s n.grown) → is_common s.function c ≡ true → IsTypedCode c → ran make s c n ≡ Fell m
-    → (bound : ℕ) × (h : Held) × (machine_run s c bound n.grown ≡ Ended h) × (h.store ≡ m.grown.store)
+    → (bound : ℕ) × (h : Held) × (machine_run s c bound n.grown ≡ Ended h) × (h.store ≡ m.grown.store) × IsRegular (at_now s m.grown)

@@ -5,7 +5,7 @@ ghost use Rattle.scc_meaning_core.specs.Term as core;
 ghost use Rattle.scc_meaning_core.specs.Code as stmt;
 ghost use Rattle.scc_meaning_plain.specs.Static.{inlined};
 ghost use Rattle.scc_meaning_plain.specs.Inlined.{copied_program, copied_body, core_cells, too_large};
-ghost use Rattle.scc_meaning_plain.specs.Grown.{nothing};
+ghost use Rattle.scc_meaning_plain.specs.Grown.{nothing, at_path};
 ghost use Rattle.scc_meaning_plain.specs.Made.{built, none_given, grown_of};
 ghost use Rattle.scc_meaning_plain.specs.Elaborated.{elaborated};
 ghost use Rattle.scc_base.specs.declared.code.Code.TheVariants as reason;
@@ -18,13 +18,12 @@ ghost use Rattle.scc_meaning_plain.specs.WorkedRefused.{at, to_bits, with_port, 
 ghost use Rattle.scc_meaning_plain.specs.WorkedClocks.{two_clocks, edges_of};
 ghost use Rattle.scc_meaning_plain.specs.WorkedChosen.{chosen, choosing};
 ghost use Rattle.scc_meaning_plain.specs.Started.{started};
-ghost use Rattle.scc_meaning_plain.specs.Grown.{at_path};
 ghost use Rattle.scc_meaning_plain.specs.WorkedRun.{word_after};
 ghost use Rattle.scc_meaning_plain.specs.Design as design;
 ghost use Rattle.scc_meaning_plain.specs.Stages.{accepted, compiled};
 ghost use Rattle.scc_meaning_plain.specs.Common.{IsRegular, AgreesOnValues, Agrees};
 ghost use Rattle.scc_meaning_plain.specs.Construct.{Making};
-ghost use Rattle.scc_meaning_plain.specs.Worth.{Site};
+ghost use Rattle.scc_meaning_plain.specs.Worth.{Site, at_now};
 ghost use Rattle.scc_meaning_plain.specs.Program.{Code, End};
 ghost use Rattle.scc_meaning_plain.specs.Worked.{here, int, program, made, copied, load};
 
@@ -116,6 +115,11 @@ pub fn calls_are_accepted()
 pub fn the_stages_accept()
     ensures calls { and_made (inlined program made) accepted ≡ Made (copied_program program made) }
     ensures top { option_map (λ t. made_map (λ c. c.processes) t) (compiled false program) ≡ Some (Made []) }
+{}
+
+/// Where nothing is made yet, nothing is held.
+pub fn nothing_is_held_at_first()
+    ensures { (s : Site) → IsRegular (at_now s nothing) }
 {}
 
 /// An expression has one word in a constructor and in the machine, where nothing is held where nothing stands.

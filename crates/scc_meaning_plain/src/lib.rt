@@ -8,7 +8,7 @@ pub use laws::{
     a_port_has_one_binding, a_start_gives_words_in_construction_order, a_top_has_no_parameter,
     an_element_leads_to_a_vector, an_index_that_is_not_static_chooses_no_object,
     calls_are_accepted, calls_are_copied, constructors_and_processes_agree,
-    constructors_and_processes_have_the_same_values, pointers_lead_to_what_is_made,
-    the_index_of_a_bit_comes_first, the_stages_accept, the_top_is_elaborated, the_top_is_made,
-    two_clocks_are_refused_unless_allowed,
+    constructors_and_processes_have_the_same_values, nothing_is_held_at_first,
+    pointers_lead_to_what_is_made, the_index_of_a_bit_comes_first, the_stages_accept,
+    the_top_is_elaborated, the_top_is_made, two_clocks_are_refused_unless_allowed,
 };
