@@ -121,6 +121,35 @@ impl Templates {
         Ok(())
     }
 
+    /// Arguments as they are handed in, each for its parameter.
+    pub(crate) fn pass(&mut self, args: &[Arg], params: &[Param], place: Place) -> Result<(), Stop>
+        ensures stop { IfErr result MayStop }
+    {
+        for (k, arg) in args.iter().enumerate() {
+            match params.get(k) {
+                Some(p) => self.pass_one(p, *arg, place)?,
+                None => return refuse(Code::Arguments, place),
+            }
+        }
+        Ok(())
+    }
+
+    fn pass_one(&mut self, p: &Param, arg: Arg, place: Place) -> Result<(), Stop>
+        ensures stop { IfErr result MayStop }
+    {
+        match (sort_kind(p.sort), arg) {
+            (Some(kind), Arg::Value(v)) => {
+                self.give(v)?;
+                self.value_arg(kind, place)
+            }
+            (None, Arg::Number(_) | Arg::Class(_)) => {
+                self.args.push(arg)?;
+                Ok(())
+            }
+            _ => refuse(Code::Arguments, place),
+        }
+    }
+
     /// Sees that each parameter without an argument has a default, and begins with them.
     pub(crate) fn defaults<'t>(
         &mut self,

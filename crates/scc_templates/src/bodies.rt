@@ -301,8 +301,8 @@ impl Templates {
         Ok(())
     }
 
-    /// The body that counts, where all that stand outside are worked out: one for the instance's arguments, else the first
-    /// in the text.
+    /// The body that counts, where all that stand outside are worked out: the first in the text of those for the instance's
+    /// arguments, inside its specialisation or outside, else the first of the template's.
     pub(crate) fn choose_body(&mut self, f: FunctionKey, cx: &Context) -> Result<(), Stop>
         ensures stop { IfErr result MayStop }
     {
@@ -315,19 +315,36 @@ impl Templates {
             name,
             constructor,
         };
-        self.body = match self.exact.get(&key) {
+        let exact = match self.exact.get(&key) {
             Some(item) => Some(BodyAt {
                 item: *item as usize,
                 inner: None,
                 given: Given::Nothing,
             }),
-            None => self.first_body(i, f, cx),
+            None => None,
+        };
+        self.body = if self.is_special(i, cx) {
+            self.first_body(i, f, exact)
+        } else {
+            match exact {
+                Some(at) => Some(at),
+                None => self.first_body(i, f, self.general_body(i, f)),
+            }
         };
         Ok(())
     }
 
-    fn first_body(&self, i: InstanceId, f: FunctionKey, cx: &Context) -> Option<BodyAt> {
-        let Some(outside) = self.general_body(i, f, cx) else {
+    // Whether an instance has the body of a specialisation.
+    fn is_special(&self, i: InstanceId, cx: &Context) -> bool {
+        match self.body(cx.tree, i) {
+            Some(body) => body.special.is_some(),
+            None => false,
+        }
+    }
+
+    // The first in the text of the body inside and one outside.
+    fn first_body(&self, i: InstanceId, f: FunctionKey, outside: Option<BodyAt>) -> Option<BodyAt> {
+        let Some(outside) = outside else {
             return self.inner_body(i, f);
         };
         match self.inner_body(i, f) {
@@ -350,11 +367,8 @@ impl Templates {
         })
     }
 
-    // The body outside the class for all arguments; a specialisation has none.
-    fn general_body(&self, i: InstanceId, f: FunctionKey, cx: &Context) -> Option<BodyAt> {
-        if self.body(cx.tree, i)?.special.is_some() {
-            return None;
-        }
+    // The body outside a template for all arguments.
+    fn general_body(&self, i: InstanceId, f: FunctionKey) -> Option<BodyAt> {
         let class = Some(self.table.made(i)?.item);
         let name = f.name;
         let constructor = f.constructor;

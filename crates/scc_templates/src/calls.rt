@@ -148,8 +148,8 @@ impl Templates {
         Ok(self.outside.get(&item).copied() == Some(made.list))
     }
 
-    /// The instance of a class for arguments and the defaults of those that are missing. A specialisation has its own
-    /// arguments and takes no others. Refuses as `constant_in`.
+    /// The instance of a class for arguments and the defaults of those that are missing, which are taken as if they were written
+    /// at the place. A specialisation has its own arguments and takes no others. Refuses as `constant_in`.
     pub fn instantiate(
         &mut self,
         tree: &FileTree,
@@ -185,14 +185,14 @@ impl Templates {
                 )?;
             }
             None => {
-                self.pass(args)?;
+                let params = class.params.as_slice();
+                self.pass(args.as_slice(), params, at)?;
                 let call = ClassUse {
                     item: c.0,
                     base: 0,
                     place: at,
                     purpose: Purpose::Instance,
                 };
-                let params = class.params.as_slice();
                 tasks.class(ClassTask::Defaults { call, params })?;
             }
         }
@@ -201,16 +201,6 @@ impl Templates {
             Some(i) => Ok(i),
             None => gone(),
         }
-    }
-
-    // Arguments as they are handed in.
-    fn pass(&mut self, args: &Args) -> Result<(), Stop>
-        ensures stop { IfErr result MayStop }
-    {
-        for arg in args.as_slice() {
-            self.args.push(*arg)?;
-        }
-        Ok(())
     }
 }
 
