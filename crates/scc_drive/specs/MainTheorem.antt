@@ -24,8 +24,8 @@ use Rattle.scc_words.specs.declared.command.Command.TheVariants as command
 use Rattle.scc_words.specs.declared.command.Form.TheVariants as form
 use Rattle.scc_drive.specs.Words.{command_by, roots_of, word_at}
 
--- A design was compiled: `many` says that it may have several clocks, `top` is the name of its top, `name` the name that emitted text has for a location, `own` the names that threads' states and counters
--- have there, `kept` the locations that may be registers; `old` and `new` are what the output took before and after.
+-- A design was compiled: `many` says that it may have several clocks, `top` is the name of its top, `name` the name that emitted text has for a location, `own`
+-- the names that threads' states and counters have there, `kept` the locations that may be registers; `old` and `new` are what the output took before and after.
 pub record IsCompiled (many : Bool) (top : List ℕ) (name : Location → List ℕ) (own : List ℕ → Bool) (kept : Location → Bool) (design : source.Design) (old new : Option (List ℕ)) : Type 0 where
   -- some bytes were written, and nothing else
   pub text : List ℕ
