@@ -1,2 +1,7 @@
 pub mod Statements
 mod KindedSizes
+mod StaticNumbers
+mod StaticNames
+mod StaticElements
+mod StaticTerms
+mod StaticWorked

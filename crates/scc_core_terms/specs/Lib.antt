@@ -3,3 +3,5 @@ pub mod Codes
 pub mod Programs
 pub mod Kinded
 pub mod WorkedBit
+pub mod Whole
+pub mod WorkedStatic
