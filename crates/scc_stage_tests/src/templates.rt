@@ -176,7 +176,8 @@ fn instances_said(alloc: Global, source: &str, asked: &[(u128, Kind)]) -> Result
     Ok(format!(in alloc; "{said}{count}")?)
 }
 
-/// An instance has one number, whoever asks for it; other arguments make another, and too few make none.
+/// An instance has one number, whoever asks for it; other arguments make another; too few, or those of another sort or past their kind, make
+/// none.
 #[test]
 fn makes_instances(rt: HostRuntime) -> Result<(), Fail> {
     for (source, wanted) in [
@@ -188,6 +189,14 @@ fn makes_instances(rt: HostRuntime) -> Result<(), Fail> {
         (
             "template<int N, class C, int M = N + 1> struct S { };",
             "0, 1, 2, 0, 2, 3",
+        ),
+        (
+            "template<class C, int N> struct S { };",
+            "1:1 E307, 1:1 E307, 1:1 E307, 1:1 E307, 1:1 E307, 0",
+        ),
+        (
+            "template<bool B, class C> struct S { };",
+            "1:1 E306, 1:1 E306, 1:1 E306, 1:1 E306, 1:1 E306, 0",
         ),
     ] {
         let said = instances_said(
