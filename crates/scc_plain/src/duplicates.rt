@@ -121,16 +121,18 @@ impl Scopes {
         }
     }
 
-    // A declaration of the file. A specialisation is none of its class's name.
+    // A declaration of the file. A specialisation is none of its class's name, and a class's parameters stand before it.
     fn file_item(&mut self, item: &Item, file: usize) -> Result<(), Stop>
         ensures stop { IfErr result MayStop }
     {
         match &item.node {
             ItemNode::Class(class) => {
+                let scope = self.open()?;
+                self.params(class.params.as_slice(), scope)?;
                 if class.special.is_none() {
                     self.item_name(item, file)?;
                 }
-                self.class(class)
+                self.class(class, scope)
             }
             ItemNode::Outside {
                 params,
@@ -183,12 +185,10 @@ impl Scopes {
         Ok(())
     }
 
-    // A class's parameters and members are one scope.
-    fn class(&mut self, class: &ClassTree) -> Result<(), Stop>
+    // The members of a class, in one scope with its parameters.
+    fn class(&mut self, class: &ClassTree, scope: usize) -> Result<(), Stop>
         ensures stop { IfErr result MayStop }
     {
-        let scope = self.open()?;
-        self.params(class.params.as_slice(), scope)?;
         let fields = class.fields.as_slice();
         let mut taken = 0;
         for (k, item) in class.items.as_slice().iter().enumerate() {
