@@ -4,12 +4,11 @@ ghost use Rattle.scc_bodies.specs.Refusals.{MayStop};
 
 use crate::outside::{Outside, name_place};
 use crate::stage::Order;
-use crate::top::{constructor, made_bare};
 use indexmap::IndexSet;
 use scc_base::{Code, List, Name, NoMemory, Stop, lost};
 use scc_bodies::{FunctionId, Walk, gone, refuse};
 use scc_plaintree::{Base, Reach};
-use scc_statements::class_name;
+use scc_statements::{MadeAt, class_name, constructor, made_bare};
 use scc_templates::{Context, Entry, Found, FunctionKey, InstanceId};
 use scc_tree::{ClassTree, Enumerator, Field, FileTree, FunctionTree, Item, ItemNode};
 
@@ -98,7 +97,8 @@ impl Members {
         }
         let is_initialised = self.is_initialised(field, tree, w)?;
         if form.vector || !is_initialised {
-            made_bare(InstanceId(n), field.place, tree, w)?;
+            let place = field.place;
+            made_bare(InstanceId(n), MadeAt { place, name: place }, tree, w)?;
         }
         Ok(())
     }

@@ -3,11 +3,10 @@ ghost use Rattle.std.specs.Prelude.{IfErr};
 ghost use Rattle.scc_bodies.specs.Refusals.{MayStop};
 
 use crate::stage::Order;
-use crate::top::constructor;
 use scc_base::{List, NoMemory, Place, Stop, lost};
 use scc_bodies::Walk;
 use scc_plaintree::{Plain, PlainClass, PlainMember};
-use scc_statements::walk_body;
+use scc_statements::{constructor, walk_body};
 use scc_templates::InstanceId;
 use scc_tree::FileTree;
 

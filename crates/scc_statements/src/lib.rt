@@ -16,4 +16,4 @@ mod stmts;
 mod switch;
 
 pub use function::walk_body;
-pub use make::class_name;
+pub use make::{MadeAt, class_name, constructor, constructor_for, made_bare};

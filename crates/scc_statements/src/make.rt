@@ -9,9 +9,9 @@ use scc_plaintree::{Base, PlainArg};
 use scc_templates::{FunctionKey, InstanceId};
 use scc_tree::{Expr, FileTree, Ty};
 
-// Where an object is made: the construct, and the name that is refused where there is no constructor.
+/// Where an object is made: the construct, and the name that is refused where there is no constructor.
 #[derive(Clone, Copy)]
-pub(crate) struct MadeAt {
+pub struct MadeAt {
     pub place: Place,
     pub name: Place,
 }
@@ -58,7 +58,11 @@ pub(crate) fn make_args(
             bits: 64,
             signed: false,
         }));
-        return given(args, &[name, size], at.place, tree, flow, w, b);
+        let list = given(args, &[name, size], at.place, tree, flow, w, b)?;
+        if let Base::Class(n) = form.base {
+            made_bare(InstanceId(n), at, tree, w)?;
+        }
+        return Ok(list);
     }
     match form.base {
         Base::Class(n) => class_args(args, InstanceId(n), at, tree, flow, w, b),
@@ -122,6 +126,57 @@ fn are_names(forms: &[Form]) -> bool {
     forms.iter().all(|form| form.base == Base::ModuleName)
 }
 
+/// The constructor of an instance, where it has one with a body; `place` is where it is asked for.
+pub fn constructor(
+    i: InstanceId,
+    place: Place,
+    tree: &FileTree,
+    w: &mut Walk,
+) -> Result<Option<FunctionId>, Stop>
+    ensures stop { IfErr result MayStop }
+{
+    let key = FunctionKey {
+        scope: Some(i),
+        name: class_name(i, tree, w)?,
+        constructor: true,
+    };
+    w.function(key, place, tree)
+}
+
+/// The same, None where its class declares none. Refuses by E301 at the place where it has no body.
+pub fn constructor_for(
+    i: InstanceId,
+    place: Place,
+    tree: &FileTree,
+    w: &mut Walk,
+) -> Result<Option<FunctionId>, Stop>
+    ensures stop { IfErr result MayStop }
+{
+    let name = class_name(i, tree, w)?;
+    if w.templates.first_declared(i, name, true).is_none() {
+        return Ok(None);
+    }
+    match constructor(i, place, tree, w)? {
+        Some(f) => Ok(Some(f)),
+        None => refuse(Code::UnknownName, place),
+    }
+}
+
+/// Sees that an object can be made without arguments. Refuses by E301 at the name where its constructor has no body, and by E304 where this has
+/// parameters but names.
+pub fn made_bare(i: InstanceId, at: MadeAt, tree: &FileTree, w: &mut Walk) -> Result<(), Stop>
+    ensures stop { IfErr result MayStop }
+{
+    let Some(f) = constructor_for(i, at.name, tree, w)? else {
+        return Ok(());
+    };
+    w.sign(f, tree)?;
+    if !are_names(w.params_of(f)) {
+        return refuse(Code::Mismatch, at.place);
+    }
+    Ok(())
+}
+
 // The arguments of a constructor. A module may have its name before them, and no arguments fit where all are names.
 fn class_args(
     args: &[Expr],
@@ -134,14 +189,8 @@ fn class_args(
 ) -> Result<List<PlainArg>, Stop>
     ensures stop { IfErr result MayStop }
 {
-    let name = class_name(i, tree, w)?;
-    let key = FunctionKey {
-        scope: Some(i),
-        name,
-        constructor: true,
-    };
-    let Some(f) = w.function(key, at.name, tree)? else {
-        if !args.is_empty() || w.templates.first_declared(i, name, true).is_some() {
+    let Some(f) = constructor_for(i, at.name, tree, w)? else {
+        if !args.is_empty() {
             return refuse(Code::UnknownName, at.name);
         }
         return Ok(List::new(w.alloc));
