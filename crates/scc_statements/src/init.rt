@@ -29,6 +29,7 @@ pub(crate) fn init(
         if args.len() != 1 {
             return refuse(Code::Mismatch, i.place);
         }
+        b.flush(out)?;
         return Ok(());
     };
     let scope = b.scope.ok_or(lost())?;
@@ -43,8 +44,9 @@ pub(crate) fn init(
     let mut left = PlainLeft::new(w.alloc, i.place, PlainBase::This);
     let member = u32::try_from(k).map_err(|_| lost())?;
     left.parts.push(PlainPart::Member(member))?;
-    if let Some(node) = begun(args, form, left, i.place, tree, w, b)? {
-        b.flush(out)?;
+    let node = begun(args, form, left, i.place, tree, w, b)?;
+    b.flush(out)?;
+    if let Some(node) = node {
         put(out, i.place, node)?;
     }
     Ok(())
@@ -61,7 +63,7 @@ fn names(args: &[Expr], tree: &FileTree, w: &mut Walk, b: &mut Body) -> Result<(
     Ok(())
 }
 
-// How a member begins; None where nothing is to be done.
+// How a member begins; None where nothing but calls of its arguments is to be done.
 fn begun(
     args: &[Expr],
     form: Form,
