@@ -1,4 +1,4 @@
-//! Ports as statements (IEEE 1666-2011, 6.4, 6.8, 6.10).
+//! Ports as statements (IEEE 1666-2011, 6.4, 6.8, 6.12).
 ghost use Rattle.std.specs.Prelude.{IfErr};
 ghost use Rattle.scc_bodies.specs.Refusals.{MayStop};
 

@@ -237,7 +237,7 @@ fn give(
     Ok(())
 }
 
-// `wait`, for 1 to 65,535 edges (IEEE 1666-2011, 5.2.17).
+// `wait`, for 1 to 65,535 edges (IEEE 1666-2011, 5.2.18).
 fn wait(
     count: &Option<Expr>,
     place: Place,
