@@ -39,7 +39,7 @@ abbrev pub made : Place → Kind → CoreExprNode-F CoreBase CoreExprNode CorePa
 made p k x = record { place = p; kind = k; node = roll-CoreExprNode x }
 
 abbrev pub location : Place → CoreBase → List CorePart → Option CorePick → CoreLeft
-location p b ps pick = record { place = p; base = b; parts = ps; pick = pick }
+location p b ps q = record { place = p; base = b; parts = ps; pick = q }
 
 -- an operator has a rule for two kinds, with an answer of a kind and within its limit on widths
 pub record Answers (o : Op) (j k answer : Kind) : Type 0 where
