@@ -78,7 +78,7 @@ module _ (q : Request) (shelf : Shelf) where
     tokens_one j x y (inr p) (inl p') = absurd (not_both j p.0 p'.0 p'.1 p.1 p'.2)
     tokens_one j x y (inr p) (inr p') =
         stage_one (compiled q.many p'.0 (number_in names q.top)) x y
-          (subst (λ t. ByStage (compiled q.many t (number_in names q.top)) x) (one_file j p.0 p'.0 p.1 p'.1) p.2) p'.2
+        (subst (λ t. ByStage (compiled q.many t (number_in names q.top)) x) (one_file j p.0 p'.0 p.1 p'.1) p.2) p'.2
 
     joining_one : (r : Result Joined join.Stopped) (x y : Reason) → ByJoining r x → ByJoining r y → x ≡ y
     joining_one (Ok j) x y p p' = tokens_one j x y p p'
@@ -103,16 +103,28 @@ module _ (q : Request) (shelf : Shelf) where
       subst (λ found. ByEnd found (Refuses sources (refused code place))) (sym (joins_whole (first_part shelf) fixed_names q.roots names sources j d)) (inl (code, (place, (f, refl))))
   by_parts _ (in_a_stage names sources tree r a e) =
       subst (λ found. ByEnd found (Refuses sources r)) (sym (joins_whole (first_part shelf) fixed_names q.roots names sources a.joined a.joins))
-        (inr (tree, (a.reads, by_refusal names sources (compiled q.many tree (number_in names q.top)) r e)))
+      (inr (tree, (a.reads, by_refusal names sources (compiled q.many tree (number_in names q.top)) r e)))
   by_parts _ (without_stimulus names sources tree c name a e asked held) =
       subst (λ found. ByEnd found (Absent name)) (sym (joins_whole (first_part shelf) fixed_names q.roots names sources a.joined a.joins))
-        (inr (tree, (a.reads, subst (λ o. ByStage names sources o (Absent name)) (sym e)
-          (by_stimulus names sources c q.stimulus name (Absent name) asked (subst (λ o. ByHeld names sources c name o (Absent name)) (sym held) refl)))))
+      (inr (
+        tree,
+        (
+          a.reads,
+          subst (λ o. ByStage names sources o (Absent name)) (sym e)
+              (by_stimulus names sources c q.stimulus name (Absent name) asked (subst (λ o. ByHeld names sources c name o (Absent name)) (sym held) refl)),
+        ),
+      ))
   by_parts _ (in_the_stimulus names sources tree c name bytes r a e asked held wrong) =
       let x = Refuses (sources ++ record { name = name; bytes = bytes } ∷ []) r in
       subst (λ found. ByEnd found x) (sym (joins_whole (first_part shelf) fixed_names q.roots names sources a.joined a.joins))
-        (inr (tree, (a.reads, subst (λ o. ByStage names sources o x) (sym e)
-          (by_stimulus names sources c q.stimulus name x asked (subst (λ o. ByHeld names sources c name o x) (sym held) (r, (wrong, refl)))))))
+      (inr (
+        tree,
+        (
+          a.reads,
+          subst (λ o. ByStage names sources o x) (sym e)
+              (by_stimulus names sources c q.stimulus name x asked (subst (λ o. ByHeld names sources c name o x) (sym held) (r, (wrong, refl)))),
+        ),
+      ))
 
 pub one_stop : (q : Request) (shelf : Shelf) (x y : Reason) → StopsFirst q shelf x → StopsFirst q shelf y → x ≡ y
 one_stop q shelf x y p p' =

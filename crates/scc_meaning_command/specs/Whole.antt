@@ -37,4 +37,4 @@ pub record IsAccepted (many : Bool) (shelf : Shelf) (words : List (String Global
 abbrev pub WholeTheorem : (many : Bool) → Shelf → List (String Global) → (old new : Option (List ℕ)) → Type 0
 WholeTheorem many shelf words old new = (a : IsAccepted many shelf words)
     → IsCompiled many (word_at words 1) (name_in a.names a.compiled_as) (is_own (text_in a.names) a.compiled_as.core)
-        (is_kept_at (home_of a.compiled_as.plain a.compiled_as.built) a.compiled_as.core) (design_in a.compiled_as) old new
+    (is_kept_at (home_of a.compiled_as.plain a.compiled_as.built) a.compiled_as.core) (design_in a.compiled_as) old new
