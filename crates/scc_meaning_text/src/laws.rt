@@ -8,7 +8,7 @@ ghost use Rattle.scc_meaning_text.specs.Renamed.{Comb, block_as};
 ghost use Rattle.scc_svtree.specs.Code.{End};
 ghost use Rattle.scc_meaning_text.specs.Emitted.{ModuleShows, AreSeen};
 
-/// No observations are seen as none; a module that matches has the top's name.
+/// No observations are seen as none; a module that matches has the top's name, and each of its edges is that of a process.
 pub fn modules_show_designs()
     ensures seen { (text : Location → List ℕ) (m : SvModule) → AreSeen text m [] [] }
     ensures shows { (text : Location → List ℕ) (d : Design) (m : SvModule) → ModuleShows text d m → ModuleShows text d m }
