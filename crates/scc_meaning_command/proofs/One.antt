@@ -1,6 +1,6 @@
 -- What stops a command first is one thing: joining gives one thing, tokens are one file of the grammar or have one first fault, and the stages and the reading of a
 -- stimulus are functions.
-use Rattle.std.proofs.Common.{◌≡◌, ◌⊎◌, inl, inr, ℕ, Bool, List, [], ◌∷◌, ◌++◌, length, Option, Some, None, Result, Ok, Err, ap, refl, sym, ◌∙◌, subst}
+use Rattle.std.proofs.Common.{◌≡◌, ◌⊎◌, inl, inr, ℕ, List, [], ◌∷◌, ◌++◌, length, Option, Some, None, Result, Ok, Err, ap, refl, sym, ◌∙◌, subst}
 use Rattle.std.specs.Prelude.{option_and_then}
 use Rattle.scc_base.specs.Names.{fixed_names}
 use Rattle.scc_base.specs.Outside.{Shelf}
@@ -15,6 +15,7 @@ use Rattle.scc_tokens.specs.Join.{join_of, Ended}
 use Rattle.scc_joined.proofs.Deriving.{joins_whole}
 use Rattle.scc_joined.proofs.Faulting.{stops_first}
 use Rattle.scc_tree.specs.declared.item.FileTree.{FileTree}
+use Rattle.scc_tree.specs.declared.item.Item.{Item}
 use Rattle.scc_syntax.specs.Claim.{IsReadFile, IsFault, text_of}
 use Rattle.scc_grammarcomplete.proofs.Unique.{one_tree}
 use Rattle.scc_drive.proofs.OneVerdict.{not_both, one_fault}
@@ -22,13 +23,16 @@ use Rattle.scc_meaning_core.specs.First.{refused}
 use Rattle.scc_meaning_core.specs.Resolved.{Tried, Made, Stopped}
 use Rattle.scc_meaning_first.specs.Stages.{refusal_in}
 use Rattle.scc_meaning_program.specs.Designs.{Compiled, compiled, design_in}
-use Rattle.scc_meaning_command.specs.Stopped.{Request, Reason, Refuses, Absent, stopped_by, IsReadAs, name_in, stimulus_refusal, StopsFirst, in_joining, in_the_grammar, in_a_stage, without_stimulus, in_the_stimulus}
+use Rattle.scc_meaning_command.specs.Stopped.{Request, Reason, Refuses, Absent, stopped_by, name_in, stimulus_refusal, StopsFirst, in_joining, in_the_grammar, in_a_stage, without_stimulus, in_the_stimulus}
 
 some_same : {A : Type 0} {a b : A} → Some a ≡ Some b → a ≡ b
 some_same e = cc
 
+abbrev file_of : List Item → Place → FileTree
+file_of items end = record { items = items; end = end }
+
 same_file : (a b : FileTree) → a.items ≡ b.items → a.end ≡ b.end → a ≡ b
-same_file a b e f = cc
+same_file a b e f = ap (λ items. file_of items a.end) e ∙ ap (file_of b.items) f
 
 one_file : (j : Joined) (a b : FileTree) → IsReadFile j a → IsReadFile j b → a ≡ b
 one_file j a b p q = same_file a b (one_tree (text_of j) a.items b.items p.read.0 q.read.0) (p.end ∙ sym q.end)
@@ -100,30 +104,26 @@ module _ (q : Request) (shelf : Shelf) where
   by_parts _ (in_joining names sources s d) =
       subst (λ found. ByEnd found (stopped_by sources s)) (sym (stops_first (first_part shelf) fixed_names q.roots names sources s d)) refl
   by_parts _ (in_the_grammar names sources j code place d f) =
-      subst (λ found. ByEnd found (Refuses sources (refused code place))) (sym (joins_whole (first_part shelf) fixed_names q.roots names sources j d)) (inl (code, (place, (f, refl))))
+      subst (λ found. ByEnd found (Refuses sources (refused code place))) (sym (joins_whole (first_part shelf) fixed_names q.roots names sources j d)) (inl (code, place, f, refl))
   by_parts _ (in_a_stage names sources tree r a e) =
       subst (λ found. ByEnd found (Refuses sources r)) (sym (joins_whole (first_part shelf) fixed_names q.roots names sources a.joined a.joins))
-      (inr (tree, (a.reads, by_refusal names sources (compiled q.many tree (number_in names q.top)) r e)))
+      (inr (tree, a.reads, by_refusal names sources (compiled q.many tree (number_in names q.top)) r e))
   by_parts _ (without_stimulus names sources tree c name a e asked held) =
       subst (λ found. ByEnd found (Absent name)) (sym (joins_whole (first_part shelf) fixed_names q.roots names sources a.joined a.joins))
       (inr (
         tree,
-        (
-          a.reads,
-          subst (λ o. ByStage names sources o (Absent name)) (sym e)
-              (by_stimulus names sources c q.stimulus name (Absent name) asked (subst (λ o. ByHeld names sources c name o (Absent name)) (sym held) refl)),
-        ),
+        a.reads,
+        subst (λ o. ByStage names sources o (Absent name)) (sym e)
+            (by_stimulus names sources c q.stimulus name (Absent name) asked (subst (λ o. ByHeld names sources c name o (Absent name)) (sym held) refl)),
       ))
   by_parts _ (in_the_stimulus names sources tree c name bytes r a e asked held wrong) =
       let x = Refuses (sources ++ record { name = name; bytes = bytes } ∷ []) r in
       subst (λ found. ByEnd found x) (sym (joins_whole (first_part shelf) fixed_names q.roots names sources a.joined a.joins))
       (inr (
         tree,
-        (
-          a.reads,
-          subst (λ o. ByStage names sources o x) (sym e)
-              (by_stimulus names sources c q.stimulus name x asked (subst (λ o. ByHeld names sources c name o x) (sym held) (r, (wrong, refl)))),
-        ),
+        a.reads,
+        subst (λ o. ByStage names sources o x) (sym e)
+            (by_stimulus names sources c q.stimulus name x asked (subst (λ o. ByHeld names sources c name o x) (sym held) (r, wrong, refl))),
       ))
 
 pub one_stop : (q : Request) (shelf : Shelf) (x y : Reason) → StopsFirst q shelf x → StopsFirst q shelf y → x ≡ y
