@@ -10,7 +10,7 @@ use scc_plaintree::{Base, PlainBase, PlainExprNode, PlainLeft};
 use scc_templates::InstanceId;
 use std::alloc::Global;
 
-/// A call of the language on a port or signal that is no value (IEEE 1666-2011, 6.4, 6.8 and 6.10).
+/// A call of the language on a port or signal that is no value (IEEE 1666-2011, 6.4, 6.8 and 6.12).
 #[derive(Clone, Copy, PartialEq, Eq)]
 pub enum PortCall {
     Write,

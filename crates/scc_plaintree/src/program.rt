@@ -54,7 +54,7 @@ pub enum Base {
     Class(u32),
     /// `sc_in` (IEEE 1666-2011, 6.8).
     Input(Kind),
-    /// `sc_out` (IEEE 1666-2011, 6.10).
+    /// `sc_out` (IEEE 1666-2011, 6.12).
     Output(Kind),
     /// `sc_signal` (IEEE 1666-2011, 6.4).
     Signal(Kind),

@@ -45,7 +45,7 @@ pub enum StmtNode {
     Break,
     Continue,
     Return(Option<Expr>),
-    /// `wait()` or `wait(n)` (IEEE 1666-2011, section 5.2.17).
+    /// `wait()` or `wait(n)` (IEEE 1666-2011, section 5.2.18).
     Wait(Option<Expr>),
     /// `SC_METHOD(name)`; `at` is the name's place (IEEE 1666-2011, section 5.2.9).
     Method {
