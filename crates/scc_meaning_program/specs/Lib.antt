@@ -37,5 +37,3 @@ pub mod WorkedTemplates
 pub mod WorkedBodies
 pub mod WorkedConstructors
 pub mod WorkedScopes
-pub mod WorkedMaking
-pub mod WorkedChosen

@@ -30,8 +30,6 @@ ghost use Rattle.scc_meaning_program.specs.WorkedTemplates.{templated, body as h
 ghost use Rattle.scc_meaning_program.specs.WorkedBodies.{with_body, for_body, for_code, switch_body, switch_code, late_body, call_body, call_code, endless_body, twice_body, wait_body, width_body, break_body};
 ghost use Rattle.scc_meaning_program.specs.WorkedScopes.{scoped_body, scoped_code, asking};
 ghost use Rattle.scc_meaning_program.specs.WorkedConstructors.{constructing, constructed};
-ghost use Rattle.scc_meaning_program.specs.WorkedMaking.{takes_number, makes_object, makes_vector, object_code, begun_by, begun_code, inits_by};
-ghost use Rattle.scc_meaning_program.specs.WorkedChosen.{chosen as source_with, written_number, inside, beside, called_by_class, class_code, instance_by};
 ghost use Rattle.scc_meaning_source.specs.Worked.{at, both};
 ghost use Rattle.scc_meaning_program.specs.Worked.{here, loaded, sum, nowhere, unasked, around};
 ghost use Rattle.scc_meaning_program.specs.Names.{file_names};
@@ -104,15 +102,10 @@ pub fn what_is_refused_has_no_design()
     ensures design { (many : Bool) (t : FileTree) (top : ℕ) (d : Design) → IsDesignOf many t top d → IsDesignOf many t top d }
 {}
 
-/// A constant is asked for in its scope, a class with its arguments, which are converted as if they were written.
+/// A constant is asked for in its scope, a class with its arguments.
 pub fn constants_and_classes_are_asked_for()
     ensures constant { value_in counting (behind_chain counting 12 []) File (literal_tree 3) ≡ pure (number int 3) }
     ensures asked { (n : ℕ) → constant_of counting File (literal_tree n) ≡ constant_of counting File (literal_tree n) }
-    ensures class { (instance_by (args 8)).value ≡ Some (record { class = 0; args = args 8 }) }
-    ensures converted { (instance_by (walk.Cons (walk.Value (kind.Uint 8) 8) walk.Nil)).value ≡ Some (record { class = 0; args = args 8 }) }
-    ensures range { instance_by (walk.Cons (walk.Value (kind.Uint 33) 4294967296) walk.Nil) ≡ fault reason.ConstRange here }
-    ensures sort { instance_by (walk.Cons (walk.Sort int) walk.Nil) ≡ fault reason.Arguments here }
-    ensures more { instance_by (walk.Cons (walk.Value int 8) (args 8)) ≡ fault reason.Arguments here }
     ensures none { instance_of nowhere 0 (args 1) here ≡ fault reason.UnknownName here }
 {}
 
@@ -120,32 +113,6 @@ pub fn constants_and_classes_are_asked_for()
 #[tactic(auto, unfolding(scc_meaning_static::specs::Stage::staged_from))]
 pub fn constructors_are_written()
     ensures { program_by constructing 20 ≡ Made constructed }
-{}
-
-/// A vector makes its elements without arguments; the call of an argument of an initialiser stands there, though the name has no effect.
-#[tactic(auto, unfolding(scc_meaning_static::specs::Stage::staged_from))]
-pub fn objects_are_made()
-    ensures object { body_by (program_by (makes_object takes_number (Some End)) 21) 0 ≡ Some object_code }
-    ensures elements { program_by (makes_vector takes_number (Some End)) 21 ≡ Stopped (refused reason.Mismatch (at 5)) }
-    ensures bodiless { program_by (makes_vector [] None) 21 ≡ Stopped (refused reason.UnknownName (at 6)) }
-    ensures begins { inits_by (program_by (begun_by (Some 23)) 20) 1 ≡ Some begun_code }
-    ensures module_name { inits_by (program_by (begun_by None) 20) 1 ≡ Some begun_code }
-{}
-
-/// Of the bodies for equal arguments, inside a specialisation and outside, the first in the text counts; a body for equal arguments goes before that of the template.
-#[tactic(auto, unfolding(scc_meaning_static::specs::Stage::staged_from))]
-pub fn the_first_body_counts()
-    ensures inner { body_by (program_by (source_with (inside ∷ beside ∷ [])) 21) 0 ≡ Some (written_number 1) }
-    ensures outer { body_by (program_by (source_with (beside ∷ inside ∷ [])) 21) 0 ≡ Some (written_number 2) }
-    ensures exact { body_by (program_by (source_with (beside ∷ [])) 21) 0 ≡ Some (written_number 2) }
-    ensures template { body_by (program_by (source_with []) 21) 0 ≡ Some (written_number 0) }
-{}
-
-/// A function that uses no object is called by its class's name; one that uses it is refused there.
-#[tactic(auto, unfolding(scc_meaning_static::specs::Stage::staged_from))]
-pub fn functions_are_called_by_their_class()
-    ensures called { body_by (program_by (called_by_class (literal_tree 1)) 20) 1 ≡ Some class_code }
-    ensures object { program_by (called_by_class (named 29)) 20 ≡ Stopped (refused reason.Mismatch (at 5)) }
 {}
 
 /// What is refused of bodies, and where.

@@ -17,7 +17,7 @@ use Rattle.scc_meaning_program.specs.Worked.{here}
 use Rattle.scc_meaning_source.specs.Worked.{at}
 use Rattle.scc_meaning_program.specs.WorkedTemplates.{named, literal, int_type, field, parameter, method, user, templated}
 use Rattle.scc_meaning_program.specs.WorkedBodies.{declares, with_body, set, put, number}
-use Rattle.scc_meaning_program.specs.WorkedMaking.{class}
+use Rattle.scc_meaning_worked.specs.WorkedMaking.{class}
 
 -- S, T, N, x, f, a are the names 20 to 23, 25 and 27
 abbrev pub sets : ℕ → Function

@@ -1,0 +1,2 @@
+pub mod WorkedMaking
+pub mod WorkedChosen
