@@ -1,11 +1,10 @@
 //! Laws that cite the definitions.
-ghost use Rattle.std.specs.Prelude.{◌≡◌, ℕ, Bool, [], ◌∷◌, map, true, false, Some, None};
+ghost use Rattle.std.specs.Prelude.{◌≡◌, ℕ, Bool, [], ◌∷◌, map, true, false, Some};
 ghost use Rattle.scc_base.specs.declared.code.Code.TheVariants as reason;
 ghost use Rattle.scc_kinds.specs.declared.op.Op.TheVariants as op;
 ghost use Rattle.scc_kinds.specs.declared.kind.Kind.TheVariants as kind;
 ghost use Rattle.scc_tree.specs.declared.item.FileTree.{FileTree};
 ghost use Rattle.scc_tree.specs.declared.ty.Family.TheVariants as family;
-ghost use Rattle.scc_meaning_static.specs.Walk as walk;
 ghost use Rattle.scc_meaning_static.specs.Walked.{pure, fault};
 ghost use Rattle.scc_meaning_source.specs.SourceView.{source_of};
 ghost use Rattle.scc_meaning_program.specs.Numbers.{int, number, operated, concatenated, chosen};
