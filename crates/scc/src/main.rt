@@ -1,13 +1,9 @@
 //! `scc` compiles a SystemC module to SystemVerilog.
 #![tactic(auto)]
 
-mod adapters;
-#[cfg(test)]
-mod tests;
-
-use adapters::{Disk, Stream};
 use scc_base::{Sink, SinkFault, put_all};
 use scc_drive::run;
+use scc_system::{Disk, Stream};
 use std::alloc::Global;
 use std::io::ErrorKind;
 use std::process::ExitCode;

@@ -5,7 +5,7 @@ use crate::NoMemory;
 use std::alloc::Global;
 
 /// A name with the bytes that it holds.
-#[derive(Debug, Drop)]
+#[derive(Drop)]
 pub struct Entry {
     name: String,
     bytes: Vec<u8>,

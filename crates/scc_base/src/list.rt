@@ -6,7 +6,6 @@ use std::alloc::Global;
 use std::marker::Model;
 
 /// A list that grows at its end. Contracts see its elements alone, so a tree whose nodes hold lists is plain data.
-#[derive(Debug)]
 pub struct List<T> {
     items: Vec<T>,
 }

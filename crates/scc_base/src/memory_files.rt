@@ -7,7 +7,7 @@ use std::alloc::Global;
 
 /// Files in memory. The reads whose numbers were named fail, and no others; in every other read a name that was not
 /// added is missing.
-#[derive(Debug, Drop)]
+#[derive(Drop)]
 pub struct MemFiles {
     alloc: Global,
     entries: Vec<Entry>,
@@ -101,7 +101,7 @@ impl Files for MemFiles {
 }
 
 /// Files in memory, whose reads never fail: a name that was not added is missing.
-#[derive(Debug, Drop)]
+#[derive(Drop)]
 pub struct CalmFiles {
     alloc: Global,
     entries: Vec<Entry>,

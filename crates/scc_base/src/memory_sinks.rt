@@ -8,7 +8,7 @@ use crate::{NoMemory, Sink, SinkFault};
 use std::alloc::Global;
 
 /// An output in memory that takes a part of each piece. The writes whose numbers were named fail, and no others.
-#[derive(Debug, Drop)]
+#[derive(Drop)]
 pub struct MemSink {
     most: usize,
     bytes: Vec<u8>,
@@ -91,7 +91,7 @@ impl Sink for MemSink {
 }
 
 /// An output in memory that takes each piece whole, and whose writes never fail.
-#[derive(Debug, Drop)]
+#[derive(Drop)]
 pub struct CalmSink {
     bytes: Vec<u8>,
 }

@@ -21,7 +21,7 @@ impl Default for PathPart {
 }
 
 /// Where an object stands in the hierarchy, from the top down; the top has the empty path. Contracts see its parts.
-#[derive(Debug, Drop)]
+#[derive(Drop)]
 pub struct Path {
     parts: SmallVec<PathPart, 4>,
 }

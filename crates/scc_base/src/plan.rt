@@ -5,7 +5,7 @@ use crate::NoMemory;
 use std::alloc::Global;
 
 /// How many calls were made, and which are to fail.
-#[derive(Debug, Drop)]
+#[derive(Drop)]
 pub struct Plan {
     calls: u64,
     /// The numbers of the calls that are to fail, counted from 1.

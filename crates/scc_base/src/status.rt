@@ -4,7 +4,7 @@ use std::marker::Model;
 
 /// How the program ends: 0 done, 1 refused, 2 bad words, 3 a file missing or failed, 4 no memory, 5 an output failed.
 /// There are no others.
-#[derive(Clone, Copy, Debug)]
+#[derive(Clone, Copy)]
 pub struct Status(u8);
 
 impl Model for Status {

@@ -20,7 +20,7 @@ use scc_kinds::{
 use std::marker::Model;
 
 /// A number: a valid kind and a word that fits it. So no caller meets a condition on words.
-#[derive(Clone, Copy, Debug, PartialEq, Eq, Hash)]
+#[derive(Clone, Copy, PartialEq, Eq, Hash)]
 pub struct Value {
     kind: Kind,
     word: Word,

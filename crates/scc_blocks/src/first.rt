@@ -8,7 +8,7 @@ use scc_svtree::{SvExpr, SvExprNode, SvLeft, SvLiteral, SvSet, SvStmt, VarId};
 use std::alloc::Global;
 
 /// A register of a process: its variable and that of its next value, by their numbers in the module.
-#[derive(Clone, Copy, Debug, PartialEq, Eq, PartialOrd, Ord)]
+#[derive(Clone, Copy, PartialEq, Eq, PartialOrd, Ord)]
 pub struct Register {
     pub now: u32,
     pub next: u32,
@@ -59,7 +59,7 @@ pub fn registers_of(
 }
 
 /// A variable that a block assigns, and the register whose next value it is.
-#[derive(Clone, Copy, Debug, PartialEq, Eq, PartialOrd, Ord)]
+#[derive(Clone, Copy, PartialEq, Eq, PartialOrd, Ord)]
 struct Target {
     var: u32,
     of: u32,

@@ -8,7 +8,7 @@ ghost use Rattle.scc_bounds.specs.Bounds.{measured, most};
 use scc_core::{CoreNode, CoreStmt};
 
 /// The size of a body. Numbers stand still at the end of their type.
-#[derive(Clone, Copy, Debug, PartialEq, Eq)]
+#[derive(Clone, Copy, PartialEq, Eq)]
 pub struct Size {
     /// How many statements it has, at every depth.
     pub statements: u64,

@@ -6,7 +6,6 @@ use std::alloc::Global;
 
 /// An expression and the kind of its value.
 #[cycle(core)]
-#[derive(Debug)]
 pub struct CoreExpr {
     pub place: Place,
     pub kind: Kind,
@@ -14,7 +13,7 @@ pub struct CoreExpr {
 }
 
 #[cycle(core)]
-#[derive(Debug, Drop)]
+#[derive(Drop)]
 pub enum CoreExprNode {
     Lit(Word),
     /// What a variable holds.
@@ -45,7 +44,6 @@ pub enum CoreExprNode {
 
 /// A location.
 #[cycle(core)]
-#[derive(Debug)]
 pub struct CoreLeft {
     pub place: Place,
     pub base: CoreBase,
@@ -54,7 +52,7 @@ pub struct CoreLeft {
 }
 
 #[cycle(core)]
-#[derive(Debug, Drop)]
+#[derive(Drop)]
 pub enum CoreBase {
     /// The cell of that number.
     Cell(u32),
@@ -71,7 +69,7 @@ pub enum CoreBase {
 }
 
 #[cycle(core)]
-#[derive(Debug, Drop)]
+#[derive(Drop)]
 pub enum CorePart {
     Member(Name),
     /// An element of so many; `u32::MAX` for a vector whose size isn't known before its object is.
@@ -79,7 +77,7 @@ pub enum CorePart {
 }
 
 #[cycle(core)]
-#[derive(Debug, Drop)]
+#[derive(Drop)]
 pub enum CorePick {
     /// The bit of that number, counted from 0 at the low end.
     Bit(CoreExpr),

@@ -5,7 +5,7 @@ use scc_bits::{Kind, width};
 use std::alloc::Global;
 
 /// An index that isn't static.
-#[derive(Clone, Copy, Debug, PartialEq, Eq)]
+#[derive(Clone, Copy, PartialEq, Eq)]
 pub struct Dim {
     /// How many elements it ranges over.
     pub size: u32,
@@ -17,7 +17,7 @@ pub struct Dim {
 
 /// The cells that a location may name: one, or under open indices some of an array, whose cells stand one after the
 /// other, the last index running fastest.
-#[derive(Debug, Drop)]
+#[derive(Drop)]
 pub struct Named {
     /// The first of them.
     pub base: u32,

@@ -25,7 +25,7 @@ pub trait Pass {
 
 /// One pass behind another: it gives what the second gives for a core that the first gives, and refuses as the first
 /// refuses the core, or as the second refuses a core that the first gives.
-#[derive(Clone, Copy, Debug)]
+#[derive(Clone, Copy)]
 pub struct Chain<A, B> {
     pub first: A,
     pub second: B,

@@ -8,7 +8,7 @@ use scc_base::{List, Name, NoMemory, PathPart, lost, push};
 use std::alloc::Global;
 
 /// A step of a cell's name.
-#[derive(Clone, Copy, Debug, PartialEq, Eq, Hash)]
+#[derive(Clone, Copy, PartialEq, Eq, Hash)]
 pub enum NameStep {
     /// The member of that name.
     Member(Name),
@@ -19,10 +19,10 @@ pub enum NameStep {
 }
 
 /// A front part of the names of some cells.
-#[derive(Clone, Copy, Debug, PartialEq, Eq, Hash)]
+#[derive(Clone, Copy, PartialEq, Eq, Hash)]
 pub struct Spot(u32);
 
-#[derive(Clone, Copy, Debug, PartialEq, Eq, Hash)]
+#[derive(Clone, Copy, PartialEq, Eq, Hash)]
 struct Branch {
     from: u32,
     step: NameStep,

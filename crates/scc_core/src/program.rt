@@ -4,7 +4,7 @@ use scc_base::{List, Name, Place};
 use scc_bits::{Kind, Word};
 
 /// What a design does: its cells and its processes.
-#[derive(Debug, Drop)]
+#[derive(Drop)]
 pub struct Core {
     /// The top's name.
     pub top: Name,
@@ -18,14 +18,14 @@ pub struct Core {
 }
 
 /// A vector and the number of its elements.
-#[derive(Debug, Drop)]
+#[derive(Drop)]
 pub struct VectorSize2 {
     pub path: Path2,
     pub size: u32,
 }
 
 /// Something that is read or written as a whole: a port, a signal, a variable or a local, or a pointer to one.
-#[derive(Debug, Drop)]
+#[derive(Drop)]
 pub struct Cell {
     pub name: CellName,
     pub kind: Kind,
@@ -34,7 +34,7 @@ pub struct Cell {
 }
 
 /// A cell's name, which no other cell that is no pointer has.
-#[derive(Debug, Drop)]
+#[derive(Drop)]
 pub struct CellName {
     /// The object's path; for a local, that of its process: the module's path and the function's name.
     pub path: Path2,
@@ -44,7 +44,7 @@ pub struct CellName {
     pub indices: List<u32>,
 }
 
-#[derive(Debug, Drop)]
+#[derive(Drop)]
 pub enum CellSort {
     /// An input of the top.
     Input,
@@ -61,7 +61,7 @@ pub enum CellSort {
     Port(Path2),
 }
 
-#[derive(Debug, Drop)]
+#[derive(Drop)]
 pub struct CoreProcess {
     pub sort: Sort2,
     /// The module's path, followed by the function's name.
@@ -74,21 +74,21 @@ pub struct CoreProcess {
     pub body: List<CoreStmt>,
 }
 
-#[derive(Clone, Copy, Debug, PartialEq, Eq)]
+#[derive(Clone, Copy, PartialEq, Eq)]
 pub enum Sort2 {
     Method,
     Thread,
 }
 
 /// The clock edge at which a process resumes.
-#[derive(Clone, Copy, Debug, PartialEq, Eq)]
+#[derive(Clone, Copy, PartialEq, Eq)]
 pub struct Edge2 {
     pub cell: u32,
     pub rising: bool,
 }
 
 /// The reset of a thread: the level at which it starts again.
-#[derive(Clone, Copy, Debug, PartialEq, Eq)]
+#[derive(Clone, Copy, PartialEq, Eq)]
 pub struct Reset2 {
     pub cell: u32,
     pub level: bool,

@@ -4,14 +4,14 @@ use scc_base::{List, Place};
 use scc_bits::Op;
 
 #[cycle(core_statement)]
-#[derive(Debug, Drop)]
+#[derive(Drop)]
 pub struct CoreStmt {
     pub place: Place,
     pub node: CoreNode,
 }
 
 #[cycle(core_statement)]
-#[derive(Debug, Drop)]
+#[derive(Drop)]
 pub enum CoreNode {
     /// A variable or local takes the value at once, a signal or port when the processes have stopped.
     Assign {
@@ -43,7 +43,7 @@ pub enum CoreNode {
 }
 
 /// Which pointer an `Alias` sets.
-#[derive(Debug, Drop)]
+#[derive(Drop)]
 pub enum Pointed {
     /// The cell of a local one, at its declaration.
     Declared(u32),
@@ -52,7 +52,7 @@ pub enum Pointed {
 }
 
 /// How a counted loop counts.
-#[derive(Debug, Drop)]
+#[derive(Drop)]
 pub struct Count {
     /// The counter's cell.
     pub cell: u32,

@@ -5,7 +5,7 @@ use scc_base::{List, Path, Place};
 use scc_bits::{Kind, Word};
 
 /// What a program's construction leaves.
-#[derive(Debug, Drop)]
+#[derive(Drop)]
 pub struct Design {
     /// In construction order; the top is the first. At most 65,536.
     pub objects: List<Object>,
@@ -17,7 +17,7 @@ pub struct Design {
     pub vectors: List<VectorSize>,
 }
 
-#[derive(Debug, Drop)]
+#[derive(Drop)]
 pub struct Object {
     /// Fewer than 65 parts.
     pub path: Path,
@@ -26,7 +26,7 @@ pub struct Object {
     pub node: ObjectNode,
 }
 
-#[derive(Clone, Copy, Debug, PartialEq, Eq)]
+#[derive(Clone, Copy, PartialEq, Eq)]
 pub enum ObjectNode {
     /// An object of the class of that number.
     Module(u32),
@@ -40,7 +40,7 @@ pub enum ObjectNode {
 }
 
 /// Where a pointer or reference leads. The path may name a whole array or vector, or no object at all.
-#[derive(Debug, Drop)]
+#[derive(Drop)]
 pub struct Target {
     /// The pointer's number.
     pub object: u32,
@@ -48,13 +48,13 @@ pub struct Target {
 }
 
 /// A vector and the number of its elements.
-#[derive(Debug, Drop)]
+#[derive(Drop)]
 pub struct VectorSize {
     pub path: Path,
     pub size: u32,
 }
 
-#[derive(Debug, Drop)]
+#[derive(Drop)]
 pub struct Process {
     /// The object whose function it runs.
     pub object: u32,
@@ -70,21 +70,21 @@ pub struct Process {
 }
 
 /// IEEE 1666-2011, 5.2.9: method and thread processes.
-#[derive(Clone, Copy, Debug, PartialEq, Eq)]
+#[derive(Clone, Copy, PartialEq, Eq)]
 pub enum Sort {
     Method,
     Thread,
 }
 
 /// The clock edge at which a process resumes.
-#[derive(Clone, Copy, Debug, PartialEq, Eq)]
+#[derive(Clone, Copy, PartialEq, Eq)]
 pub struct Edge {
     pub root: u32,
     pub rising: bool,
 }
 
 /// The reset of a thread: the level at which it starts again.
-#[derive(Clone, Copy, Debug, PartialEq, Eq)]
+#[derive(Clone, Copy, PartialEq, Eq)]
 pub struct Reset {
     pub root: u32,
     pub level: bool,

@@ -8,7 +8,7 @@ use scc_base::{Code, Name, Names, NoMemory, Place};
 use scc_lexer::{Token, TokenKind};
 
 /// The names of the words of directives and of SystemC's own headers.
-#[derive(Clone, Copy, Debug)]
+#[derive(Clone, Copy)]
 pub struct Words {
     pub include: Name,
     pub define: Name,
@@ -25,7 +25,7 @@ pub struct Words {
 }
 
 /// What a directive does, by its first word.
-#[derive(Clone, Copy, Debug, PartialEq, Eq)]
+#[derive(Clone, Copy, PartialEq, Eq)]
 pub enum Directive {
     Include,
     Define,

@@ -7,7 +7,7 @@ use scc_base::Text;
 use scc_lexer::{Token, TokenKind, Tokens};
 
 /// A file that was read.
-#[derive(Debug, Drop)]
+#[derive(Drop)]
 pub struct Source {
     /// The name by which it was asked for.
     pub name: Text,
@@ -15,7 +15,7 @@ pub struct Source {
 }
 
 /// The tokens of a file.
-#[derive(Debug, Drop)]
+#[derive(Drop)]
 pub struct File {
     pub tokens: Tokens,
     /// The byte at which the first conditional begins that the file does not close.

@@ -7,14 +7,14 @@ use std::alloc::Global;
 use std::marker::Model;
 
 /// A macro's expansion, of which the token at `at` of its body comes next.
-#[derive(Clone, Copy, Debug)]
+#[derive(Clone, Copy)]
 pub struct Frame {
     pub name: u32,
     pub at: usize,
 }
 
 /// The expansions, each within the next, seen as a list with the innermost first.
-#[derive(Debug, Drop)]
+#[derive(Drop)]
 pub struct Frames {
     open: Vec<Frame>,
 }

@@ -5,7 +5,7 @@ ghost use Rattle.scc_directives.specs.declared.halt.Halt.TheVariants as halt;
 use scc_base::{Code, NoMemory, Place, Text};
 
 /// Why joining stops.
-#[derive(Debug, Drop)]
+#[derive(Drop)]
 pub enum Halt {
     /// One of E101 to E110.
     Refused { code: Code, place: Place },

@@ -10,7 +10,7 @@ use scc_lexer::{Token, TokenKind};
 use std::alloc::Global;
 
 /// What stands behind `#include`.
-#[derive(Clone, Copy, Debug)]
+#[derive(Clone, Copy)]
 pub enum Operand {
     /// A header of SystemC's own.
     Own,

@@ -16,7 +16,7 @@ pub const TOKENS: usize = 262_144;
 pub const USES: u32 = 262_144;
 
 /// The joined tokens so far.
-#[derive(Debug, Drop)]
+#[derive(Drop)]
 pub struct Out {
     pub tokens: Tokens,
     /// A `sc_core` or `sc_dt` behind them, which is dropped where `::` follows it.

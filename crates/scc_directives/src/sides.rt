@@ -7,7 +7,7 @@ use std::alloc::Global;
 use std::marker::Model;
 
 /// The side of a conditional.
-#[derive(Clone, Copy, Debug)]
+#[derive(Clone, Copy)]
 pub struct Side {
     /// Whether the text around the conditional is active.
     pub outer: bool,
@@ -18,7 +18,7 @@ pub struct Side {
 }
 
 /// The sides that are open, seen as a list with the innermost first.
-#[derive(Debug, Drop)]
+#[derive(Drop)]
 pub struct Sides {
     open: Vec<Side>,
 }

@@ -9,7 +9,7 @@ use scc_base::{NoMemory, lost, push};
 use std::alloc::Global;
 
 /// How a run halts.
-#[derive(Clone, Copy, Debug, PartialEq, Eq)]
+#[derive(Clone, Copy, PartialEq, Eq)]
 pub enum Halt {
     /// At a wait for so many edges.
     Waits(u32),

@@ -8,7 +8,7 @@ use scc_core::{
 use std::alloc::Global;
 
 /// A location that is read or written.
-#[derive(Debug, Drop)]
+#[derive(Drop)]
 pub struct Mark {
     /// That of the expression that reads, or of the location that is written.
     pub place: Place,
@@ -22,7 +22,7 @@ pub struct Mark {
 }
 
 // What tells marks apart: the first cell, which indices are open, and whether it is written.
-#[derive(Clone, Copy, Debug, PartialEq, Eq, Hash)]
+#[derive(Clone, Copy, PartialEq, Eq, Hash)]
 struct Seen {
     base: u32,
     open: u64,

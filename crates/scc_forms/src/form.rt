@@ -11,7 +11,7 @@ use scc_stages::Front;
 use std::alloc::Global;
 
 /// A form of the text of a design's module.
-#[derive(Clone, Copy, Debug, PartialEq, Eq)]
+#[derive(Clone, Copy, PartialEq, Eq)]
 pub enum TextForm {
     /// A module for each module object.
     Hier,

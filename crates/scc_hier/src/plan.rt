@@ -3,7 +3,7 @@ use scc_base::{List, Text};
 use scc_svtree::VarId;
 
 /// A module object. The first plan is the top's, with an empty path.
-#[derive(Debug, Drop)]
+#[derive(Drop)]
 pub struct HierPlan {
     /// Its names and indices from the top on, joined by `$`. It begins with the parent's path and `$`, unless the parent is the top.
     pub path: Text,
@@ -14,7 +14,7 @@ pub struct HierPlan {
 }
 
 /// A port of a module object: its name there, and the variable that it is.
-#[derive(Debug, Drop)]
+#[derive(Drop)]
 pub struct HierPort {
     pub name: Text,
     pub var: VarId,

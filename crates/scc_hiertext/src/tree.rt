@@ -3,13 +3,13 @@ use scc_base::{List, Text};
 use scc_svtree::{SvBlock, SvVar, VarId};
 
 /// Modules, of which the first is the top.
-#[derive(Debug, Drop)]
+#[derive(Drop)]
 pub struct Hier {
     pub modules: List<HierModule>,
 }
 
 /// A module that may hold instances: its ports stand before its other variables.
-#[derive(Debug, Drop)]
+#[derive(Drop)]
 pub struct HierModule {
     pub name: Text,
     pub vars: List<SvVar>,
@@ -18,7 +18,7 @@ pub struct HierModule {
 }
 
 /// An instance of a module (IEEE 1800-2017, section 23.3.2).
-#[derive(Debug, Drop)]
+#[derive(Drop)]
 pub struct Instance {
     /// By its place in the list of modules, from 0.
     pub module: u32,

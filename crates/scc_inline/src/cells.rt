@@ -15,13 +15,13 @@ pub struct ObjectCells {
     pub of: Vec<Option<u32>>,
 }
 
-#[derive(Clone, Copy, Debug, PartialEq, Eq, Hash)]
+#[derive(Clone, Copy, PartialEq, Eq, Hash)]
 struct Branch {
     from: u32,
     part: PathPart,
 }
 
-#[derive(Clone, Copy, Debug, PartialEq, Eq, Hash)]
+#[derive(Clone, Copy, PartialEq, Eq, Hash)]
 struct MemberName {
     class: u32,
     name: Name,

@@ -12,7 +12,7 @@ pub const STATEMENTS: u32 = 65_536;
 pub const DEPTH: u32 = 1_024;
 
 /// What is known of a function whose calls are copied.
-#[derive(Debug, Drop)]
+#[derive(Drop)]
 pub struct Facts {
     /// How many statements there are at every depth.
     pub size: Tally,

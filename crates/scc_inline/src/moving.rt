@@ -15,7 +15,7 @@ pub struct Moving {
 }
 
 /// A member of a class, by their numbers.
-#[derive(Clone, Copy, Debug, PartialEq, Eq)]
+#[derive(Clone, Copy, PartialEq, Eq)]
 pub struct MemberOf {
     pub class: u32,
     pub member: u32,

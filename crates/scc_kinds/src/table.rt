@@ -11,7 +11,7 @@ use crate::rows::ROWS;
 use crate::rule::Rule;
 
 /// One row of an operator table.
-#[derive(Clone, Copy, Debug, PartialEq, Eq)]
+#[derive(Clone, Copy, PartialEq, Eq)]
 pub struct Row {
     pub op: Op,
     pub left: Group,
@@ -20,7 +20,7 @@ pub struct Row {
 }
 
 /// An operator table. Its rows ascend by operator, left and right group where `find` looks in it.
-#[derive(Clone, Copy, Debug, PartialEq, Eq)]
+#[derive(Clone, Copy, PartialEq, Eq)]
 pub struct Table<const N: usize> {
     pub rows: [Row; N],
 }

@@ -6,7 +6,7 @@ ghost use Rattle.scc_lexer.specs.Words.{word_text, mark_text};
 use crate::words::{MARKS, WORDS};
 
 /// A keyword: a word that the subset keeps for itself. As a number it is its place in `WORDS`.
-#[derive(Clone, Copy, Debug)]
+#[derive(Clone, Copy)]
 pub enum Keyword {
     Bool,
     Break,
@@ -91,7 +91,7 @@ impl Keyword {
 }
 
 /// A punctuator. As a number it is its place in `MARKS`.
-#[derive(Clone, Copy, Debug)]
+#[derive(Clone, Copy)]
 pub enum Punct {
     /// `{`
     BraceOpen,

@@ -12,7 +12,7 @@ use scc_base::Code;
 use scc_bits::{Kind, Word};
 
 /// Where a byte stands on its line.
-#[derive(Clone, Copy, Debug, PartialEq, Eq)]
+#[derive(Clone, Copy, PartialEq, Eq)]
 pub enum Line {
     /// Behind blanks and comments alone.
     Start,
@@ -23,7 +23,7 @@ pub enum Line {
 }
 
 /// The form of a token, without the text of its name.
-#[derive(Clone, Copy, Debug, PartialEq, Eq)]
+#[derive(Clone, Copy, PartialEq, Eq)]
 pub enum Form {
     Word(u8),
     Mark(u8),
@@ -38,7 +38,7 @@ pub enum Form {
 }
 
 /// What the bytes at the front are.
-#[derive(Clone, Copy, Debug)]
+#[derive(Clone, Copy)]
 pub enum Piece {
     /// So many bytes, with the token that they are, if any, and where the byte behind them stands.
     Taken {

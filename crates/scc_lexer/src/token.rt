@@ -12,7 +12,7 @@ use scc_bits::{Kind, Word};
 use std::str;
 
 /// A token of a file, or a token that stands for one in the expansion of a macro.
-#[derive(Clone, Copy, Debug, PartialEq, Eq)]
+#[derive(Clone, Copy, PartialEq, Eq)]
 pub struct Token {
     pub kind: TokenKind,
     /// Its first byte; in an expansion that of the macro's outermost use.
@@ -22,7 +22,7 @@ pub struct Token {
 }
 
 /// What a token is (C++, "Tokens").
-#[derive(Clone, Copy, Debug, PartialEq, Eq)]
+#[derive(Clone, Copy, PartialEq, Eq)]
 pub enum TokenKind {
     /// A keyword, a word that the subset keeps for itself, by the number of its `Keyword`.
     Word(u8),

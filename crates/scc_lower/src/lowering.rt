@@ -9,7 +9,7 @@ use scc_svtree::{SvStmt, VarId};
 use std::alloc::Global;
 
 /// How a cell is read and written in a block.
-#[derive(Clone, Copy, Debug, PartialEq, Eq)]
+#[derive(Clone, Copy, PartialEq, Eq)]
 pub enum View {
     /// Read as this literal, never written.
     Constant(Word),

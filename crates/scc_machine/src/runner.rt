@@ -11,7 +11,7 @@ use scc_plaintree::Plain;
 use std::alloc::{AllocFailed, Global};
 
 /// Why a runner stopped for good.
-#[derive(Clone, Copy, Debug, PartialEq, Eq)]
+#[derive(Clone, Copy, PartialEq, Eq)]
 pub enum RunStop {
     NoMemory,
     /// A resume of the process of that number neither waited nor ended within the process's bound of steps, or it followed null.

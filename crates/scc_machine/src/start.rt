@@ -5,7 +5,7 @@ use scc_design::{Design, Object, ObjectNode};
 use std::alloc::Global;
 
 /// A word for each signal and variable, in construction order.
-#[derive(Debug, Drop)]
+#[derive(Drop)]
 pub struct Start {
     pub words: List<Word>,
 }

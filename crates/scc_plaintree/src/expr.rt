@@ -5,7 +5,6 @@ use std::alloc::Global;
 
 /// An expression and the kind of its value.
 #[cycle(plain)]
-#[derive(Debug)]
 pub struct PlainExpr {
     pub place: Place,
     pub kind: Kind,
@@ -13,7 +12,7 @@ pub struct PlainExpr {
 }
 
 #[cycle(plain)]
-#[derive(Debug, Drop)]
+#[derive(Drop)]
 pub enum PlainExprNode {
     Lit(Word),
     /// What a variable holds.
@@ -44,7 +43,6 @@ pub enum PlainExprNode {
 
 /// A location.
 #[cycle(plain)]
-#[derive(Debug)]
 pub struct PlainLeft {
     pub place: Place,
     pub base: PlainBase,
@@ -53,7 +51,7 @@ pub struct PlainLeft {
 }
 
 #[cycle(plain)]
-#[derive(Debug, Drop)]
+#[derive(Drop)]
 pub enum PlainBase {
     /// The local of that number.
     Local(u32),
@@ -66,7 +64,7 @@ pub enum PlainBase {
 }
 
 #[cycle(plain)]
-#[derive(Debug, Drop)]
+#[derive(Drop)]
 pub enum PlainPart {
     /// The member of that number in its class.
     Member(u32),
@@ -74,7 +72,7 @@ pub enum PlainPart {
 }
 
 #[cycle(plain)]
-#[derive(Debug, Drop)]
+#[derive(Drop)]
 pub enum PlainPick {
     /// The bit of that number, counted from 0 at the low end.
     Bit(PlainExpr),

@@ -6,7 +6,7 @@ use std::alloc::Global;
 
 /// A program: a class for each instance that its top reaches, in the order in which they are first needed, and their
 /// functions in the order in which the static walk meets them.
-#[derive(Debug, Drop)]
+#[derive(Drop)]
 pub struct Plain {
     pub classes: List<PlainClass>,
     pub functions: List<PlainFunction>,
@@ -14,7 +14,7 @@ pub struct Plain {
     pub top: u32,
 }
 
-#[derive(Debug, Drop)]
+#[derive(Drop)]
 pub struct PlainClass {
     pub name: Name,
     /// That of its name.
@@ -28,7 +28,7 @@ pub struct PlainClass {
 }
 
 /// A member variable of a class, or a local variable or parameter of a function.
-#[derive(Debug, Drop)]
+#[derive(Drop)]
 pub struct PlainMember {
     pub name: Name,
     pub place: Place,
@@ -36,7 +36,7 @@ pub struct PlainMember {
 }
 
 /// What a variable holds.
-#[derive(Debug, Drop)]
+#[derive(Drop)]
 pub struct Shape {
     pub base: Base,
     pub reach: Reach,
@@ -47,7 +47,7 @@ pub struct Shape {
 }
 
 /// What stands at the end of arrays, vectors, pointers and references.
-#[derive(Clone, Copy, Debug, PartialEq, Eq, Hash)]
+#[derive(Clone, Copy, PartialEq, Eq, Hash)]
 pub enum Base {
     Number(Kind),
     /// An object of the class of that number.
@@ -63,14 +63,14 @@ pub enum Base {
 }
 
 /// Whether a variable is the thing itself or leads to it.
-#[derive(Clone, Copy, Debug, PartialEq, Eq, Hash)]
+#[derive(Clone, Copy, PartialEq, Eq, Hash)]
 pub enum Reach {
     Direct,
     Pointer,
     Reference,
 }
 
-#[derive(Debug, Drop)]
+#[derive(Drop)]
 pub struct PlainFunction {
     pub name: Name,
     pub place: Place,

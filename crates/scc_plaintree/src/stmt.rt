@@ -4,14 +4,13 @@ use scc_base::{List, Place};
 use scc_bits::Op;
 
 #[cycle(statement)]
-#[derive(Debug)]
 pub struct PlainStmt {
     pub place: Place,
     pub node: PlainNode,
 }
 
 #[cycle(statement)]
-#[derive(Debug, Drop)]
+#[derive(Drop)]
 pub enum PlainNode {
     /// The local of that number begins.
     Declare(u32),
@@ -81,7 +80,7 @@ pub enum PlainNode {
 }
 
 /// How a counted loop counts.
-#[derive(Debug, Drop)]
+#[derive(Drop)]
 pub struct PlainCount {
     /// The counter's local.
     pub counter: u32,
@@ -93,7 +92,7 @@ pub struct PlainCount {
 }
 
 /// What a pointer or reference is given.
-#[derive(Debug, Drop)]
+#[derive(Drop)]
 pub enum PlainTarget {
     Null,
     Address(PlainLeft),
@@ -101,7 +100,7 @@ pub enum PlainTarget {
     Copy(PlainLeft),
 }
 
-#[derive(Debug, Drop)]
+#[derive(Drop)]
 pub enum PlainArg {
     Value(PlainExpr),
     Target(PlainTarget),
@@ -109,7 +108,7 @@ pub enum PlainArg {
 }
 
 /// An entry of a sensitivity list (IEEE 1666-2011, 5.2.10).
-#[derive(Debug, Drop)]
+#[derive(Drop)]
 pub struct PlainSense {
     pub place: Place,
     /// None where the source names no location there.

@@ -15,7 +15,7 @@ use std::alloc::Global;
 /// Puts the objects to which pointers and references lead in their place. It refuses following null (EmptyPointer), an assignment
 /// of a pointer after its declaration (PointerAssigned), and a pointer, reference or object that is chosen by an index which
 /// isn't static (StaticIndex).
-#[derive(Clone, Copy, Debug)]
+#[derive(Clone, Copy)]
 pub struct Resolve;
 
 impl Pass for Resolve {

@@ -3,7 +3,7 @@ use scc_base::{List, Place};
 use scc_core::{CoreExpr, CoreStmt};
 
 /// What a thread does from each point at which it waits to the next.
-#[derive(Debug, Drop)]
+#[derive(Drop)]
 pub struct Split {
     /// The counts of its waits, 1 to 65,535 each, in text order; at most 16,384.
     pub waits: List<u32>,
@@ -17,14 +17,14 @@ pub struct Split {
 
 /// A statement of a segment.
 #[cycle(segment)]
-#[derive(Debug, Drop)]
+#[derive(Drop)]
 pub struct SegStmt {
     pub place: Place,
     pub node: SegNode,
 }
 
 #[cycle(segment)]
-#[derive(Debug, Drop)]
+#[derive(Drop)]
 pub enum SegNode {
     /// A statement without a wait, which leaves no block that holds one.
     Plain(CoreStmt),

@@ -3,14 +3,14 @@ use scc_base::{Boxed, List, Text};
 use scc_svtree::{Dir, SvBinary, SvUnary};
 
 /// A literal: the decimal digits of its width, and its digits of base 16 (IEEE 1800-2017, section 5.7.1).
-#[derive(Debug, Drop)]
+#[derive(Drop)]
 pub struct RawLiteral {
     pub width: Text,
     pub digits: Text,
 }
 
 /// The bits that are taken of a variable, by their decimal digits (IEEE 1800-2017, section 11.5.1).
-#[derive(Debug, Drop)]
+#[derive(Drop)]
 pub enum RawSelect {
     Whole,
     Bit(Text),
@@ -18,7 +18,7 @@ pub enum RawSelect {
 }
 
 /// A variable or a part of it.
-#[derive(Debug, Drop)]
+#[derive(Drop)]
 pub struct RawLeft {
     pub name: Text,
     pub select: RawSelect,
@@ -26,7 +26,7 @@ pub struct RawLeft {
 
 /// An expression.
 #[cycle(raw_expr)]
-#[derive(Debug, Drop)]
+#[derive(Drop)]
 pub enum RawExpr {
     Literal(RawLiteral),
     Left(RawLeft),
@@ -57,7 +57,7 @@ pub enum RawExpr {
 
 /// A statement.
 #[cycle(raw_stmt)]
-#[derive(Debug, Drop)]
+#[derive(Drop)]
 pub enum RawStmt {
     Assign {
         left: RawLeft,
@@ -76,21 +76,21 @@ pub enum RawStmt {
 
 /// An arm of a `case`.
 #[cycle(raw_stmt)]
-#[derive(Debug, Drop)]
+#[derive(Drop)]
 pub struct RawArm {
     pub label: RawLiteral,
     pub body: List<RawStmt>,
 }
 
 /// What an edge sets.
-#[derive(Debug, Drop)]
+#[derive(Drop)]
 pub struct RawSet {
     pub target: Text,
     pub value: RawExpr,
 }
 
 /// What a reset loads.
-#[derive(Debug, Drop)]
+#[derive(Drop)]
 pub struct RawLoad {
     pub target: Text,
     pub value: RawLiteral,
@@ -98,7 +98,7 @@ pub struct RawLoad {
 
 /// An asynchronous reset: the edge and the name in the list of edges, the condition under which it stands, and what it
 /// loads.
-#[derive(Debug, Drop)]
+#[derive(Drop)]
 pub struct RawReset {
     pub rising: bool,
     pub signal: Text,
@@ -108,7 +108,7 @@ pub struct RawReset {
 }
 
 /// A procedure.
-#[derive(Debug, Drop)]
+#[derive(Drop)]
 pub enum RawBlock {
     Comb(List<RawStmt>),
     Edge {
@@ -120,7 +120,7 @@ pub enum RawBlock {
 }
 
 /// A variable: the decimal digits of the number of its highest bit, where it has a range.
-#[derive(Debug, Drop)]
+#[derive(Drop)]
 pub struct RawVar {
     pub name: Text,
     pub dir: Dir,
@@ -128,14 +128,14 @@ pub struct RawVar {
 }
 
 /// A line or more behind the ports.
-#[derive(Debug, Drop)]
+#[derive(Drop)]
 pub enum RawItem {
     Var(RawVar),
     Block(RawBlock),
 }
 
 /// A module.
-#[derive(Debug, Drop)]
+#[derive(Drop)]
 pub struct RawModule {
     pub name: Text,
     pub ports: List<RawVar>,

@@ -2,18 +2,18 @@ use scc_base::{Boxed, List};
 use scc_bits::Word;
 
 /// A variable of a module, by its place in the module's list of variables, from 0.
-#[derive(Clone, Copy, Debug, PartialEq, Eq)]
+#[derive(Clone, Copy, PartialEq, Eq)]
 pub struct VarId(pub u32);
 
 /// A number without sign in a width of 1 to 128 bits (IEEE 1800-2017, section 5.7.1).
-#[derive(Clone, Copy, Debug)]
+#[derive(Clone, Copy)]
 pub struct SvLiteral {
     pub width: u32,
     pub value: Word,
 }
 
 /// A variable, or a bit or a range of its bits (IEEE 1800-2017, section 11.5.1).
-#[derive(Clone, Copy, Debug)]
+#[derive(Clone, Copy)]
 pub enum SvLeft {
     Whole(VarId),
     Bit { var: VarId, at: u32 },
@@ -23,13 +23,12 @@ pub enum SvLeft {
 /// An expression (IEEE 1800-2017, section 11). A chain of operators is as deep as it is long, so it is let go by a loop along its
 /// first operands.
 #[cycle(expr)]
-#[derive(Debug)]
 pub struct SvExpr {
     pub node: Boxed<SvExprNode>,
 }
 
 #[cycle(expr)]
-#[derive(Debug, Drop)]
+#[derive(Drop)]
 pub enum SvExprNode {
     Literal(SvLiteral),
     Left(SvLeft),
@@ -61,7 +60,7 @@ pub enum SvExprNode {
 }
 
 /// `~ ! -` and the reductions `& | ^`.
-#[derive(Clone, Copy, Debug, PartialEq, Eq)]
+#[derive(Clone, Copy, PartialEq, Eq)]
 pub enum SvUnary {
     Not,
     LogNot,
@@ -72,7 +71,7 @@ pub enum SvUnary {
 }
 
 /// The operators of two operands; `Sar` is `>>>`.
-#[derive(Clone, Copy, Debug, PartialEq, Eq)]
+#[derive(Clone, Copy, PartialEq, Eq)]
 pub enum SvBinary {
     Add,
     Sub,

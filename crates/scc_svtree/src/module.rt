@@ -3,7 +3,7 @@ use scc_base::{List, Text};
 use scc_bits::Word;
 
 /// A module (IEEE 1800-2017, section 23): its ports stand before its other variables.
-#[derive(Debug, Drop)]
+#[derive(Drop)]
 pub struct SvModule {
     pub name: Text,
     pub vars: List<SvVar>,
@@ -11,7 +11,7 @@ pub struct SvModule {
 }
 
 /// A variable of 1 to 128 bits without sign.
-#[derive(Debug, Drop)]
+#[derive(Drop)]
 pub struct SvVar {
     pub name: Text,
     pub width: u32,
@@ -19,7 +19,7 @@ pub struct SvVar {
 }
 
 /// Whether a variable is a port.
-#[derive(Clone, Copy, Debug, PartialEq, Eq)]
+#[derive(Clone, Copy, PartialEq, Eq)]
 pub enum Dir {
     Input,
     Output,
@@ -27,7 +27,7 @@ pub enum Dir {
 }
 
 /// A procedure that runs by itself (IEEE 1800-2017, section 9.2.2).
-#[derive(Debug, Drop)]
+#[derive(Drop)]
 pub enum SvBlock {
     /// `always_comb`.
     Comb(List<SvStmt>),
@@ -41,7 +41,7 @@ pub enum SvBlock {
 }
 
 /// An asynchronous reset: the signal, the edge at which it becomes active, and what it loads.
-#[derive(Debug, Drop)]
+#[derive(Drop)]
 pub struct SvReset {
     pub signal: VarId,
     pub rising: bool,
@@ -49,14 +49,14 @@ pub struct SvReset {
 }
 
 /// A register that a reset loads with a number.
-#[derive(Clone, Copy, Debug)]
+#[derive(Clone, Copy)]
 pub struct SvLoad {
     pub target: VarId,
     pub value: Word,
 }
 
 /// A register that an edge sets to a value.
-#[derive(Debug, Drop)]
+#[derive(Drop)]
 pub struct SvSet {
     pub target: VarId,
     pub value: SvExpr,

@@ -3,7 +3,7 @@ use scc_base::List;
 
 /// A statement (IEEE 1800-2017, sections 10.4.1, 12.4 and 12.5).
 #[cycle(stmt)]
-#[derive(Debug, Drop)]
+#[derive(Drop)]
 pub enum SvStmt {
     /// A blocking assignment.
     Assign {
@@ -24,7 +24,7 @@ pub enum SvStmt {
 
 /// An arm of a `case`.
 #[cycle(stmt)]
-#[derive(Debug, Drop)]
+#[derive(Drop)]
 pub struct SvArm {
     pub label: SvLiteral,
     pub body: List<SvStmt>,

@@ -14,7 +14,7 @@ use scc_base::{Code, List, Name, NoMemory, Place, Stop, lost};
 use scc_tree::{ClassTree, ExprNode, FileTree, FunctionTree, Item, ItemNode, Param, TyArg, TyNode};
 
 /// A function of an instance, or of the file. The name of a constructor is that of its class.
-#[derive(Clone, Copy, Debug, PartialEq, Eq, Hash)]
+#[derive(Clone, Copy, PartialEq, Eq, Hash)]
 pub struct FunctionKey {
     pub scope: Option<InstanceId>,
     pub name: Name,
@@ -23,7 +23,7 @@ pub struct FunctionKey {
 
 /// Where a body stands: in an item of the file, or among those of its class body; and which parameters of templates are known
 /// there.
-#[derive(Clone, Copy, Debug, PartialEq, Eq)]
+#[derive(Clone, Copy, PartialEq, Eq)]
 pub struct BodyAt {
     pub item: usize,
     pub inner: Option<usize>,

@@ -5,7 +5,7 @@ use scc_tree::{ClassTree, FileTree, Item, ItemNode};
 
 /// What a name is declared as. An `item` is the number of the declaration among those of its scope: of the file, or of the
 /// body of its instance's class.
-#[derive(Clone, Copy, Debug, PartialEq, Eq)]
+#[derive(Clone, Copy, PartialEq, Eq)]
 pub enum Entry {
     Class { item: usize },
     Alias { item: usize },
@@ -24,14 +24,14 @@ pub enum Entry {
 }
 
 /// A declaration with the instance that it stands in, None for the file and for what is no declaration of a scope.
-#[derive(Clone, Copy, Debug, PartialEq, Eq)]
+#[derive(Clone, Copy, PartialEq, Eq)]
 pub struct Found {
     pub scope: Option<InstanceId>,
     pub entry: Entry,
 }
 
 /// Which parameters of templates are known.
-#[derive(Clone, Copy, Debug, PartialEq, Eq)]
+#[derive(Clone, Copy, PartialEq, Eq)]
 pub enum Given {
     Nothing,
     /// Those of the instance's class.

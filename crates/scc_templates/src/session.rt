@@ -13,7 +13,7 @@ use scc_tree::{ClassTree, FileTree};
 use std::alloc::Global;
 
 /// What the walk over a program takes.
-#[derive(Clone, Copy, Debug, PartialEq, Eq)]
+#[derive(Clone, Copy, PartialEq, Eq)]
 pub enum Needed {
     Instance(InstanceId),
     /// The function of the file whose body is the item of that number.

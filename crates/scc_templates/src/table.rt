@@ -9,15 +9,15 @@ use scc_bits::{Kind, Value};
 use std::alloc::Global;
 
 /// The number of the item that declares a class.
-#[derive(Clone, Copy, Debug, PartialEq, Eq, Hash)]
+#[derive(Clone, Copy, PartialEq, Eq, Hash)]
 pub struct ClassId(pub u32);
 
 /// The number of an instance of a class.
-#[derive(Clone, Copy, Debug, PartialEq, Eq, Hash)]
+#[derive(Clone, Copy, PartialEq, Eq, Hash)]
 pub struct InstanceId(pub u32);
 
 /// An argument of a template.
-#[derive(Clone, Copy, Debug, PartialEq, Eq, Hash)]
+#[derive(Clone, Copy, PartialEq, Eq, Hash)]
 pub enum Arg {
     Value(Value),
     /// A type that is a number's.
@@ -28,7 +28,7 @@ pub enum Arg {
 pub type Args = List<Arg>;
 
 /// What a type is without its arrays and pointers.
-#[derive(Clone, Copy, Debug, PartialEq, Eq)]
+#[derive(Clone, Copy, PartialEq, Eq)]
 pub enum Base {
     Number(Kind),
     Class(InstanceId),
@@ -39,7 +39,7 @@ pub enum Base {
 }
 
 /// A type.
-#[derive(Clone, Copy, Debug, PartialEq, Eq)]
+#[derive(Clone, Copy, PartialEq, Eq)]
 pub struct TypeOf {
     pub base: Base,
     /// Whether it is a vector of these.

@@ -6,7 +6,7 @@ use crate::terminal::Seen;
 use scc_base::{NoMemory, Place};
 
 /// Why nothing is read: the place of the first token that is too many, or none at the end of the tokens.
-#[derive(Clone, Copy, Debug)]
+#[derive(Clone, Copy)]
 pub enum Halt {
     /// Memory ran out.
     NoMemory,

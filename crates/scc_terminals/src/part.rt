@@ -2,7 +2,7 @@ use scc_base::Place;
 use scc_tree::{Expr, LocalTree, SimpleTree, Ty};
 
 /// How a type begins, by which it may go on as an expression.
-#[derive(Clone, Copy, Debug, PartialEq, Eq)]
+#[derive(Clone, Copy, PartialEq, Eq)]
 pub enum Sort {
     /// With `const`.
     Constant,
@@ -13,7 +13,7 @@ pub enum Sort {
 }
 
 /// A type that was read.
-#[derive(Debug, Drop)]
+#[derive(Drop)]
 pub struct TypeRead {
     pub place: Place,
     pub ty: Ty,
@@ -23,21 +23,21 @@ pub struct TypeRead {
 }
 
 /// An expression with the place of its first token, brackets included.
-#[derive(Debug, Drop)]
+#[derive(Drop)]
 pub struct Placed {
     pub place: Place,
     pub of: Expr,
 }
 
 /// What stands behind a `(`, up to a `,` or `)`.
-#[derive(Debug, Drop)]
+#[derive(Drop)]
 pub enum Bracketed {
     AType(Ty),
     AnExpr(Expr),
 }
 
 /// A statement that begins with a type or an expression, before its `;`.
-#[derive(Debug, Drop)]
+#[derive(Drop)]
 pub enum Line {
     ALocal(LocalTree),
     ASimple(SimpleTree),

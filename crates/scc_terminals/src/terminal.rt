@@ -3,7 +3,7 @@ use scc_bits::{Kind, Op, Word};
 use scc_tree::{Family, UnaryOp};
 
 /// What a token is to the grammar: words and marks that stand at the same places of it are one terminal.
-#[derive(Clone, Copy, Debug)]
+#[derive(Clone, Copy)]
 pub enum Terminal {
     /// An identifier that is none of the words.
     Ident(Name),
@@ -188,7 +188,7 @@ pub enum Terminal {
 }
 
 /// The types that hold a type.
-#[derive(Clone, Copy, Debug)]
+#[derive(Clone, Copy)]
 pub enum Holder {
     Input,
     Output,
@@ -197,7 +197,7 @@ pub enum Holder {
 }
 
 /// A token as the grammar sees it.
-#[derive(Clone, Copy, Debug)]
+#[derive(Clone, Copy)]
 pub struct Seen {
     pub terminal: Terminal,
     /// Its first byte.

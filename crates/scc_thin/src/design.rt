@@ -2,7 +2,7 @@
 use scc_base::{List, Text};
 
 /// A port of numbers without sign.
-#[derive(Debug, Drop)]
+#[derive(Drop)]
 pub struct Port {
     pub name: Text,
     /// Whether it is an output; else it is an input.
@@ -12,7 +12,7 @@ pub struct Port {
 }
 
 /// The operators `&`, `|` and `^`.
-#[derive(Clone, Copy, Debug, PartialEq, Eq)]
+#[derive(Clone, Copy, PartialEq, Eq)]
 pub enum Bitwise {
     And,
     Or,
@@ -20,14 +20,14 @@ pub enum Bitwise {
 }
 
 /// The second operand of a written value.
-#[derive(Clone, Copy, Debug)]
+#[derive(Clone, Copy)]
 pub struct Second {
     pub op: Bitwise,
     pub port: u32,
 }
 
 /// A write to a port, all ports by their numbers from 0.
-#[derive(Clone, Copy, Debug)]
+#[derive(Clone, Copy)]
 pub struct Put {
     pub target: u32,
     pub first: u32,
@@ -35,7 +35,7 @@ pub struct Put {
 }
 
 /// A module with its ports in the order of their declarations, and its writes in theirs.
-#[derive(Debug, Drop)]
+#[derive(Drop)]
 pub struct Design {
     /// The module's name.
     pub top: Text,

@@ -4,7 +4,7 @@ ghost use Rattle.scc_thin.specs.declared.halt.Halt.TheVariants as halt;
 use scc_base::NoMemory;
 
 /// Why reading a thin text stops.
-#[derive(Clone, Copy, Debug)]
+#[derive(Clone, Copy)]
 pub enum Halt {
     /// The text has another form.
     Other,

@@ -17,7 +17,7 @@ use scc_lexer::Tokens;
 use std::alloc::Global;
 
 /// The joined tokens, and where the last root ends.
-#[derive(Debug, Drop)]
+#[derive(Drop)]
 pub struct Joined {
     pub tokens: Tokens,
     /// The end of the last root.
@@ -25,7 +25,7 @@ pub struct Joined {
 }
 
 /// Why files are not joined.
-#[derive(Debug, Drop)]
+#[derive(Drop)]
 pub enum JoinFault {
     /// A refusal, or want of memory.
     Stop(Stop),

@@ -3,7 +3,7 @@ use scc_base::{List, Text};
 use scc_bits::Word;
 
 /// A port of the module that is run.
-#[derive(Debug, Drop)]
+#[derive(Drop)]
 pub struct StimPort {
     pub name: Text,
     /// In bits.
@@ -11,14 +11,14 @@ pub struct StimPort {
 }
 
 /// A version of stimuli: in the first every step has an edge, in the second a step may have none.
-#[derive(Clone, Copy, Debug, PartialEq, Eq)]
+#[derive(Clone, Copy, PartialEq, Eq)]
 pub enum Version {
     One,
     Two,
 }
 
 /// A step of a stimulus.
-#[derive(Debug, Drop)]
+#[derive(Drop)]
 pub struct StimStep {
     /// Whether the clock has an edge once the inputs are set.
     pub edge: bool,
@@ -30,7 +30,7 @@ pub struct StimStep {
 pub type Stim = List<StimStep>;
 
 /// A step of a stimulus for more than one clock.
-#[derive(Debug, Drop)]
+#[derive(Drop)]
 pub struct ClockStep {
     /// Bit i is 1 where the i-th clock has an edge.
     pub mask: Word,

@@ -8,14 +8,14 @@ use std::alloc::Global;
 
 /// An expression (C++, [expr]), with the place of its first token. Brackets round one expression make no node.
 #[cycle(expr)]
-#[derive(Debug, Drop)]
+#[derive(Drop)]
 pub struct Expr {
     pub place: Place,
     pub node: Boxed<ExprNode>,
 }
 
 #[cycle(expr)]
-#[derive(Debug, Drop)]
+#[derive(Drop)]
 pub enum ExprNode {
     /// A number; `true` and `false` are the numbers 1 and 0 of the kind `Bool`.
     Number(Kind, Word),
@@ -44,7 +44,7 @@ pub enum ExprNode {
 
 /// An operator and its right operand; the place is the operator's.
 #[cycle(expr)]
-#[derive(Debug, Drop)]
+#[derive(Drop)]
 pub struct Link {
     pub op: Op,
     pub place: Place,
@@ -53,14 +53,14 @@ pub struct Link {
 
 /// One step behind an expression. The place is the bracket's, or that of the member's name.
 #[cycle(expr)]
-#[derive(Debug, Drop)]
+#[derive(Drop)]
 pub struct Part {
     pub place: Place,
     pub node: PartNode,
 }
 
 #[cycle(expr)]
-#[derive(Debug, Drop)]
+#[derive(Drop)]
 pub enum PartNode {
     /// `[at]`.
     Index(Expr),
@@ -73,7 +73,7 @@ pub enum PartNode {
 }
 
 /// `+ - ! ~ * &` before an operand (C++, [expr.unary.op]).
-#[derive(Clone, Copy, Debug, PartialEq, Eq)]
+#[derive(Clone, Copy, PartialEq, Eq)]
 pub enum UnaryOp {
     Plus,
     Neg,

@@ -2,7 +2,7 @@ use crate::{Decl, Expr, Hold, Stmt, Ty, TyArg};
 use scc_base::{List, Name, Place};
 
 /// A source: its declarations in the order of the text, and the end of its last file.
-#[derive(Debug, Drop)]
+#[derive(Drop)]
 pub struct FileTree {
     pub items: List<Item>,
     pub end: Place,
@@ -11,7 +11,7 @@ pub struct FileTree {
 /// A declaration (C++, [dcl.dcl]). The place is that of its name, or of its first token where it has none; for a body outside
 /// its class it is that of the class's name.
 #[cycle(item)]
-#[derive(Debug, Drop)]
+#[derive(Drop)]
 pub struct Item {
     pub place: Place,
     /// None for an enumeration without a name alone.
@@ -20,7 +20,7 @@ pub struct Item {
 }
 
 #[cycle(item)]
-#[derive(Debug, Drop)]
+#[derive(Drop)]
 pub enum ItemNode {
     Class(ClassTree),
     /// A `typedef`.
@@ -43,7 +43,7 @@ pub enum ItemNode {
 
 /// A class (C++, [class]) or module (IEEE 1666-2011, section 5.2).
 #[cycle(item)]
-#[derive(Debug, Drop)]
+#[derive(Drop)]
 pub struct ClassTree {
     /// Not empty exactly for a class template.
     pub params: List<Param>,
@@ -56,7 +56,7 @@ pub struct ClassTree {
 }
 
 /// A parameter of a template (C++, [temp.param]); the place is its name's.
-#[derive(Debug, Drop)]
+#[derive(Drop)]
 pub struct Param {
     pub place: Place,
     pub name: Name,
@@ -65,7 +65,7 @@ pub struct Param {
 }
 
 /// What a template's parameter stands for.
-#[derive(Clone, Copy, Debug, PartialEq, Eq)]
+#[derive(Clone, Copy, PartialEq, Eq)]
 pub enum ParamSort {
     Int,
     Unsigned,
@@ -75,7 +75,7 @@ pub enum ParamSort {
 }
 
 /// A member variable (C++, [class.mem]); the place is its name's.
-#[derive(Debug, Drop)]
+#[derive(Drop)]
 pub struct Field {
     pub place: Place,
     pub ty: Ty,
@@ -85,7 +85,7 @@ pub struct Field {
 }
 
 /// A function, member function or constructor (C++, [dcl.fct], [class.ctor]); the place is its name's.
-#[derive(Debug, Drop)]
+#[derive(Drop)]
 pub struct FunctionTree {
     pub place: Place,
     pub name: Name,
@@ -99,7 +99,7 @@ pub struct FunctionTree {
 }
 
 /// A parameter of a function; the place is its name's.
-#[derive(Debug, Drop)]
+#[derive(Drop)]
 pub struct Prm {
     pub place: Place,
     pub ty: Ty,
@@ -108,7 +108,7 @@ pub struct Prm {
 }
 
 /// An initialiser of a constructor (C++, [class.base.init]), with the place of its first token.
-#[derive(Debug, Drop)]
+#[derive(Drop)]
 pub struct Init {
     pub place: Place,
     /// None for `sc_module`.
@@ -117,7 +117,7 @@ pub struct Init {
 }
 
 /// A name of an enumeration (C++, [dcl.enum]) with the value that is written for it.
-#[derive(Debug, Drop)]
+#[derive(Drop)]
 pub struct Enumerator {
     pub place: Place,
     pub name: Name,

@@ -2,7 +2,7 @@ use crate::{Expr, Ty};
 use scc_base::{List, Name, Place};
 
 /// Whether a name stands for a value itself, or `*` or `&` stands before it.
-#[derive(Clone, Copy, Debug, PartialEq, Eq)]
+#[derive(Clone, Copy, PartialEq, Eq)]
 pub enum Hold {
     Direct,
     Pointer,
@@ -10,7 +10,7 @@ pub enum Hold {
 }
 
 /// A declared name with the sizes of its arrays, outermost first (C++, [dcl.decl]); the place is the name's.
-#[derive(Debug, Drop)]
+#[derive(Drop)]
 pub struct Decl {
     pub place: Place,
     pub name: Name,
@@ -19,14 +19,14 @@ pub struct Decl {
 }
 
 /// Local variables of one type (C++, [stmt.dcl]).
-#[derive(Debug, Drop)]
+#[derive(Drop)]
 pub struct LocalTree {
     pub ty: Ty,
     pub names: List<LocalDecl>,
 }
 
 /// One local variable with its initial value.
-#[derive(Debug, Drop)]
+#[derive(Drop)]
 pub struct LocalDecl {
     pub decl: Decl,
     pub value: Option<Expr>,

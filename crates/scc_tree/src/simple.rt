@@ -3,13 +3,13 @@ use scc_base::Place;
 use scc_bits::Op;
 
 /// An assignment, a step or a call (C++, [expr.ass], [expr.pre.incr], [expr.post.incr], [expr.call]), with the place of its first token.
-#[derive(Debug, Drop)]
+#[derive(Drop)]
 pub struct SimpleTree {
     pub place: Place,
     pub node: SimpleNode,
 }
 
-#[derive(Debug, Drop)]
+#[derive(Drop)]
 pub enum SimpleNode {
     /// `left = value`, or with an operator as in `left += value`.
     Assign {

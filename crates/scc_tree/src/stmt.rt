@@ -7,14 +7,14 @@ use std::alloc::Global;
 
 /// A statement (C++, [stmt.stmt]), with the place of its first token.
 #[cycle(stmt)]
-#[derive(Debug, Drop)]
+#[derive(Drop)]
 pub struct Stmt {
     pub place: Place,
     pub node: Boxed<StmtNode>,
 }
 
 #[cycle(stmt)]
-#[derive(Debug, Drop)]
+#[derive(Drop)]
 pub enum StmtNode {
     Block(List<Stmt>),
     Empty,
@@ -77,14 +77,14 @@ pub enum StmtNode {
 
 /// What stands in the braces of a `switch`, with the place of its first token.
 #[cycle(stmt)]
-#[derive(Debug, Drop)]
+#[derive(Drop)]
 pub struct SwitchItem {
     pub place: Place,
     pub node: SwitchNode,
 }
 
 #[cycle(stmt)]
-#[derive(Debug, Drop)]
+#[derive(Drop)]
 pub enum SwitchNode {
     /// `case e:`.
     Case(Expr),
@@ -94,7 +94,7 @@ pub enum SwitchNode {
 }
 
 /// The first part of the head of a `for`.
-#[derive(Debug, Drop)]
+#[derive(Drop)]
 pub enum ForFirst {
     Nothing,
     Local(LocalTree),

@@ -8,7 +8,7 @@ use std::alloc::Global;
 
 /// A type (C++, [dcl.type]; IEEE 1666-2011, sections 5 to 7), with the place of its first token, the word `const` included.
 #[cycle(expr)]
-#[derive(Debug, Drop)]
+#[derive(Drop)]
 pub struct Ty {
     pub place: Place,
     /// Whether `const` stands before it.
@@ -17,7 +17,7 @@ pub struct Ty {
 }
 
 #[cycle(expr)]
-#[derive(Debug, Drop)]
+#[derive(Drop)]
 pub enum TyNode {
     /// `bool`, or an integer of C++.
     Number(Kind),
@@ -44,7 +44,7 @@ pub enum TyNode {
 }
 
 /// The numbers with a width of their own: `sc_int`, `sc_uint`, `sc_biguint`, `sc_bigint`, `sc_bv`.
-#[derive(Clone, Copy, Debug, PartialEq, Eq)]
+#[derive(Clone, Copy, PartialEq, Eq)]
 pub enum Family {
     Int,
     Uint,
@@ -55,7 +55,7 @@ pub enum Family {
 
 /// An argument between angle brackets.
 #[cycle(expr)]
-#[derive(Debug, Drop)]
+#[derive(Drop)]
 pub enum TyArg {
     Value(Expr),
     Named(Ty),

@@ -15,7 +15,7 @@ use std::alloc::Global;
 
 /// Writes counted loops out, turn by turn. It refuses a loop without a wait that isn't counted (UncountedLoop), and more than 4,096
 /// turns of a process or more than 65,536 statements of its unrolled body (TooManyTurns).
-#[derive(Clone, Copy, Debug)]
+#[derive(Clone, Copy)]
 pub struct Unroll;
 
 impl Pass for Unroll {

@@ -8,7 +8,7 @@ use crate::classes::{count_of, is_plain, is_top, is_word};
 use crate::options::{Awaiting, Options, no_options, options_of};
 
 /// What `compile` writes.
-#[derive(Clone, Copy, Debug, PartialEq, Eq)]
+#[derive(Clone, Copy, PartialEq, Eq)]
 pub enum Form {
     /// One module.
     Whole,
@@ -21,7 +21,7 @@ pub enum Form {
 }
 
 /// What `svsim` reads.
-#[derive(Clone, Copy, Debug, PartialEq, Eq)]
+#[derive(Clone, Copy, PartialEq, Eq)]
 pub enum SvForm {
     Whole,
     Hier,
@@ -29,7 +29,7 @@ pub enum SvForm {
 }
 
 /// What `sim` does.
-#[derive(Clone, Copy, Debug, PartialEq, Eq)]
+#[derive(Clone, Copy, PartialEq, Eq)]
 pub enum SimWay {
     /// Runs the design.
     Whole,
@@ -42,7 +42,7 @@ pub enum SimWay {
 }
 
 /// A command. Word 0 is its action; word 1 names the module, or is the number of `gen`; the files are the words from 2 on.
-#[derive(Clone, Copy, Debug, PartialEq, Eq)]
+#[derive(Clone, Copy, PartialEq, Eq)]
 pub enum Command {
     /// Of 1 to 64 files.
     Compile {

@@ -10,7 +10,7 @@ use scc_tokens::TokenKind;
 use std::alloc::Global;
 
 /// A token.
-#[derive(Debug, Drop)]
+#[derive(Drop)]
 pub enum Token {
     /// A word of the source language, by its number.
     Word(u8),

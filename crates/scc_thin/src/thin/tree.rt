@@ -3,7 +3,7 @@ use crate::design::Bitwise;
 use scc_base::{List, Text};
 
 /// Ports that are declared together.
-#[derive(Debug, Drop)]
+#[derive(Drop)]
 pub struct Group {
     pub output: bool,
     /// In bits, 1 to 64.
@@ -12,14 +12,14 @@ pub struct Group {
 }
 
 /// An operator, and the port that is read behind it.
-#[derive(Debug, Drop)]
+#[derive(Drop)]
 pub struct Read {
     pub op: Bitwise,
     pub port: Text,
 }
 
 /// A write to a port: of a port that is read, or of two with an operator.
-#[derive(Debug, Drop)]
+#[derive(Drop)]
 pub struct Write {
     pub target: Text,
     pub first: Text,
@@ -27,21 +27,21 @@ pub struct Write {
 }
 
 /// The module's name and its ports.
-#[derive(Debug, Drop)]
+#[derive(Drop)]
 pub struct Head {
     pub top: Text,
     pub groups: List<Group>,
 }
 
 /// The function with its writes.
-#[derive(Debug, Drop)]
+#[derive(Drop)]
 pub struct Body {
     pub function: Text,
     pub writes: List<Write>,
 }
 
 /// The constructor: the class that it names, the function that is its process, and the sensitivity.
-#[derive(Debug, Drop)]
+#[derive(Drop)]
 pub struct Constructor {
     pub class: Text,
     pub method: Text,
@@ -49,7 +49,7 @@ pub struct Constructor {
 }
 
 /// A whole thin text.
-#[derive(Debug, Drop)]
+#[derive(Drop)]
 pub struct Tree {
     pub head: Head,
     pub body: Body,

@@ -1,4 +1,4 @@
-//! Files and outputs of the system. They tell nothing of what they hold, so of them no clause says more than their traits.
+//! Adapters. They tell nothing of what they hold, so of them no clause says more than their traits.
 ghost use Rattle.std.specs.Prelude.{◌≡◌, ◌≤◌, length, IfOk};
 
 use scc_base::{FileFault, Files, Sink, SinkFault};
@@ -11,8 +11,10 @@ use std::rt::Files as System;
 #[derive(Drop)]
 pub struct Disk<'a, R> {
     rt: &'a R,
-    misses: u64,
-    faults: u64,
+    /// How many reads found no file.
+    pub misses: u64,
+    /// How many reads failed otherwise.
+    pub faults: u64,
 }
 
 impl<'a, R> Disk<'a, R> {
@@ -93,7 +95,8 @@ fn first_bytes<R: Read>(alloc: Global, reader: &mut R, limit: u64) -> Result<Vec
 #[derive(Drop)]
 pub struct Stream<W> {
     inner: W,
-    faults: u64,
+    /// How many writes failed.
+    pub faults: u64,
 }
 
 impl<W> Stream<W> {
