@@ -2,14 +2,13 @@
 ghost use Rattle.std.specs.Prelude.{◌<◌, IfSome};
 ghost use Rattle.scc_plaintree.specs.declared.expr.PlainExpr.{size-PlainExpr};
 
-use crate::moving::first_base;
 use crate::scope::{Growing, Here, Scope};
-use crate::walk::pointers;
 use scc_base::{Boxed, List, NoMemory, Path, Place, lost};
 use scc_core::{
     CellName, Copies, CoreBase, CoreExpr, CoreExprNode, CoreLeft, CorePart, CorePick, LEVELS,
     NameStep, Spot, deeper,
 };
+use scc_plainfacts::{first_base, pointers};
 use scc_plaintree::{
     Base, PlainBase, PlainExpr, PlainExprNode, PlainLeft, PlainPart, PlainPick, Reach,
 };

@@ -2,8 +2,6 @@
 ghost use Rattle.std.specs.Prelude.{IfErr};
 ghost use Rattle.scc_inline.specs.Refusals.{MayStop};
 
-use crate::cells::{ObjectCells, object_cells, vectors};
-use crate::facts::{DEPTH, Facts, all_facts};
 use crate::scope::{Growing, Here, Scope, Source, This};
 use indexmap::IndexMap;
 use scc_base::{Code, List, NoMemory, Path, PathPart, Stop, lost};
@@ -12,6 +10,7 @@ use scc_core::{
     Sort2, numbered,
 };
 use scc_design::{Design, Process, Sort};
+use scc_plainfacts::{DEPTH, Facts, ObjectCells, all_facts, object_cells, vectors};
 use scc_plaintree::Plain;
 use std::alloc::Global;
 

@@ -1,5 +1,4 @@
 //! What a copy of a function works with.
-use crate::facts::Facts;
 use indexmap::IndexMap;
 use scc_base::{List, Name, NoMemory, Path, Place, lost, push};
 use scc_bits::{Kind, Value, Word};
@@ -7,6 +6,7 @@ use scc_core::{
     Cell, CellName, CellSort, CoreBase, CoreExpr, CoreExprNode, CoreLeft, CoreNode, CoreStmt,
     Counters, Known, Places, Spot, numbered,
 };
+use scc_plainfacts::Facts;
 use scc_plaintree::{Base, Plain, PlainFunction, PlainMember, Reach};
 use std::alloc::Global;
 

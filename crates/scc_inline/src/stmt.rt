@@ -2,12 +2,12 @@
 ghost use Rattle.std.specs.Prelude.{IfErr};
 ghost use Rattle.scc_inline.specs.Refusals.{MayStop};
 
-use crate::facts::alone;
 use crate::scope::{Growing, Here, Scope, This};
 use scc_base::{Boxed, Code, List, NoMemory, Place, Stop, lost};
 use scc_core::{
     CoreBase, CoreExpr, CoreLeft, CoreNode, CorePart, CoreStmt, Count, Pointed, deeper, pointers,
 };
+use scc_plainfacts::alone;
 use scc_plaintree::{
     PlainArg, PlainCount, PlainExpr, PlainFunction, PlainLeft, PlainNode, PlainStmt, PlainTarget,
     Reach,
