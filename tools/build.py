@@ -126,11 +126,13 @@ class Lane:
 
     def end(self):
         """Ends the check if it still runs, hands back what it left, and answers its status."""
-        if self.check.poll() is None:
-            self.check.terminate()
-        status = self.check.wait()
+        status = None
+        if self.check:
+            if self.check.poll() is None:
+                self.check.terminate()
+            status = self.check.wait()
         self.move_out(self.top, TOP)
-        self.check = None
+        self.crate, self.check = None, None
         return status
 
     def said(self):
@@ -145,7 +147,7 @@ class Build:
         self.alone = set()
 
     def busy(self):
-        return [it for it in self.lanes if it.check]
+        return [it for it in self.lanes if it.crate]
 
     def ready(self):
         found = [it for it in self.left if self.built.issuperset(self.uses[it])]
@@ -154,7 +156,7 @@ class Build:
 
     def begin(self):
         """Begins what can begin. Where fewer checks than processors can run, each gets several."""
-        ready, idle = self.ready(), [it for it in self.lanes if not it.check]
+        ready, idle = self.ready(), [it for it in self.lanes if not it.crate]
         many = len(self.busy()) + min(len(idle), len(ready))
         for lane, crate in zip(idle, ready):
             self.left.remove(crate)
@@ -199,23 +201,30 @@ def ended(number, frame):
     raise KeyboardInterrupt
 
 
+def build_in(folder, uses):
+    """Builds the crates in lanes of this folder."""
+    processors = len(os.sched_getaffinity(0))
+    many = max(1, min(processors, free_memory() // MEMORY_OF_A_CHECK))
+    lanes = [Lane(Path(folder, str(it))) for it in range(many)]
+    try:
+        return Build(uses, lanes, processors).run()
+    finally:
+        for lane in lanes:
+            if lane.crate:
+                lane.end()
+
+
 def main():
     uses = crates_below(PROGRAM)
     if all(is_built(it, uses) for it in uses):
         return 0
     signal.signal(signal.SIGTERM, ended)
-    processors = len(os.sched_getaffinity(0))
-    many = max(1, min(processors, free_memory() // MEMORY_OF_A_CHECK))
-    with tempfile.TemporaryDirectory(prefix="scc-", dir=os.environ.get("TMPDIR", "/var/tmp")) as folder:
-        lanes = [Lane(Path(folder, str(it))) for it in range(many)]
-        try:
-            return Build(uses, lanes, processors).run()
-        except KeyboardInterrupt:
-            return 130
-        finally:
-            for lane in lanes:
-                if lane.check:
-                    lane.end()
+    try:
+        with tempfile.TemporaryDirectory(prefix="scc-", dir=os.environ.get("TMPDIR", "/var/tmp")) as folder:
+            return build_in(folder, uses)
+    except KeyboardInterrupt:
+        say("ended; what was proved is kept")
+        return 130
 
 
 if __name__ == "__main__":
