@@ -1,16 +1,17 @@
 //! The bodies of functions that count (C++, [class.mfct], [temp.mem.func], [temp.expl.spec]).
 ghost use Rattle.std.specs.Prelude.{IfErr};
-ghost use Rattle.scc_templates.specs.Refusals.{MayStop};
+ghost use Rattle.scc_scopes.specs.Refusals.{MayStop};
 
 use crate::ask::Key;
 use crate::class_use::{ClassUse, Purpose, begin_use};
-use crate::entry::{Context, Given, class_at};
-use crate::index::{Group, Routine};
-use crate::refuse::{gone, number, refuse};
 use crate::session::{Needed, Templates};
-use crate::table::{InstanceId, Made};
+use crate::table::Made;
 use crate::task::{BodyTask, Scope, Tasks};
 use scc_base::{Code, List, Name, NoMemory, Place, Stop, lost};
+use scc_scopes::entry::{Context, Given, class_at};
+use scc_scopes::index::{Group, Routine};
+use scc_scopes::refuse::{gone, number, refuse};
+use scc_scopes::ty::InstanceId;
 use scc_tree::{ClassTree, ExprNode, FileTree, FunctionTree, Item, ItemNode, Param, TyArg, TyNode};
 
 /// A function of an instance, or of the file. The name of a constructor is that of its class.

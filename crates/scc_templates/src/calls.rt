@@ -1,18 +1,19 @@
 //! The calls of this crate.
 ghost use Rattle.std.specs.Prelude.{IfErr};
-ghost use Rattle.scc_templates.specs.Refusals.{MayStop};
+ghost use Rattle.scc_scopes.specs.Refusals.{MayStop};
 
 use crate::bodies::{BodyAt, FunctionKey};
 use crate::class_use::{ClassUse, Purpose, begin_use};
-use crate::entry::{Context, Found, class_at};
-use crate::index::Index;
 use crate::look::scope_of;
-use crate::refuse::{gone, refuse};
 use crate::session::Templates;
-use crate::table::{Args, ClassId, InstanceId, Instances, TypeOf};
+use crate::table::Instances;
 use crate::task::{BodyTask, ClassTask, Scope, Tasks, TypeTask};
 use scc_base::{Code, Name, Place, Stop, lost};
 use scc_bits::Value;
+use scc_scopes::entry::{Context, Found, class_at};
+use scc_scopes::index::Index;
+use scc_scopes::refuse::{gone, refuse};
+use scc_scopes::ty::{Args, ClassId, InstanceId, TypeOf};
 use scc_tree::{Expr, FileTree, ItemNode, Ty};
 use std::mem;
 

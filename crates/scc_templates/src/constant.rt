@@ -1,17 +1,17 @@
 //! Constants and enumerators (C++, [dcl.dcl], [dcl.enum]).
 ghost use Rattle.std.specs.Prelude.{IfErr};
-ghost use Rattle.scc_templates.specs.Refusals.{MayStop};
+ghost use Rattle.scc_scopes.specs.Refusals.{MayStop};
 
 use crate::ask::Key;
-use crate::entry::{Context, class_at};
 use crate::expression::converted;
-use crate::kinds::INT;
-use crate::refuse::{gone, refuse};
 use crate::session::Templates;
-use crate::table::InstanceId;
 use crate::task::{Scope, Tasks, TypeTask, ValueTask};
 use scc_base::{Code, Place, Stop, lost};
 use scc_bits::{Value, Word};
+use scc_scopes::entry::{Context, class_at};
+use scc_scopes::kinds::INT;
+use scc_scopes::refuse::{gone, refuse};
+use scc_scopes::ty::InstanceId;
 use scc_tree::{Enumerator, Expr, Item, ItemNode};
 
 // An `int` of a word.

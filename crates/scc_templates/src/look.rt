@@ -1,9 +1,9 @@
 //! Look-ups (C++, [basic.lookup]).
-use crate::entry::{Context, Entry, Found, Given};
 use crate::session::Templates;
-use crate::table::{Arg, InstanceId};
 use crate::task::Scope;
 use scc_base::Name;
+use scc_scopes::entry::{Context, Entry, Found, Given};
+use scc_scopes::ty::{Arg, InstanceId};
 
 fn of_file(entry: Entry) -> Found {
     Found { scope: None, entry }

@@ -1,14 +1,15 @@
 //! What is known of a file's templates.
 use crate::ask::{Key, Known, Level};
 use crate::bodies::{BodyAt, BodyKey};
-use crate::entry::class_at;
-use crate::index::{Declared, Group, Index, Routine};
-use crate::join::Joined;
 use crate::part::Thing;
-use crate::table::{Arg, Args, ClassId, InstanceId, Instances, Made, TypeOf};
+use crate::table::{Instances, Made};
 use indexmap::{IndexMap, IndexSet};
 use scc_base::{List, Name, NoMemory};
 use scc_bits::Value;
+use scc_scopes::entry::class_at;
+use scc_scopes::index::{Declared, Group, Index, Routine};
+use scc_scopes::join::Joined;
+use scc_scopes::ty::{Arg, Args, ClassId, InstanceId, TypeOf};
 use scc_tree::{ClassTree, FileTree};
 use std::alloc::Global;
 

@@ -1,74 +1,12 @@
 //! The table of instances.
 ghost use Rattle.std.specs.Prelude.{IfErr};
-ghost use Rattle.scc_templates.specs.Refusals.{MayStop};
+ghost use Rattle.scc_scopes.specs.Refusals.{MayStop};
 
-use crate::refuse::{number, refuse};
 use indexmap::IndexMap;
-use scc_base::{Code, List, NoMemory, Place, Stop, lost, push};
-use scc_bits::{Kind, Value};
+use scc_base::{Code, NoMemory, Place, Stop, lost, push};
+use scc_scopes::refuse::{number, refuse};
+use scc_scopes::ty::{Arg, Args, ClassId, InstanceId};
 use std::alloc::Global;
-
-/// The number of the item that declares a class.
-#[derive(Clone, Copy, PartialEq, Eq, Hash)]
-pub struct ClassId(pub u32);
-
-/// The number of an instance of a class.
-#[derive(Clone, Copy, PartialEq, Eq, Hash)]
-pub struct InstanceId(pub u32);
-
-/// An argument of a template.
-#[derive(Clone, Copy, PartialEq, Eq, Hash)]
-pub enum Arg {
-    Value(Value),
-    /// A type that is a number's.
-    Number(Kind),
-    Class(InstanceId),
-}
-
-pub type Args = List<Arg>;
-
-/// What a type is without its arrays and pointers.
-#[derive(Clone, Copy, PartialEq, Eq)]
-pub enum Base {
-    Number(Kind),
-    Class(InstanceId),
-    Input(Kind),
-    Output(Kind),
-    Signal(Kind),
-    ModuleName,
-}
-
-/// A type.
-#[derive(Clone, Copy, PartialEq, Eq)]
-pub struct TypeOf {
-    pub base: Base,
-    /// Whether it is a vector of these.
-    pub vector: bool,
-}
-
-impl TypeOf {
-    pub(crate) fn plain(base: Base) -> TypeOf {
-        TypeOf {
-            base,
-            vector: false,
-        }
-    }
-
-    /// The kind of a type that is a number's.
-    pub(crate) fn kind(self) -> Option<Kind> {
-        match self.base {
-            Base::Number(kind) if !self.vector => Some(kind),
-            _ => None,
-        }
-    }
-
-    pub(crate) fn instance(self) -> Option<InstanceId> {
-        match self.base {
-            Base::Class(i) if !self.vector => Some(i),
-            _ => None,
-        }
-    }
-}
 
 /// The most instances (this project's profile).
 pub(crate) const MOST: usize = 4096;

@@ -1,6 +1,6 @@
 //! What names mean (C++, [basic.lookup]), and where expressions and types stand.
 use crate::layers::Layers;
-use crate::table::{Arg, InstanceId};
+use crate::ty::{Arg, InstanceId};
 use scc_tree::{ClassTree, FileTree, Item, ItemNode};
 
 /// What a name is declared as. An `item` is the number of the declaration among those of its scope: of the file, or of the

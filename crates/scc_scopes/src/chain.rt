@@ -1,18 +1,18 @@
 //! The chain of instances under evaluation, which has a most (this project's profile).
 ghost use Rattle.std.specs.Prelude.{IfErr};
-ghost use Rattle.scc_templates.specs.Refusals.{MayStop};
+ghost use Rattle.scc_scopes.specs.Refusals.{MayStop};
 
 use crate::refuse::refuse;
-use crate::table::InstanceId;
+use crate::ty::InstanceId;
 use scc_base::{Code, Place, Stop};
 
 /// The most members of a chain.
-pub(crate) const CHAIN: u32 = 64;
+pub const CHAIN: u32 = 64;
 
 /// The members so far: instances whose constants are evaluated, and templates whose defaults are. An instance is no
 /// further member directly behind itself.
 #[derive(Clone, Copy)]
-pub(crate) struct Chain {
+pub struct Chain {
     length: u32,
     last: Option<InstanceId>,
 }
@@ -20,7 +20,7 @@ pub(crate) struct Chain {
 /// How many members an evaluation adds to a chain at most, and the first of them, where all that reach so far begin with
 /// one instance. Behind that instance it is one less.
 #[derive(Clone, Copy)]
-pub(crate) struct Reach {
+pub struct Reach {
     most: u32,
     first: Option<InstanceId>,
 }

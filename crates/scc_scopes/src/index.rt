@@ -15,7 +15,7 @@ struct Member {
 
 /// A function of a class body, or of the file.
 #[derive(Clone, Copy, PartialEq, Eq, Hash)]
-pub(crate) struct Routine {
+pub struct Routine {
     pub class: Option<u32>,
     pub name: Name,
     pub constructor: bool,
@@ -23,14 +23,14 @@ pub(crate) struct Routine {
 
 /// Where a function is declared first, and where its first body stands: numbers of items of its scope.
 #[derive(Clone, Copy)]
-pub(crate) struct Declared {
+pub struct Declared {
     pub first: u32,
     pub body: Option<u32>,
 }
 
 /// Items of the file that are looked for together.
 #[derive(Clone, Copy, PartialEq, Eq, Hash)]
-pub(crate) enum Group {
+pub enum Group {
     /// The specialisations of a class.
     Special(Name),
     /// The bodies outside a class.
@@ -71,7 +71,7 @@ impl Said {
 
 /// The declarations by name. Of several of one name in one scope the first in the text counts.
 #[derive(Drop)]
-pub(crate) struct Index {
+pub struct Index {
     alloc: Global,
     file: IndexMap<Name, Said>,
     members: IndexMap<Member, Said>,

@@ -1,6 +1,6 @@
 //! Concatenations of constants.
 ghost use Rattle.std.specs.Prelude.{IfErr};
-ghost use Rattle.scc_templates.specs.Refusals.{MayStop};
+ghost use Rattle.scc_scopes.specs.Refusals.{MayStop};
 
 use crate::refuse::refuse;
 use scc_base::{Code, Place, Stop};
@@ -19,7 +19,7 @@ enum Parts {
 
 /// A concatenation's first parts.
 #[derive(Clone, Copy)]
-pub(crate) struct Joined {
+pub struct Joined {
     parts: Parts,
     /// Their number, where they have one.
     number: Value,

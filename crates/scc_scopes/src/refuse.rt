@@ -1,5 +1,5 @@
 ghost use Rattle.std.specs.Prelude.{◌≡◌, IfErr, true};
-ghost use Rattle.scc_templates.specs.Refusals.{MayStop, is_refusal};
+ghost use Rattle.scc_scopes.specs.Refusals.{MayStop, is_refusal};
 
 use scc_base::{Code, NoMemory, Place, Stop, lost};
 
@@ -9,7 +9,7 @@ pub fn refused(code: Code, place: Place) -> Stop {
 }
 
 /// A refusal as an answer.
-pub(crate) fn refuse<T>(code: Code, place: Place) -> Result<T, Stop>
+pub fn refuse<T>(code: Code, place: Place) -> Result<T, Stop>
     requires { is_refusal code ≡ true }
     ensures stop { IfErr result MayStop }
 {
@@ -17,13 +17,13 @@ pub(crate) fn refuse<T>(code: Code, place: Place) -> Result<T, Stop>
 }
 
 /// The answer of what should not happen.
-pub(crate) fn gone<T>() -> Result<T, Stop>
+pub fn gone<T>() -> Result<T, Stop>
     ensures stop { IfErr result MayStop }
 {
     Err(Stop::from(lost()))
 }
 
 /// A count as a number. No source has as many as 2^32 of anything.
-pub(crate) fn number(n: usize) -> Result<u32, NoMemory> {
+pub fn number(n: usize) -> Result<u32, NoMemory> {
     u32::try_from(n).map_err(|_| lost())
 }

@@ -1,6 +1,6 @@
 //! Operators on constants.
 ghost use Rattle.std.specs.Prelude.{◌≡◌, IfErr, true};
-ghost use Rattle.scc_templates.specs.Refusals.{MayStop, is_refusal};
+ghost use Rattle.scc_scopes.specs.Refusals.{MayStop, is_refusal};
 
 use crate::refuse::refuse;
 use scc_base::{Code, Place, Stop, lost};
@@ -18,7 +18,7 @@ fn code_of(fault: Fault) -> Code
 }
 
 /// The operator that stands before one operand, None where it is one on pointers.
-pub(crate) fn operator_of(op: UnaryOp) -> Option<Op> {
+pub fn operator_of(op: UnaryOp) -> Option<Op> {
     match op {
         UnaryOp::Plus => Some(Op::Plus),
         UnaryOp::Neg => Some(Op::Neg),
@@ -29,7 +29,7 @@ pub(crate) fn operator_of(op: UnaryOp) -> Option<Op> {
 }
 
 /// An operator on one constant.
-pub(crate) fn operate_one(op: Op, a: Value, at: Place) -> Result<Value, Stop>
+pub fn operate_one(op: Op, a: Value, at: Place) -> Result<Value, Stop>
     ensures stop { IfErr result MayStop }
 {
     match a.applied(op, a) {
@@ -39,7 +39,7 @@ pub(crate) fn operate_one(op: Op, a: Value, at: Place) -> Result<Value, Stop>
 }
 
 /// An operator on two constants. Each counts by its value beside a large one, but not in a shift.
-pub(crate) fn operate(op: Op, a: Value, b: Value, at: Place) -> Result<Value, Stop>
+pub fn operate(op: Op, a: Value, b: Value, at: Place) -> Result<Value, Stop>
     ensures stop { IfErr result MayStop }
 {
     let is_shift = matches!(op, Op::Shl | Op::Shr);
@@ -52,7 +52,7 @@ pub(crate) fn operate(op: Op, a: Value, b: Value, at: Place) -> Result<Value, St
 }
 
 /// `test ? a : b`.
-pub(crate) fn choose(test: bool, a: Value, b: Value, at: Place) -> Result<Value, Stop>
+pub fn choose(test: bool, a: Value, b: Value, at: Place) -> Result<Value, Stop>
     ensures stop { IfErr result MayStop }
 {
     let yes = a.beside(b.kind());
