@@ -19,8 +19,8 @@ In a file `{{N*text}}` is N times the text, in which `{#}` is the number of the 
 place of each refusal what the program prints; --data prints all examples as JSON, one a line: its code, words, files and
 refusal. CMD is another program in the place of `./scc`, as is the environment's SCC.
 
-The gate runs copies of the pages, with the program scc_cases. --copy writes them, and --check prints which differ: neither
-needs a built program.
+The gate runs copies of these pages and of docs/WRITING.md, with the program scc_cases. --copy writes the copies, and --check
+prints which differ: neither needs a built program.
 """
 import argparse
 import json
@@ -38,7 +38,10 @@ PAGES = sorted((REPOSITORY / "docs" / "errors").glob("[0-9]-*.md"))
 FENCE = re.compile(r"^```(\S+)(?: (\S+))?\n(.*?)^```$", re.M | re.S)
 HEADING = re.compile(r"^## E(\d+) (.*)$", re.M)
 REPEAT = re.compile(r"\{\{(\d+)\*(.*?)\}\}", re.S)
-COPIES = REPOSITORY / "crates" / "scc_cases" / "data" / "errors"
+DATA = REPOSITORY / "crates" / "scc_cases" / "data"
+# each page that the gate runs, and its copy
+COPIES = {page: DATA / "errors" / page.name for page in PAGES}
+COPIES[REPOSITORY / "docs" / "WRITING.md"] = DATA / "writing.md"
 
 
 def expanded(text):
@@ -98,9 +101,9 @@ def wrong(example, scc):
     return None
 
 
-def settled(page, write):
+def settled(page, copy, write):
     """Whether a page differs from what the gate runs; said, and mended if asked."""
-    text, copy = page.read_text(), COPIES / page.name
+    text = page.read_text()
     if copy.exists() and copy.read_text() == text:
         return False
     if write:
@@ -120,7 +123,7 @@ def main():
     parser.add_argument("--check", action="store_true")
     a = parser.parse_args()
     if a.copy or a.check:
-        sys.exit(any([settled(page, a.copy) for page in PAGES]))
+        sys.exit(any([settled(page, copy, a.copy) for page, copy in COPIES.items()]))
     scc = None if a.data else compiler(a.scc)
     passed = failed = 0
     for page in a.pages or PAGES:
