@@ -1,4 +1,3 @@
 pub mod Refusals
 pub mod Roots
 pub mod Storage
-pub mod Things

@@ -1,8 +1,8 @@
 //! What is looked for when construction has run.
-use crate::grown::Grown;
-use crate::spots::TOP;
-use crate::things::ThingSort;
 use scc_base::{Code, NoMemory, Stop, lost, push};
+use scc_grown::grown::Grown;
+use scc_grown::spots::TOP;
+use scc_grown::things::ThingSort;
 use scc_plaintree::{Plain, PlainNode, PlainStmt};
 use std::alloc::Global;
 

@@ -1,11 +1,11 @@
 //! Arguments of constructors and targets of pointers.
-use crate::grown::Grown;
-use crate::numbers::{pointer_at, put_number, put_pointer};
-use crate::program::{function_of, local_in};
-use crate::spots::{LocalOf, SpotId};
 use crate::walk::{SOFT, location_of, value_of};
 use crate::worth::stored;
 use scc_base::{NoMemory, Stop, lost};
+use scc_grown::grown::Grown;
+use scc_grown::numbers::{pointer_at, put_number, put_pointer};
+use scc_grown::program::{function_of, local_in};
+use scc_grown::spots::{LocalOf, SpotId};
 use scc_plaintree::{Base, Plain, PlainArg, PlainTarget};
 
 /// Where a target leads; None for null.

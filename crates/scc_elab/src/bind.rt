@@ -1,10 +1,10 @@
 //! Ports are bound (IEEE 1666-2011, 5.12).
-use crate::grown::Grown;
-use crate::spots::{SpotId, TOP};
-use crate::things::{Bound, ThingSort};
 use crate::walk::{FIRM, location_of};
 use scc_base::{Code, NoMemory, Place, Stop, lost};
 use scc_bits::Kind;
+use scc_grown::grown::Grown;
+use scc_grown::spots::{SpotId, TOP};
+use scc_grown::things::{Bound, ThingSort};
 use scc_plaintree::{Plain, PlainLeft};
 
 /// The port, signal or variable at a location.

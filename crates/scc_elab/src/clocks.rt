@@ -1,13 +1,13 @@
 //! Processes are looked at when construction has run: sensitivity, clocks and resets.
 use crate::after::root_of;
-use crate::grown::Grown;
-use crate::records::{Record, Sensed};
-use crate::spots::TOP;
-use crate::things::{MOST_CLOCKS, ThingSort};
 use indexmap::IndexMap;
 use scc_base::{Code, List, NoMemory, Place, Stop, lost};
 use scc_bits::Kind;
 use scc_design::{Edge, Process, Reset, Sort};
+use scc_grown::grown::Grown;
+use scc_grown::records::{Record, Sensed};
+use scc_grown::spots::TOP;
+use scc_grown::things::{MOST_CLOCKS, ThingSort};
 
 // The edges that processes name, by their ports.
 #[derive(Drop)]

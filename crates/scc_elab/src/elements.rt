@@ -1,9 +1,9 @@
 //! Arrays and vectors, element by element.
-use crate::grown::{Grown, VectorAt};
 use crate::make::make_one;
-use crate::spots::SpotId;
-use crate::work::{Each, Form, Stack, Work};
 use scc_base::{NoMemory, PathPart, Place, Stop, push};
+use scc_grown::grown::{Grown, VectorAt};
+use scc_grown::spots::SpotId;
+use scc_grown::work::{Each, Form, Stack, Work};
 use scc_plaintree::{Base, Plain};
 
 /// The elements of an array from one on; where there are no sizes, what an element is.

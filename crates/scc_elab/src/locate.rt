@@ -1,12 +1,12 @@
 //! Locations of left sides: pointers and references are followed where they are met.
-use crate::frames::Frame;
-use crate::grown::Grown;
-use crate::numbers::pointer_at;
-use crate::program::{function_of, local_in, local_of, member_of};
-use crate::spots::{LocalOf, SpotId};
 use crate::walk::{Located, Task, Walk, Way};
 use scc_base::{Code, NoMemory, PathPart, Place, Stop, lost};
 use scc_bits::Value;
+use scc_grown::frames::Frame;
+use scc_grown::grown::Grown;
+use scc_grown::numbers::pointer_at;
+use scc_grown::program::{function_of, local_in, local_of, member_of};
+use scc_grown::spots::{LocalOf, SpotId};
 use scc_plaintree::{Base, Plain, PlainBase, PlainLeft, PlainMember, PlainPart, Reach};
 
 /// Begins a location: what it is based on, then its parts.

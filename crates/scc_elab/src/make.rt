@@ -1,17 +1,17 @@
 //! Objects are made.
 use crate::args::{pass_all, size_of};
 use crate::elements::begin_vector;
-use crate::frames::Frame;
-use crate::grown::Grown;
-use crate::numbers::{put_number, zero_of};
-use crate::program::{class_of, function_of};
-use crate::spots::SpotId;
-use crate::things::ThingSort;
 use crate::walk::{RAW, location_of, value_of};
-use crate::work::{Stack, Work};
 use crate::worth::stored;
 use scc_base::{Code, NoMemory, Place, Stop, lost, push};
 use scc_bits::Kind;
+use scc_grown::frames::Frame;
+use scc_grown::grown::Grown;
+use scc_grown::numbers::{put_number, zero_of};
+use scc_grown::program::{class_of, function_of};
+use scc_grown::spots::SpotId;
+use scc_grown::things::ThingSort;
+use scc_grown::work::{Stack, Work};
 use scc_plaintree::{Base, Plain, PlainArg, PlainLeft, PlainStmt};
 
 /// Makes one thing. Of an object of a class the members and the constructor are still to be done.

@@ -1,11 +1,11 @@
 //! Members of an object, in declaration order, each with its initialisers.
 use crate::args::size_of;
-use crate::grown::Grown;
 use crate::make::slice_of;
-use crate::program::{class_of, function_of};
-use crate::spots::SpotId;
-use crate::work::{Each, Form, Stack, Work};
 use scc_base::{NoMemory, PathPart, Stop, lost};
+use scc_grown::grown::Grown;
+use scc_grown::program::{class_of, function_of};
+use scc_grown::spots::SpotId;
+use scc_grown::work::{Each, Form, Stack, Work};
 use scc_plaintree::{Base, Plain, PlainArg, PlainMember, PlainNode, PlainStmt, Reach};
 
 /// The members of a class from one on.

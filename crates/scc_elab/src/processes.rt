@@ -1,11 +1,11 @@
 //! Processes are declared, with their sensitivity and resets (IEEE 1666-2011, 5.2.9 and 5.2.10).
 use crate::bind::object_at;
-use crate::grown::Grown;
-use crate::program::function_of;
-use crate::records::{Record, ResetAt, Runs, Sensed};
-use crate::things::ThingSort;
 use crate::walk::{FIRM, location_of, value_of};
 use scc_base::{Code, NoMemory, Place, Stop, lost, push};
+use scc_grown::grown::Grown;
+use scc_grown::program::function_of;
+use scc_grown::records::{Record, ResetAt, Runs, Sensed};
+use scc_grown::things::ThingSort;
 use scc_plaintree::{Plain, PlainExpr, PlainLeft, PlainSense};
 
 /// Declares a process. Refused as E404 where its function has a parameter or result, or runs for this object already.

@@ -2,18 +2,18 @@
 use crate::args::target_of;
 use crate::bind::bind;
 use crate::elements::{next_element, next_of_vector};
-use crate::grown::Grown;
 use crate::make::make_new;
 use crate::members::{make_direct, next_group, next_member};
-use crate::numbers::{clear, number_at, put_number, put_pointer};
 use crate::processes::{declare, reset, sense_all};
-use crate::spots::{LocalOf, SpotId};
-use crate::things::ThingSort;
 use crate::walk::{FIRM, RAW, location_of, value_of};
-use crate::work::{Stack, Work};
 use crate::worth::{bit_number, stored};
 use scc_base::{Code, NoMemory, Place, Stop, lost};
 use scc_bits::Value;
+use scc_grown::grown::Grown;
+use scc_grown::numbers::{clear, number_at, put_number, put_pointer};
+use scc_grown::spots::{LocalOf, SpotId};
+use scc_grown::things::ThingSort;
+use scc_grown::work::{Stack, Work};
 use scc_plaintree::{Plain, PlainExpr, PlainLeft, PlainNode, PlainPick, PlainStmt, PlainTarget};
 
 /// Does all that is to be done.

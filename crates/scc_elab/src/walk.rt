@@ -1,11 +1,11 @@
 //! Values and locations, worked out by a stack of tasks: a chain of operators or arrows may be as long as a text.
-use crate::frames::Frame;
-use crate::grown::Grown;
 use crate::locate::{behind, element, locate, parts};
-use crate::spots::SpotId;
 use crate::worth::{apply, enter};
 use scc_base::{NoMemory, Stop, lost, push};
 use scc_bits::Value;
+use scc_grown::frames::Frame;
+use scc_grown::grown::Grown;
+use scc_grown::spots::SpotId;
 use scc_plaintree::{Base, Plain, PlainExpr, PlainLeft};
 use std::alloc::Global;
 

@@ -2,9 +2,9 @@
 use Rattle.std.specs.Prelude.{ℕ, ◌≡◌, ◌≤◌, List, length}
 use Rattle.std.specs.List.{sum_by}
 use Rattle.scc_kinds.specs.Kinds.{width_of}
-use Rattle.scc_elab.specs.declared.things.Thing.{Thing}
-use Rattle.scc_elab.specs.declared.things.ThingSort.{ThingSort}
-use Rattle.scc_elab.specs.declared.things.ThingSort.TheVariants as variant
+use Rattle.scc_grown.specs.declared.things.Thing.{Thing}
+use Rattle.scc_grown.specs.declared.things.ThingSort.{ThingSort}
+use Rattle.scc_grown.specs.declared.things.ThingSort.TheVariants as variant
 
 -- what an object stores: a signal and a variable a word of its kind, any other nothing
 abbrev pub sort_bits : ThingSort → ℕ

@@ -1,6 +1,6 @@
 //! Objects while construction runs, and its limits.
 ghost use Rattle.std.specs.Prelude.{◌≡◌};
-ghost use Rattle.scc_elab.specs.Things.{sort_bits};
+ghost use Rattle.scc_grown.specs.Things.{sort_bits};
 
 use crate::spots::SpotId;
 use scc_base::Place;

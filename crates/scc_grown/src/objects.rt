@@ -1,7 +1,7 @@
 //! The objects that construction made, within the limits on their number and on their bits of storage.
 ghost use Rattle.std.specs.Prelude.{◌≡◌, ◌≤◌, ◌<◌, ◌↔◌, IsTrue, length};
 ghost use Rattle.std.specs.List.{sum_by};
-ghost use Rattle.scc_elab.specs.Things.{thing_bits};
+ghost use Rattle.scc_grown.specs.Things.{thing_bits};
 
 use crate::things::{MOST_BITS, MOST_OBJECTS, Thing, ThingSort};
 use scc_base::{NoMemory, lost, push};
@@ -17,8 +17,8 @@ pub struct Things {
 
 impl Model for Things {
     ghost use Rattle.std.specs.Prelude.{List};
-    ghost use Rattle.scc_elab.specs.declared.things.Thing.{Thing};
-    ghost use Rattle.scc_elab.specs.Things.{Within};
+    ghost use Rattle.scc_grown.specs.declared.things.Thing.{Thing};
+    ghost use Rattle.scc_grown.specs.Things.{Within};
 
     ghost Value = { List Thing };
 
