@@ -1,8 +1,8 @@
 //! What is known while a body is walked.
-use crate::form::Form;
 use crate::function::FunctionId;
 use scc_base::{List, Name, NoMemory, Place, lost, push};
 use scc_bits::Kind;
+use scc_drafts::form::Form;
 use scc_plaintree::{PlainMember, PlainStmt, Shape};
 use scc_templates::{Context, Given, InstanceId, Layers};
 use scc_tree::FileTree;

@@ -1,17 +1,17 @@
 //! Calls (C++, [expr.call]). A call of a function is lifted: it becomes a statement before the one that it stands in.
 ghost use Rattle.std.specs.Prelude.{IfErr};
-ghost use Rattle.scc_bodies.specs.Refusals.{MayStop};
+ghost use Rattle.scc_drafts.specs.Refusals.{MayStop};
 
 use crate::body::Body;
-use crate::draft::load;
-use crate::flow::Flow;
-use crate::form::Form;
 use crate::function::FunctionId;
-use crate::meant::{Meant, Method, PortCall, Subject};
-use crate::pick::ranged;
-use crate::refusal::{gone, refuse};
 use crate::walk::{CallOn, Note, Walk};
 use scc_base::{Code, List, Name, NoMemory, Place, Stop, lost};
+use scc_drafts::draft::load;
+use scc_drafts::flow::Flow;
+use scc_drafts::form::Form;
+use scc_drafts::meant::{Meant, Method, PortCall, Subject};
+use scc_drafts::pick::ranged;
+use scc_drafts::refusal::{gone, refuse};
 use scc_plaintree::{Base, PlainArg, PlainBase, PlainLeft, PlainNode, PlainStmt};
 use scc_templates::{FunctionKey, InstanceId};
 use scc_tree::{Expr, FileTree};

@@ -1,22 +1,22 @@
 //! Expressions (C++, [expr]). In each call `e` stands in the body `b`; calls of functions in it go to `b.lifted`.
 ghost use Rattle.std.specs.Prelude.{IfErr};
-ghost use Rattle.scc_bodies.specs.Refusals.{MayStop};
+ghost use Rattle.scc_drafts.specs.Refusals.{MayStop};
 
 use crate::body::Body;
 use crate::call::{Call, call_of};
-use crate::draft::{Draft, cast, choose, convert, literal, operate, operate_one};
-use crate::flow::Flow;
-use crate::form::{Form, number_kind};
 use crate::function::FunctionId;
-use crate::join::Joining;
-use crate::meant::{Meant, taken};
-use crate::pick::{answered, indexed};
-use crate::refusal::refuse;
-use crate::syntax::{is_lazy, is_text, made_args, operator_of};
-use crate::target::{aimed, is_zero};
 use crate::walk::Walk;
 use scc_base::{Code, List, Place, Stop, lost};
 use scc_bits::{Kind, Value, Word};
+use scc_drafts::draft::{Draft, cast, choose, convert, literal, operate, operate_one};
+use scc_drafts::flow::Flow;
+use scc_drafts::form::{Form, number_kind};
+use scc_drafts::join::Joining;
+use scc_drafts::meant::{Meant, taken};
+use scc_drafts::pick::{answered, indexed};
+use scc_drafts::refusal::refuse;
+use scc_drafts::syntax::{is_lazy, is_text, made_args, operator_of};
+use scc_drafts::target::{aimed, is_zero};
 use scc_plaintree::{Base, PlainArg, PlainTarget, Reach};
 use scc_templates::TypeOf;
 use scc_tree::{Expr, ExprNode, FileTree, Link, Part, PartNode, UnaryOp};

@@ -1,13 +1,13 @@
 //! Functions, their parameters and their results, each worked out when it is first asked for.
 ghost use Rattle.std.specs.Prelude.{IfErr};
-ghost use Rattle.scc_bodies.specs.Refusals.{MayStop};
+ghost use Rattle.scc_drafts.specs.Refusals.{MayStop};
 
 use crate::body::Body;
-use crate::form::{Form, base_of, number_kind, reach_of};
-use crate::refusal::refuse;
 use crate::walk::Walk;
 use scc_base::{Code, List, NoMemory, Place, Stop, lost, push};
 use scc_bits::Kind;
+use scc_drafts::form::{Form, base_of, number_kind, reach_of};
+use scc_drafts::refusal::refuse;
 use scc_plaintree::{Base, Reach, Shape};
 use scc_templates::{BodyAt, Context, FunctionKey, function_at};
 use scc_tree::{FileTree, FunctionTree, Prm};

@@ -3,26 +3,17 @@
 
 mod body;
 mod call;
-mod draft;
 mod expression;
-mod flow;
-mod form;
 mod function;
-mod join;
-mod meant;
 mod name;
-mod pick;
-mod refusal;
-mod syntax;
-mod target;
 mod walk;
 
 pub use body::Body;
-pub use draft::{Draft, convert, literal, load, operate};
-pub use flow::Flow;
-pub use form::{Form, Loc, base_of, reach_of};
 pub use function::FunctionId;
-pub use meant::{Meant, Method, PortCall, Subject, taken};
-pub use refusal::{gone, refuse};
-pub use syntax::last_args;
+pub use scc_drafts::draft::{Draft, convert, literal, load, operate};
+pub use scc_drafts::flow::Flow;
+pub use scc_drafts::form::{Form, Loc, base_of, reach_of};
+pub use scc_drafts::meant::{Meant, Method, PortCall, Subject, taken};
+pub use scc_drafts::refusal::{gone, refuse};
+pub use scc_drafts::syntax::last_args;
 pub use walk::{CallOn, Note, Walk};

@@ -1,15 +1,15 @@
 //! Names, `this`, members and pointers.
 ghost use Rattle.std.specs.Prelude.{IfErr};
-ghost use Rattle.scc_bodies.specs.Refusals.{MayStop};
+ghost use Rattle.scc_drafts.specs.Refusals.{MayStop};
 
 use crate::body::Body;
-use crate::draft::literal;
-use crate::form::{Form, Loc};
-use crate::meant::{Meant, Subject};
-use crate::pick::method_of;
-use crate::refusal::{gone, refuse};
 use crate::walk::{Note, Walk};
 use scc_base::{Boxed, Code, Name, NoMemory, Place, Stop, lost};
+use scc_drafts::draft::literal;
+use scc_drafts::form::{Form, Loc};
+use scc_drafts::meant::{Meant, Subject};
+use scc_drafts::pick::method_of;
+use scc_drafts::refusal::{gone, refuse};
 use scc_plaintree::{Base, PlainBase, PlainLeft, PlainPart, Reach};
 use scc_templates as templates;
 use scc_templates::{Entry, Found, InstanceId};

@@ -1,14 +1,14 @@
 //! What is known of a program while its bodies are walked.
 ghost use Rattle.std.specs.Prelude.{IfErr};
-ghost use Rattle.scc_bodies.specs.Refusals.{MayStop};
+ghost use Rattle.scc_drafts.specs.Refusals.{MayStop};
 
 use crate::body::Body;
-use crate::form::{Form, base_of, reach_of};
 use crate::function::{Function, FunctionId};
-use crate::refusal::refuse;
 use indexmap::IndexMap;
 use scc_base::{Code, List, Name, NoMemory, Place, Stop, lost};
 use scc_bits::Value;
+use scc_drafts::form::{Form, base_of, reach_of};
+use scc_drafts::refusal::refuse;
 use scc_plaintree::Shape;
 use scc_templates::{Context, Found, FunctionKey, InstanceId, Templates, TypeOf};
 use scc_tree::{Decl, Expr, FileTree, Ty};

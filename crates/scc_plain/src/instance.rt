@@ -1,6 +1,6 @@
 //! The walk over an instance: its members in the order of the text, then the bodies of its functions.
 ghost use Rattle.std.specs.Prelude.{IfErr};
-ghost use Rattle.scc_bodies.specs.Refusals.{MayStop};
+ghost use Rattle.scc_drafts.specs.Refusals.{MayStop};
 
 use crate::outside::{Outside, name_place};
 use crate::stage::Order;

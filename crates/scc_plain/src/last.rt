@@ -1,6 +1,6 @@
 //! What is looked for last: calls by a class's name of functions that use their object, and what holds or calls itself.
 ghost use Rattle.std.specs.Prelude.{IfErr};
-ghost use Rattle.scc_bodies.specs.Refusals.{MayStop};
+ghost use Rattle.scc_drafts.specs.Refusals.{MayStop};
 
 use crate::graph::{Graph, Groups, Reached, reaches_itself};
 use crate::stage::Order;

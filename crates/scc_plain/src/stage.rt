@@ -1,6 +1,6 @@
 //! The static stage as a whole.
 ghost use Rattle.std.specs.Prelude.{◌≡◌, IfErr, IfOk, true};
-ghost use Rattle.scc_bodies.specs.Refusals.{MayStop};
+ghost use Rattle.scc_drafts.specs.Refusals.{MayStop};
 ghost use Rattle.scc_plainlook.specs.Whole.{whole_plain};
 ghost use Rattle.scc_treeplaces.specs.Items.{stops_at};
 

@@ -1,6 +1,6 @@
 //! The class that a program is made for.
 ghost use Rattle.std.specs.Prelude.{IfErr};
-ghost use Rattle.scc_bodies.specs.Refusals.{MayStop};
+ghost use Rattle.scc_drafts.specs.Refusals.{MayStop};
 
 use scc_base::{Code, List, Name, Stop, lost};
 use scc_bodies::{Walk, refuse};

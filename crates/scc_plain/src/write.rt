@@ -1,6 +1,6 @@
 //! The program that is written once nothing is refused: bodies are walked again, now that each function has its number.
 ghost use Rattle.std.specs.Prelude.{IfErr};
-ghost use Rattle.scc_bodies.specs.Refusals.{MayStop};
+ghost use Rattle.scc_drafts.specs.Refusals.{MayStop};
 
 use crate::stage::Order;
 use scc_base::{List, NoMemory, Place, Stop, lost};

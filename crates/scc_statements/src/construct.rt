@@ -1,6 +1,6 @@
 //! Statements of constructors (IEEE 1666-2011, 5.2.9 to 5.2.14). What they name is looked at when the design is built.
 ghost use Rattle.std.specs.Prelude.{IfErr};
-ghost use Rattle.scc_bodies.specs.Refusals.{MayStop};
+ghost use Rattle.scc_drafts.specs.Refusals.{MayStop};
 
 use crate::stmts::put;
 use scc_base::{Code, List, Name, Place, Stop};

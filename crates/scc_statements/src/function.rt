@@ -1,6 +1,6 @@
 //! Functions whole.
 ghost use Rattle.std.specs.Prelude.{IfErr};
-ghost use Rattle.scc_bodies.specs.Refusals.{MayStop};
+ghost use Rattle.scc_drafts.specs.Refusals.{MayStop};
 
 use crate::init::init;
 use crate::statement::scoped;

@@ -1,6 +1,6 @@
 //! Initialisers of constructors (C++, [class.base.init]).
 ghost use Rattle.std.specs.Prelude.{IfErr};
-ghost use Rattle.scc_bodies.specs.Refusals.{MayStop};
+ghost use Rattle.scc_drafts.specs.Refusals.{MayStop};
 
 use crate::make::{MadeAt, made, make_args};
 use crate::port::{is_plain, only_value};

@@ -1,6 +1,6 @@
 //! Local variables (C++, [stmt.dcl], [dcl.init]).
 ghost use Rattle.std.specs.Prelude.{IfErr};
-ghost use Rattle.scc_bodies.specs.Refusals.{MayStop};
+ghost use Rattle.scc_drafts.specs.Refusals.{MayStop};
 
 use crate::stmts::put;
 use scc_base::{Code, List, Place, Stop};

@@ -1,7 +1,7 @@
 //! Loops (C++, [stmt.iter]). Each is a block with what stands before it and the loop, whose turns are blocks: `break` leaves the outer
 //! block, `continue` the inner one.
 ghost use Rattle.std.specs.Prelude.{IfErr};
-ghost use Rattle.scc_bodies.specs.Refusals.{MayStop};
+ghost use Rattle.scc_drafts.specs.Refusals.{MayStop};
 
 use crate::count::counted;
 use crate::local::locals;

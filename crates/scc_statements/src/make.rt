@@ -1,6 +1,6 @@
 //! Objects that are made with arguments (C++, [expr.new], [class.ctor]; IEEE 1666-2011, 5.2, 5.3, 8.5).
 ghost use Rattle.std.specs.Prelude.{IfErr};
-ghost use Rattle.scc_bodies.specs.Refusals.{MayStop};
+ghost use Rattle.scc_drafts.specs.Refusals.{MayStop};
 
 use scc_base::{Code, List, Name, NoMemory, Place, Stop, lost};
 use scc_bits::Kind;

@@ -1,6 +1,6 @@
 //! Ports as statements (IEEE 1666-2011, 6.4, 6.8, 6.12).
 ghost use Rattle.std.specs.Prelude.{IfErr};
-ghost use Rattle.scc_bodies.specs.Refusals.{MayStop};
+ghost use Rattle.scc_drafts.specs.Refusals.{MayStop};
 
 use crate::stmts::put;
 use scc_base::{Code, List, Place, Stop};

@@ -1,6 +1,6 @@
 //! Assignments, steps and calls (C++, [expr.ass], [expr.pre.incr], [expr.call]).
 ghost use Rattle.std.specs.Prelude.{IfErr};
-ghost use Rattle.scc_bodies.specs.Refusals.{MayStop};
+ghost use Rattle.scc_drafts.specs.Refusals.{MayStop};
 
 use crate::make::made;
 use crate::port::{bind, port_of, write};

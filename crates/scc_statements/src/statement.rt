@@ -1,6 +1,6 @@
 //! Statements that hold others. The braces of a source give no block of their own.
 ghost use Rattle.std.specs.Prelude.{IfErr};
-ghost use Rattle.scc_bodies.specs.Refusals.{MayStop};
+ghost use Rattle.scc_drafts.specs.Refusals.{MayStop};
 
 use crate::construct::{process, reset, sensitive};
 use crate::local::locals;

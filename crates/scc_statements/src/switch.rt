@@ -1,7 +1,7 @@
 //! `switch` (C++, [stmt.switch]): a local holds the selector, and blocks nest, one for each label round what stands before it. The
 //! innermost one begins with the tests, each of which leaves the block behind which its label's statements stand.
 ghost use Rattle.std.specs.Prelude.{IfErr};
-ghost use Rattle.scc_bodies.specs.Refusals.{MayStop};
+ghost use Rattle.scc_drafts.specs.Refusals.{MayStop};
 
 use crate::stmts::put;
 use indexmap::IndexMap;

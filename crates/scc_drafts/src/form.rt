@@ -48,7 +48,7 @@ pub fn reach_of(hold: Hold) -> Reach {
 }
 
 /// The kind of a type that is a number's.
-pub(crate) fn number_kind(t: TypeOf) -> Option<Kind> {
+pub fn number_kind(t: TypeOf) -> Option<Kind> {
     match t.base {
         templates::Base::Number(kind) if !t.vector => Some(kind),
         _ => None,

@@ -1,6 +1,6 @@
 //! What pointers and references are given (C++, [conv.ptr], [dcl.init.ref]).
 ghost use Rattle.std.specs.Prelude.{IfErr};
-ghost use Rattle.scc_bodies.specs.Refusals.{MayStop};
+ghost use Rattle.scc_drafts.specs.Refusals.{MayStop};
 
 use crate::form::{Form, Loc};
 use crate::meant::Meant;
@@ -18,7 +18,7 @@ const INT: Kind = Kind::Native {
 };
 
 /// Whether an expression is the number 0 of `int`, which is null for a pointer.
-pub(crate) fn is_zero(e: &Expr) -> bool {
+pub fn is_zero(e: &Expr) -> bool {
     match e.node.get() {
         ExprNode::Number(kind, word) => *kind == INT && word.bits == 0,
         _ => false,
@@ -27,7 +27,7 @@ pub(crate) fn is_zero(e: &Expr) -> bool {
 
 /// What a pointer or reference of a form is given by what is named; `own` is the instance whose body it is. E304 where it is of
 /// another type.
-pub(crate) fn aimed(
+pub fn aimed(
     alloc: Global,
     m: Meant,
     form: Form,

@@ -1,6 +1,6 @@
 //! Refusals.
 ghost use Rattle.std.specs.Prelude.{◌≡◌, IfErr, true};
-ghost use Rattle.scc_bodies.specs.Refusals.{MayStop, is_static};
+ghost use Rattle.scc_drafts.specs.Refusals.{MayStop, is_static};
 
 use scc_base::{Code, Place, Stop, lost};
 

@@ -1,6 +1,6 @@
 //! Concatenations (IEEE 1666-2011, 7.2.7).
 ghost use Rattle.std.specs.Prelude.{IfErr};
-ghost use Rattle.scc_bodies.specs.Refusals.{MayStop};
+ghost use Rattle.scc_drafts.specs.Refusals.{MayStop};
 
 use crate::draft::{Draft, made};
 use crate::refusal::refuse;
@@ -41,7 +41,7 @@ fn with_part(sum: Sum, low: Kind) -> Sum {
 
 /// A concatenation whose parts are added from the highest on.
 #[derive(Drop)]
-pub(crate) struct Joining {
+pub struct Joining {
     parts: List<PlainExpr>,
     sum: Sum,
     known: Option<Value>,

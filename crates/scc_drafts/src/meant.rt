@@ -1,6 +1,6 @@
 //! What expressions name before they are taken as values.
 ghost use Rattle.std.specs.Prelude.{IfErr};
-ghost use Rattle.scc_bodies.specs.Refusals.{MayStop};
+ghost use Rattle.scc_drafts.specs.Refusals.{MayStop};
 
 use crate::draft::{Draft, load, read};
 use crate::form::Loc;
@@ -87,7 +87,7 @@ impl Subject {
     }
 
     /// It as a value; E304 at the place where it is none.
-    pub(crate) fn value(self, alloc: Global, place: Place) -> Result<Draft, Stop>
+    pub fn value(self, alloc: Global, place: Place) -> Result<Draft, Stop>
         ensures stop { IfErr result MayStop }
     {
         match self {

@@ -3,7 +3,7 @@ use scc_bits::Op;
 use scc_tree::{Expr, ExprNode, PartNode, UnaryOp};
 
 /// The operator that stands before one operand, None where it is one on pointers.
-pub(crate) fn operator_of(op: UnaryOp) -> Option<Op> {
+pub fn operator_of(op: UnaryOp) -> Option<Op> {
     match op {
         UnaryOp::Plus => Some(Op::Plus),
         UnaryOp::Neg => Some(Op::Neg),
@@ -14,12 +14,12 @@ pub(crate) fn operator_of(op: UnaryOp) -> Option<Op> {
 }
 
 /// Whether the right operand isn't always evaluated (C++, [expr.log.and], [expr.log.or]).
-pub(crate) fn is_lazy(op: Op) -> bool {
+pub fn is_lazy(op: Op) -> bool {
     matches!(op, Op::LogAnd | Op::LogOr)
 }
 
 /// The arguments of `new`, or none of a text: of what stands as an argument alone.
-pub(crate) fn made_args(e: &Expr) -> Option<&[Expr]> {
+pub fn made_args(e: &Expr) -> Option<&[Expr]> {
     match e.node.get() {
         ExprNode::Make { args, .. } => Some(args.as_slice()),
         ExprNode::Text => Some(&[]),
@@ -28,7 +28,7 @@ pub(crate) fn made_args(e: &Expr) -> Option<&[Expr]> {
 }
 
 /// Whether it is a text in quotes.
-pub(crate) fn is_text(e: &Expr) -> bool {
+pub fn is_text(e: &Expr) -> bool {
     matches!(e.node.get(), ExprNode::Text)
 }
 

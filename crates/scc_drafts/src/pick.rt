@@ -1,7 +1,7 @@
 //! Elements of arrays and vectors, bits, ranges of bits, and calls of the language on numbers (IEEE 1666-2011, 7.2 and 8.5).
 ghost use Rattle.std.specs.Prelude.{◌<◌, ◌≤◌, IfErr, IfSome};
 ghost use Rattle.scc_kinds.specs.Kinds.{width_of};
-ghost use Rattle.scc_bodies.specs.Refusals.{MayStop};
+ghost use Rattle.scc_drafts.specs.Refusals.{MayStop};
 
 use crate::draft::{Draft, bits, convert, operate_one};
 use crate::form::{Form, Loc};
@@ -13,7 +13,7 @@ use scc_plaintree::{Base, PlainExprNode, PlainPart, PlainPick};
 use std::alloc::Global;
 
 /// The call of the language that a name is, None where it is none: the names of these calls have the first numbers.
-pub(crate) fn method_of(name: Name) -> Option<Method> {
+pub fn method_of(name: Name) -> Option<Method> {
     use crate::meant::PortCall;
     Some(match name.0 {
         0 => Method::Read,
@@ -112,7 +112,7 @@ fn element(l: Loc, i: Draft) -> Result<Loc, Stop>
 }
 
 /// `m[i]`: an element or a bit. Refuses by E304.
-pub(crate) fn indexed(alloc: Global, m: Meant, i: Draft, place: Place) -> Result<Meant, Stop>
+pub fn indexed(alloc: Global, m: Meant, i: Draft, place: Place) -> Result<Meant, Stop>
     ensures stop { IfErr result MayStop }
 {
     if !is_small(i.expr.kind) {
@@ -151,7 +151,7 @@ fn range_in(kind: Kind, h: Option<u32>, l: Option<u32>) -> Option<Range>
 }
 
 /// Bits h down to l, of which a negative number is None. Refuses by E304 and E312.
-pub(crate) fn ranged(
+pub fn ranged(
     alloc: Global,
     of: Subject,
     h: Option<u32>,
@@ -187,12 +187,7 @@ fn is_port(of: &Subject) -> bool {
 }
 
 /// A call of the language without arguments that gives a value. Refuses by E304.
-pub(crate) fn answered(
-    alloc: Global,
-    method: Method,
-    of: Subject,
-    place: Place,
-) -> Result<Draft, Stop>
+pub fn answered(alloc: Global, method: Method, of: Subject, place: Place) -> Result<Draft, Stop>
     ensures stop { IfErr result MayStop }
 {
     let is_port = is_port(&of);

@@ -1,6 +1,6 @@
 //! Expressions with what is known of them. Each conversion is written out.
 ghost use Rattle.std.specs.Prelude.{IfErr};
-ghost use Rattle.scc_bodies.specs.Refusals.{MayStop};
+ghost use Rattle.scc_drafts.specs.Refusals.{MayStop};
 
 use crate::refusal::refuse;
 use scc_base::{Code, NoMemory, Place, Stop, lost};
@@ -17,7 +17,7 @@ pub struct Draft {
     pub place: Place,
 }
 
-pub(crate) fn made(
+pub fn made(
     alloc: Global,
     place: Place,
     kind: Kind,
@@ -40,17 +40,12 @@ pub fn load(alloc: Global, place: Place, kind: Kind, left: PlainLeft) -> Result<
 }
 
 /// What a port or signal shows.
-pub(crate) fn read(
-    alloc: Global,
-    place: Place,
-    kind: Kind,
-    left: PlainLeft,
-) -> Result<Draft, NoMemory> {
+pub fn read(alloc: Global, place: Place, kind: Kind, left: PlainLeft) -> Result<Draft, NoMemory> {
     made(alloc, place, kind, PlainExprNode::Read(left), None)
 }
 
 /// Bits of a value.
-pub(crate) fn bits(
+pub fn bits(
     alloc: Global,
     place: Place,
     kind: Kind,
@@ -84,7 +79,7 @@ pub fn convert(alloc: Global, x: Draft, to: Kind) -> Result<Draft, Stop>
 }
 
 /// The same for a cast at a place (C++, [expr.cast]). Where the kinds are equal it makes no expression of its own.
-pub(crate) fn cast(alloc: Global, x: Draft, to: Kind, place: Place) -> Result<Draft, Stop>
+pub fn cast(alloc: Global, x: Draft, to: Kind, place: Place) -> Result<Draft, Stop>
     ensures stop { IfErr result MayStop }
 {
     let from = x.expr.kind;
@@ -181,7 +176,7 @@ fn operated(
 }
 
 /// An operator before its one operand. Refuses by E304 and E310 at the expression.
-pub(crate) fn operate_one(alloc: Global, place: Place, op: Op, a: Draft) -> Result<Draft, Stop>
+pub fn operate_one(alloc: Global, place: Place, op: Op, a: Draft) -> Result<Draft, Stop>
     ensures stop { IfErr result MayStop }
 {
     let of = a.expr.kind;
@@ -214,7 +209,7 @@ fn chosen(
 }
 
 /// `test ? yes : no` (C++, [expr.cond]); E304 at the expression where the two have no common kind.
-pub(crate) fn choose(
+pub fn choose(
     alloc: Global,
     place: Place,
     test: Draft,
