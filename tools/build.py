@@ -121,8 +121,10 @@ class Lane:
             self.check = subprocess.Popen(words, stdout=said, stderr=subprocess.STDOUT, **place)
 
     def move_out(self, one, other):
-        if folder_of(self.crate, one).joinpath("out").is_dir():
-            shutil.move(folder_of(self.crate, one) / "out", folder_of(self.crate, other) / "out")
+        here, there = (folder_of(self.crate, top) / "out" for top in (one, other))
+        if here.is_dir():
+            shutil.rmtree(there, ignore_errors=True)
+            shutil.move(here, there)
 
     def end(self):
         """Ends the check if it still runs, hands back what it left, and answers its status."""
