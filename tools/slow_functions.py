@@ -1,29 +1,29 @@
 #!/usr/bin/env python3
-"""Says which functions of a crate take longest to prove.
+"""Says which parts of a crate took longest to prove.
 
-    rm -rf out/incremental; rt check --jobs 1 2>&1 | ../../tools/slow_functions.py [N]
+    rm -rf crates/NAME/out; (cd crates/NAME; rt check --jobs 1); tools/slow_functions.py NAME [N]
 
-In the folder of a crate. It passes on what it reads, and at the end prints the N functions (20 without a number) before whose
-lines the most seconds went by: a check prints a line for each function that is done.
+A check with one job writes a file into crates/NAME/out/incremental for each part as soon as it is checked. So what a part took is
+the time from the file before to its own. Prints the N parts (20 without a number) that took longest: seconds, bytes, name.
+Of a function f, `f.Lts` is what its steps are, `f.Proof` that it meets its goals, `f.Tie` that its contract follows.
 """
-import re
 import sys
-import time
+from pathlib import Path
 
-DONE = re.compile(r"checked (\S+), \d+ of \d+")
+TOP = Path(__file__).resolve().parent.parent
 
 
 def main():
-    most = int(sys.argv[1]) if len(sys.argv) > 1 else 20
-    took, last = {}, time.monotonic()
-    for line in sys.stdin:
-        print(line, end="", flush=True)
-        done = DONE.match(line)
-        if done:
-            now = time.monotonic()
-            took[done[1]], last = now - last, now
-    for name in sorted(took, key=took.get, reverse=True)[:most]:
-        print(f"{took[name]:7.1f} s  {name}")
+    crate, most = sys.argv[1], int(sys.argv[2]) if len(sys.argv) > 2 else 20
+    kept = TOP / "crates" / crate / "out" / "incremental"
+    # the other files there are parts of these
+    files = [it for it in kept.rglob("*.oantt") if it.parent.name != "records"]
+    if not files:
+        sys.exit(f"{kept} has no parts: run rt check --jobs 1 in crates/{crate} first")
+    parts = sorted((it.stat().st_mtime, it.stat().st_size, it.name.removesuffix(".oantt")) for it in files)
+    took = [(at - before, size, name) for (before, *_), (at, size, name) in zip(parts, parts[1:])]
+    for seconds, size, name in sorted(took, reverse=True)[:most]:
+        print(f"{seconds:8.1f} s {size:10} bytes  {name}")
 
 
 if __name__ == "__main__":

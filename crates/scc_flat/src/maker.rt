@@ -20,7 +20,6 @@ pub struct Code {
 pub struct Label(pub(crate) u32);
 
 /// Code while it is made.
-#[derive(Drop)]
 pub struct Maker {
     alloc: Global,
     lines: Vec<Line>,
@@ -33,6 +32,22 @@ pub struct Maker {
     temporaries: u32,
     spots: u32,
     start: u32,
+}
+
+impl Drop for Maker {
+    fn drop(self) {
+        let Maker {
+            alloc: _,
+            lines: _lines,
+            bodies: _bodies,
+            labels: _labels,
+            constants: _constants,
+            cost: _,
+            temporaries: _,
+            spots: _,
+            start: _,
+        } = self;
+    }
 }
 
 impl Maker {
@@ -153,34 +168,46 @@ impl Maker {
 
     /// The code, and a store with its constants.
     pub fn finish(self) -> Result<(Code, Store), NoMemory> {
-        let Maker {
-            alloc,
+        let store = self.store()?;
+        let lines = self.targeted_lines()?;
+        let code = Code {
             lines,
-            bodies,
-            labels,
-            constants,
-            cost: _,
-            temporaries,
-            spots,
-            start: _,
-        } = self;
-        let mut words = Vec::new(alloc);
-        for word in constants.iter() {
+            bodies: self.into_bodies(),
+        };
+        Ok((code, store))
+    }
+
+    fn store(&self) -> Result<Store, NoMemory> {
+        let mut words = Vec::new(self.alloc);
+        for word in self.constants.iter() {
             push(&mut words, word.bits)?;
         }
-        let store = Store::new(alloc, words, temporaries, spots)?;
-        let mut done = Vec::new(alloc);
-        for line in &lines {
+        Store::new(self.alloc, words, self.temporaries, self.spots)
+    }
+
+    // The lines, whose jumps go to lines in place of labels.
+    fn targeted_lines(&self) -> Result<Vec<Line>, NoMemory> {
+        let mut done = Vec::new(self.alloc);
+        for line in &self.lines {
             let Line { cost, act } = *line;
-            let act = targeted(act, labels.as_slice());
+            let act = targeted(act, self.labels.as_slice());
             push(&mut done, Line { cost, act })?;
         }
-        Ok((
-            Code {
-                lines: done,
-                bodies,
-            },
-            store,
-        ))
+        Ok(done)
+    }
+
+    fn into_bodies(self) -> Vec<Body> {
+        let Maker {
+            alloc: _,
+            lines: _lines,
+            bodies,
+            labels: _labels,
+            constants: _constants,
+            cost: _,
+            temporaries: _,
+            spots: _,
+            start: _,
+        } = self;
+        bodies
     }
 }

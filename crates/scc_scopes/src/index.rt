@@ -70,7 +70,6 @@ impl Said {
 }
 
 /// The declarations by name. Of several of one name in one scope the first in the text counts.
-#[derive(Drop)]
 pub struct Index {
     alloc: Global,
     file: IndexMap<Name, Said>,
@@ -80,20 +79,35 @@ pub struct Index {
     groups: IndexMap<Group, List<u32>>,
 }
 
+impl Drop for Index {
+    fn drop(self) {
+        let Index {
+            alloc: _,
+            file: _file,
+            members: _members,
+            params: _params,
+            routines: _routines,
+            groups: _groups,
+        } = self;
+    }
+}
+
 impl Index {
     pub fn new(alloc: Global, tree: &FileTree) -> Result<Index, NoMemory> {
-        let mut index = Index {
+        let mut index = Index::empty(alloc);
+        index.take_file(tree)?;
+        Ok(index)
+    }
+
+    fn empty(alloc: Global) -> Index {
+        Index {
             alloc,
             file: IndexMap::new(alloc),
             members: IndexMap::new(alloc),
             params: IndexMap::new(alloc),
             routines: IndexMap::new(alloc),
             groups: IndexMap::new(alloc),
-        };
-        for (k, item) in tree.items.as_slice().iter().enumerate() {
-            index.take(number(k)?, item)?;
         }
-        Ok(index)
     }
 
     /// What the file declares by a name.
@@ -128,6 +142,13 @@ impl Index {
     /// The item at that place of a group.
     pub fn of_group(&self, group: Group, at: usize) -> Option<u32> {
         self.group(group).get(at).copied()
+    }
+
+    fn take_file(&mut self, tree: &FileTree) -> Result<(), NoMemory> {
+        for (k, item) in tree.items.as_slice().iter().enumerate() {
+            self.take(number(k)?, item)?;
+        }
+        Ok(())
     }
 
     // Takes in a declaration of the file.

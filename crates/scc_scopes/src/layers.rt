@@ -12,10 +12,18 @@ struct Change {
 
 /// What the names of a body mean: each the number of a local, where it means one. Scopes are closed by taking their
 /// changes back.
-#[derive(Drop)]
 pub struct Layers {
     meanings: IndexMap<Name, Option<u32>>,
     changes: Vec<Change>,
+}
+
+impl Drop for Layers {
+    fn drop(self) {
+        let Layers {
+            meanings: _meanings,
+            changes: _changes,
+        } = self;
+    }
 }
 
 impl Layers {

@@ -52,14 +52,21 @@ abbrev pub item_clock : RawItem → Adding
 item_clock (Var v) names = names
 item_clock (Block b) names = block_clock b names
 
-abbrev pub facts_of : RawModule → Facts
-facts_of m = record {
-  inputs = each (map input_of m.ports) [];
-  levels = each (map level_of m.ports) [];
-  read = each (map item_read m.items) [];
-  driven = each (map item_assigned m.items) [];
-  clocks = each (map item_clock m.items) [];
+abbrev pub no_facts : Facts
+no_facts = record { inputs = []; levels = []; read = []; driven = []; clocks = [] }
+
+-- what a module adds to them
+abbrev pub facts_after : RawModule → Facts → Facts
+facts_after m f = record {
+  inputs = each (map input_of m.ports) f.inputs;
+  levels = each (map level_of m.ports) f.levels;
+  read = each (map item_read m.items) f.read;
+  driven = each (map item_assigned m.items) f.driven;
+  clocks = each (map item_clock m.items) f.clocks;
 }
+
+abbrev pub facts_of : RawModule → Facts
+facts_of m = facts_after m no_facts
 
 -- ---- declarations
 
@@ -199,8 +206,11 @@ items_walk many f t (i ∷ more) w = items_walk many f (taken_behind t i) more (
 abbrev pub nothing : Taken
 nothing = record { names = []; rising = []; falling = [] }
 
+abbrev pub names_in : Bool → Facts → RawModule → Walking
+names_in many f m = pass 7 then pass (length (spelled m.name)) then pass 3 then ports_names f m.ports then pass 3 then items_walk many f nothing m.items
+
 abbrev pub names_of : Bool → RawModule → Walking
-names_of many m = pass 7 then pass (length (spelled m.name)) then pass 3 then ports_names (facts_of m) m.ports then pass 3 then items_walk many (facts_of m) nothing m.items
+names_of many m = names_in many (facts_of m) m
 
 -- the place of the first name that stands where it may not
 abbrev pub misplaced : Bool → RawModule → Option ℕ

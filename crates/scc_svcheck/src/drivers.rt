@@ -1,10 +1,11 @@
 //! The first name of a module that stands where it may not.
 ghost use Rattle.std.specs.Prelude.{◌≡◌, ◌+◌, [], None, not, ◌&&◌, length, IfOk, OnOk};
 ghost use Rattle.scc_svcheck.specs.Drivers as drivers;
+ghost use Rattle.scc_svcheck.specs.Walking.{start};
 
 use crate::block::{dir_bytes, range};
 use crate::edge::{clock, edge};
-use crate::facts::{Facts, Taken, facts_of, is_input};
+use crate::facts::{Facts, Taken, is_input};
 use crate::leaf::{pass_both, spelling};
 use crate::mentioned::block_assigns;
 use crate::text_set::TextSet;
@@ -163,18 +164,40 @@ fn items(
     Ok(walk)
 }
 
+// All items. What the blocks before one assign is let go here, where nothing can stop any more.
+fn all_items(
+    alloc: Global,
+    many: bool,
+    f: &Facts,
+    list: &[RawItem],
+    w: Walk,
+) -> Result<Walk, NoMemory>
+    ensures { IfOk result (λ v. v ≡ drivers.items_walk many f.now drivers.nothing list.now w) }
+{
+    let mut t = Taken::none(alloc);
+    items(alloc, many, f, &mut t, list, w)
+}
+
+// The place of the first wrong name. Before, nothing is known of the names.
+fn place_in(
+    alloc: Global,
+    many: bool,
+    f: &mut Facts,
+    m: &RawModule,
+) -> Result<Option<usize>, NoMemory>
+    ensures { IfOk result (λ at. at ≡ (drivers.names_in many (drivers.facts_after m.now f.old) m.now start).name) }
+{
+    f.add(m)?;
+    let begin = spelling(&m.name, START.pass(7)).pass(3);
+    let behind = ports(f, m.ports.as_slice(), begin).pass(3);
+    let end = all_items(alloc, many, f, m.items.as_slice(), behind)?;
+    Ok(end.name)
+}
+
 /// The place of the first name that stands where it may not, in a module that may have several clocks or one.
 pub fn misplaced(alloc: Global, many: bool, m: &RawModule) -> Result<Option<usize>, NoMemory>
     ensures { IfOk result (λ at. at ≡ drivers.misplaced many m.now) }
 {
-    let f = facts_of(alloc, m)?;
-    let mut t = Taken {
-        names: TextSet::new(alloc),
-        rising: TextSet::new(alloc),
-        falling: TextSet::new(alloc),
-    };
-    let start = spelling(&m.name, START.pass(7)).pass(3);
-    let behind = ports(&f, m.ports.as_slice(), start).pass(3);
-    let end = items(alloc, many, &f, &mut t, m.items.as_slice(), behind)?;
-    Ok(end.name)
+    let mut f = Facts::none(alloc);
+    place_in(alloc, many, &mut f, m)
 }

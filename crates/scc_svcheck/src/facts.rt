@@ -81,21 +81,41 @@ fn clocks(found: &mut TextSet, list: &[RawItem]) -> Result<(), NoMemory>
     Ok(())
 }
 
-/// What is known of a module's names.
-pub fn facts_of(alloc: Global, m: &RawModule) -> Result<Facts, NoMemory>
-    ensures { IfOk result (λ f. f ≡ drivers.facts_of m.now) }
-{
-    let mut facts = Facts {
-        inputs: TextSet::new(alloc),
-        levels: TextSet::new(alloc),
-        read: TextSet::new(alloc),
-        driven: TextSet::new(alloc),
-        clocks: TextSet::new(alloc),
-    };
-    inputs(&mut facts.inputs, m.ports.as_slice())?;
-    levels(&mut facts.levels, m.ports.as_slice())?;
-    items_read(&mut facts.read, m.items.as_slice())?;
-    items_assign(&mut facts.driven, m.items.as_slice())?;
-    clocks(&mut facts.clocks, m.items.as_slice())?;
-    Ok(facts)
+impl Facts {
+    /// Of no names.
+    pub fn none(alloc: Global) -> Facts
+        ensures { result ≡ drivers.no_facts }
+    {
+        Facts {
+            inputs: TextSet::new(alloc),
+            levels: TextSet::new(alloc),
+            read: TextSet::new(alloc),
+            driven: TextSet::new(alloc),
+            clocks: TextSet::new(alloc),
+        }
+    }
+
+    /// Adds what is known of a module's names.
+    pub fn add(&mut self, m: &RawModule) -> Result<(), NoMemory>
+        ensures { OnOk result (self.new ≡ drivers.facts_after m.now self.old) }
+    {
+        inputs(&mut self.inputs, m.ports.as_slice())?;
+        levels(&mut self.levels, m.ports.as_slice())?;
+        items_read(&mut self.read, m.items.as_slice())?;
+        items_assign(&mut self.driven, m.items.as_slice())?;
+        clocks(&mut self.clocks, m.items.as_slice())
+    }
+}
+
+impl Taken {
+    /// Before the first block.
+    pub fn none(alloc: Global) -> Taken
+        ensures { result ≡ drivers.nothing }
+    {
+        Taken {
+            names: TextSet::new(alloc),
+            rising: TextSet::new(alloc),
+            falling: TextSet::new(alloc),
+        }
+    }
 }

@@ -10,10 +10,18 @@ use std::alloc::Global;
 use std::marker::Model;
 
 /// Names, each with the number of its highest bit where it is declared once.
-#[derive(Drop)]
 pub struct Scope {
     alloc: Global,
     highs: IndexMap<Vec<u8>, Option<u128>>,
+}
+
+impl Drop for Scope {
+    fn drop(self) {
+        let Scope {
+            alloc: _,
+            highs: _highs,
+        } = self;
+    }
 }
 
 impl Model for Scope {

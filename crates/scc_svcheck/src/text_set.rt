@@ -10,10 +10,18 @@ use std::alloc::Global;
 use std::marker::Model;
 
 /// Texts in the order in which they came, each once.
-#[derive(Drop)]
 pub struct TextSet {
     alloc: Global,
     texts: IndexSet<Vec<u8>>,
+}
+
+impl Drop for TextSet {
+    fn drop(self) {
+        let TextSet {
+            alloc: _,
+            texts: _texts,
+        } = self;
+    }
 }
 
 impl Model for TextSet {

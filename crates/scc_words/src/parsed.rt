@@ -8,40 +8,48 @@ use clap::{Arg, ArgAction, ArgMatches, Command as Parser};
 use scc_base::{NoMemory, lost};
 use std::alloc::Global;
 
-// One command without subcommands: ACTION, TOP and any number of FILE, two options with a value, and flags.
-fn parser<'a>(alloc: Global) -> Result<Parser<'a>, NoMemory> {
-    Ok(
-        Parser::new(alloc, "scc")
-            .no_binary_name(true)
-            .disable_help_flag(true)
-            .disable_version_flag(true)
-            .arg(
-                Arg::new(alloc, "ACTION")
-                    .required(true)
-                    .action(ArgAction::Set),
-            )?
-            .arg(Arg::new(alloc, "TOP").required(true).action(ArgAction::Set))?
-            .arg(
-                Arg::new(alloc, "FILE")
-                    .num_args(0..)
-                    .action(ArgAction::Append),
-            )?
-            .arg(Arg::new(alloc, "stim").long("stim").action(ArgAction::Set))?
-            .arg(
-                Arg::new(alloc, "order")
-                    .long("order")
-                    .action(ArgAction::Set),
-            )?
-            .arg(flag(alloc, "source"))?
-            .arg(flag(alloc, "migrate"))?
-            .arg(flag(alloc, "hier"))?
-            .arg(flag(alloc, "clocks"))?
-            .arg(flag(alloc, "memory"))?,
-    )
+// How an argument is written: as a word, as any number of words, as an option with a value, or as a flag.
+#[derive(Clone, Copy)]
+enum Argument {
+    Word,
+    Words,
+    Value,
+    Flag,
 }
 
-fn flag<'a>(alloc: Global, name: &'a str) -> Arg<'a> {
-    Arg::new(alloc, name).long(name).action(ArgAction::SetTrue)
+const ARGUMENTS: [(&str, Argument); 10] = [
+    ("ACTION", Argument::Word),
+    ("TOP", Argument::Word),
+    ("FILE", Argument::Words),
+    ("stim", Argument::Value),
+    ("order", Argument::Value),
+    ("source", Argument::Flag),
+    ("migrate", Argument::Flag),
+    ("hier", Argument::Flag),
+    ("clocks", Argument::Flag),
+    ("memory", Argument::Flag),
+];
+
+fn clap_argument<'a>(alloc: Global, name: &'a str, argument: Argument) -> Arg<'a> {
+    let arg = Arg::new(alloc, name);
+    match argument {
+        Argument::Word => arg.required(true).action(ArgAction::Set),
+        Argument::Words => arg.num_args(0..).action(ArgAction::Append),
+        Argument::Value => arg.long(name).action(ArgAction::Set),
+        Argument::Flag => arg.long(name).action(ArgAction::SetTrue),
+    }
+}
+
+// One command without subcommands.
+fn parser<'a>(alloc: Global) -> Result<Parser<'a>, NoMemory> {
+    let mut parser = Parser::new(alloc, "scc")
+        .no_binary_name(true)
+        .disable_help_flag(true)
+        .disable_version_flag(true);
+    for (name, argument) in ARGUMENTS {
+        parser = parser.arg(clap_argument(alloc, name, argument))?;
+    }
+    Ok(parser)
 }
 
 // Whether the stimulus is the word of that number.

@@ -8,9 +8,14 @@ use std::alloc::Global;
 use std::marker::Model;
 
 /// Names in the order in which they came, each once.
-#[derive(Drop)]
 pub struct NameIndex {
     names: IndexSet<Vec<u8>>,
+}
+
+impl Drop for NameIndex {
+    fn drop(self) {
+        let NameIndex { names: _names } = self;
+    }
 }
 
 impl Model for NameIndex {
@@ -58,9 +63,14 @@ impl NameIndex {
 }
 
 /// Numbers, each once.
-#[derive(Drop)]
 pub struct NumberSet {
     numbers: IndexSet<u32>,
+}
+
+impl Drop for NumberSet {
+    fn drop(self) {
+        let NumberSet { numbers: _numbers } = self;
+    }
 }
 
 impl Model for NumberSet {
