@@ -5,7 +5,7 @@ use scc_base::{List, Name, NoMemory, Path, PathPart, lost, push};
 use scc_bits::Kind;
 use scc_core::{Cell, CellName, CellSort, VectorSize2, numbered};
 use scc_design::{Design, Object, ObjectNode};
-use scc_plaintree::{Plain, Reach};
+use scc_plaintree::{Plain, PlainClass, Reach};
 use std::alloc::Global;
 
 /// The cells of the objects in construction order, and each object's cell; modules have none.
@@ -42,44 +42,109 @@ struct Home {
     member: Option<MemberOf>,
 }
 
+// What the cells are made from.
+#[derive(Clone, Copy)]
+struct Source<'a> {
+    plain: &'a Plain,
+    design: &'a Design,
+    moving: &'a Moving,
+    homes: &'a Homes,
+    /// Where the targets of pointers stand in their list, by the pointers' numbers.
+    targets: &'a IndexMap<u32, u32>,
+}
+
 /// The cells of a design's objects.
 pub fn object_cells(alloc: Global, p: &Plain, d: &Design) -> Result<ObjectCells, NoMemory> {
     let moving = Moving::of(alloc, p)?;
     let homes = Homes::of(alloc, p, d)?;
     let targets = targets(alloc, d)?;
-    let mut made = ObjectCells {
-        cells: List::new(alloc),
-        of: Vec::new(alloc),
-    };
-    for (number, object) in d.objects.as_slice().iter().enumerate() {
-        let number = numbered(number)?;
-        let target = targets
-            .get(&number)
-            .and_then(|t| d.targets.get(*t as usize));
-        let at = homes.find(object.path.as_slice());
-        let sort = match object.node {
-            ObjectNode::Module(_) => {
-                push(&mut made.of, None)?;
-                continue;
-            }
-            ObjectNode::Port { output: true, .. } if !at.below => CellSort::Output,
-            ObjectNode::Port { .. } if !at.below => CellSort::Input,
-            ObjectNode::Port { root, .. } => CellSort::Port(path_of(alloc, d, root)?),
-            ObjectNode::Signal(_) => CellSort::Signal,
-            ObjectNode::Variable { value, .. } => CellSort::Variable {
-                value,
-                fixed: at.member.is_some_and(|m| is_fixed(p, &moving, m)),
-            },
-            ObjectNode::Pointer(to) => CellSort::Pointer(match (target, to) {
-                (Some(target), _) => Some(Path::of(alloc, target.path.as_slice())?),
-                (None, Some(to)) => Some(path_of(alloc, d, to)?),
-                (None, None) => None,
-            }),
-        };
-        push(&mut made.of, Some(numbered(made.cells.len())?))?;
-        made.cells.push(cell(alloc, object, sort)?)?;
-    }
+    cells_from(
+        alloc,
+        Source {
+            plain: p,
+            design: d,
+            moving: &moving,
+            homes: &homes,
+            targets: &targets,
+        },
+    )
+}
+
+fn cells_from(alloc: Global, from: Source) -> Result<ObjectCells, NoMemory> {
+    let mut made = ObjectCells::none(alloc);
+    made.fill(alloc, from)?;
     Ok(made)
+}
+
+impl ObjectCells {
+    fn none(alloc: Global) -> ObjectCells {
+        ObjectCells {
+            cells: List::new(alloc),
+            of: Vec::new(alloc),
+        }
+    }
+
+    fn fill(&mut self, alloc: Global, from: Source) -> Result<(), NoMemory> {
+        for (number, object) in from.design.objects.as_slice().iter().enumerate() {
+            let sort = sort_of(alloc, numbered(number)?, object, from)?;
+            self.add(alloc, object, sort)?;
+        }
+        Ok(())
+    }
+
+    // The cell of an object; a module has no sort.
+    fn add(
+        &mut self,
+        alloc: Global,
+        object: &Object,
+        sort: Option<CellSort>,
+    ) -> Result<(), NoMemory> {
+        let Some(sort) = sort else {
+            return push(&mut self.of, None);
+        };
+        push(&mut self.of, Some(numbered(self.cells.len())?))?;
+        self.cells.push(cell(alloc, object, sort)?)
+    }
+}
+
+fn sort_of(
+    alloc: Global,
+    number: u32,
+    object: &Object,
+    from: Source,
+) -> Result<Option<CellSort>, NoMemory> {
+    let at = from.homes.find(object.path.as_slice());
+    let sort = match object.node {
+        ObjectNode::Module(_) => return Ok(None),
+        ObjectNode::Port { output: true, .. } if !at.below => CellSort::Output,
+        ObjectNode::Port { .. } if !at.below => CellSort::Input,
+        ObjectNode::Port { root, .. } => CellSort::Port(path_of(alloc, from.design, root)?),
+        ObjectNode::Signal(_) => CellSort::Signal,
+        ObjectNode::Variable { value, .. } => CellSort::Variable {
+            value,
+            fixed: is_fixed_at(at, from),
+        },
+        ObjectNode::Pointer(to) => CellSort::Pointer(pointed(alloc, number, to, from)?),
+    };
+    Ok(Some(sort))
+}
+
+// Where a pointer leads: to a target of its own, or to an object.
+fn pointed(
+    alloc: Global,
+    number: u32,
+    to: Option<u32>,
+    from: Source,
+) -> Result<Option<Path>, NoMemory> {
+    if let Some(t) = from.targets.get(&number)
+        && let Some(target) = from.design.targets.get(*t as usize)
+    {
+        return Ok(Some(Path::of(alloc, target.path.as_slice())?));
+    }
+    match to {
+        Some(to) => Ok(Some(path_of(alloc, from.design, to)?)),
+        None => Ok(None),
+    }
 }
 
 fn cell(alloc: Global, object: &Object, sort: CellSort) -> Result<Cell, NoMemory> {
@@ -100,6 +165,13 @@ fn cell(alloc: Global, object: &Object, sort: CellSort) -> Result<Cell, NoMemory
         sort,
         place: object.place,
     })
+}
+
+fn is_fixed_at(at: Home, from: Source) -> bool {
+    match at.member {
+        Some(m) => is_fixed(from.plain, from.moving, m),
+        None => false,
+    }
 }
 
 // A member is fixed that is the variable itself, so no number made by `new`, and that no process may change.
@@ -139,28 +211,41 @@ pub fn vectors(alloc: Global, d: &Design) -> Result<List<VectorSize2>, NoMemory>
 
 impl Homes {
     fn of(alloc: Global, p: &Plain, d: &Design) -> Result<Homes, NoMemory> {
-        let mut homes = Homes {
+        let mut homes = Homes::none(alloc);
+        homes.fill(p, d)?;
+        Ok(homes)
+    }
+
+    fn none(alloc: Global) -> Homes {
+        Homes {
             branches: IndexMap::new(alloc),
             classes: Vec::new(alloc),
             members: IndexMap::new(alloc),
-        };
-        push(&mut homes.classes, None)?;
+        }
+    }
+
+    fn fill(&mut self, p: &Plain, d: &Design) -> Result<(), NoMemory> {
+        push(&mut self.classes, None)?;
         for (class, tree) in p.classes.as_slice().iter().enumerate() {
-            let class = numbered(class)?;
-            for (member, m) in tree.members.as_slice().iter().enumerate() {
-                let key = MemberName {
-                    class,
-                    name: m.name,
-                };
-                homes.members.insert(key, numbered(member)?)?;
-            }
+            self.add_members(numbered(class)?, tree)?;
         }
         for object in d.objects.as_slice() {
             if let ObjectNode::Module(class) = object.node {
-                homes.add(object.path.as_slice(), class)?;
+                self.add(object.path.as_slice(), class)?;
             }
         }
-        Ok(homes)
+        Ok(())
+    }
+
+    fn add_members(&mut self, class: u32, tree: &PlainClass) -> Result<(), NoMemory> {
+        for (member, m) in tree.members.as_slice().iter().enumerate() {
+            let key = MemberName {
+                class,
+                name: m.name,
+            };
+            self.members.insert(key, numbered(member)?)?;
+        }
+        Ok(())
     }
 
     fn add(&mut self, path: &[PathPart], class: u32) -> Result<(), NoMemory> {

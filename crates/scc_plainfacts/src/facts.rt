@@ -64,19 +64,37 @@ struct Look<'a, 'b> {
 /// What is known of each function. Those that a function calls are looked at before it.
 pub fn all_facts(alloc: Global, plain: &Plain) -> Result<Vec<Option<Facts>>, NoMemory> {
     let mut known = Vec::new(alloc);
-    for _ in plain.functions.as_slice() {
-        push(&mut known, None)?;
-    }
-    for number in ordered(alloc, plain)? {
-        let Some(function) = plain.functions.get(number as usize) else {
-            return Err(lost());
-        };
-        let own = looked_at(alloc, plain, function, known.as_slice())?;
-        if let Some(slot) = known.get_mut(number as usize) {
-            *slot = Some(own);
-        }
-    }
+    look_at_all(alloc, plain, &mut known)?;
     Ok(known)
+}
+
+fn look_at_all(
+    alloc: Global,
+    plain: &Plain,
+    known: &mut Vec<Option<Facts>>,
+) -> Result<(), NoMemory> {
+    for _ in plain.functions.as_slice() {
+        push(known, None)?;
+    }
+    let order = ordered(alloc, plain)?;
+    for number in order.as_slice() {
+        look_at(alloc, plain, *number, known)?;
+    }
+    Ok(())
+}
+
+fn look_at(
+    alloc: Global,
+    plain: &Plain,
+    number: u32,
+    known: &mut Vec<Option<Facts>>,
+) -> Result<(), NoMemory> {
+    let function = plain.functions.get(number as usize).ok_or(lost())?;
+    let own = looked_at(alloc, plain, function, known.as_slice())?;
+    if let Some(slot) = known.get_mut(number as usize) {
+        *slot = Some(own);
+    }
+    Ok(())
 }
 
 // The functions, each behind those that it calls.

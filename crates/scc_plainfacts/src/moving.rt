@@ -2,8 +2,8 @@
 use crate::walk::{Met, Walk, pointers};
 use scc_base::{NoMemory, push};
 use scc_plaintree::{
-    Base, Plain, PlainArg, PlainBase, PlainFunction, PlainLeft, PlainNode, PlainPart, PlainStmt,
-    PlainTarget,
+    Base, Plain, PlainArg, PlainBase, PlainClass, PlainFunction, PlainLeft, PlainNode, PlainPart,
+    PlainStmt, PlainTarget,
 };
 use std::alloc::Global;
 
@@ -24,19 +24,21 @@ pub struct MemberOf {
 impl Moving {
     /// Looks at all functions of a program.
     pub fn of(alloc: Global, plain: &Plain) -> Result<Moving, NoMemory> {
-        let mut classes = Vec::new(alloc);
+        let mut moving = Moving {
+            classes: Vec::new(alloc),
+        };
+        moving.look(alloc, plain)?;
+        Ok(moving)
+    }
+
+    fn look(&mut self, alloc: Global, plain: &Plain) -> Result<(), NoMemory> {
         for class in plain.classes.as_slice() {
-            let mut members = Vec::new(alloc);
-            for _ in class.members.as_slice() {
-                push(&mut members, false)?;
-            }
-            push(&mut classes, members)?;
+            push(&mut self.classes, unmoved(alloc, class)?)?;
         }
-        let mut moving = Moving { classes };
         for (number, function) in plain.functions.as_slice().iter().enumerate() {
             let constructor = is_constructor(plain, function, number);
-            moving.list(alloc, plain, function, function.inits.as_slice(), true)?;
-            moving.list(
+            self.list(alloc, plain, function, function.inits.as_slice(), true)?;
+            self.list(
                 alloc,
                 plain,
                 function,
@@ -44,7 +46,7 @@ impl Moving {
                 constructor,
             )?;
         }
-        Ok(moving)
+        Ok(())
     }
 
     /// Whether a process may change a member.
@@ -73,6 +75,17 @@ impl Moving {
         constructor: bool,
     ) -> Result<(), NoMemory> {
         let mut walk = Walk::new(alloc, list)?;
+        self.walked(alloc, plain, function, &mut walk, constructor)
+    }
+
+    fn walked(
+        &mut self,
+        alloc: Global,
+        plain: &Plain,
+        function: &PlainFunction,
+        walk: &mut Walk,
+        constructor: bool,
+    ) -> Result<(), NoMemory> {
         for _ in 0..usize::MAX {
             let Some(met) = walk.next()? else {
                 break;
@@ -121,6 +134,15 @@ impl Moving {
         }
         Ok(())
     }
+}
+
+// Of each member of a class that it is fixed.
+fn unmoved(alloc: Global, class: &PlainClass) -> Result<Vec<bool>, NoMemory> {
+    let mut members = Vec::new(alloc);
+    for _ in class.members.as_slice() {
+        push(&mut members, false)?;
+    }
+    Ok(members)
 }
 
 // Constructors' bodies may set members before any process runs.
