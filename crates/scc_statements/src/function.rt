@@ -7,7 +7,7 @@ use crate::statement::scoped;
 use scc_base::{List, Stop, lost};
 use scc_bodies::{Body, Flow, FunctionId, Walk};
 use scc_plaintree::PlainFunction;
-use scc_tree::{FileTree, FunctionTree};
+use scc_tree::FileTree;
 use std::mem;
 
 /// A function's plain form, its initialisers before its body. The functions that it names have the numbers of `w.numbers`. Refuses by
@@ -16,21 +16,27 @@ pub fn walk_body(f: FunctionId, tree: &FileTree, w: &mut Walk) -> Result<PlainFu
     ensures stop { IfErr result MayStop }
 {
     let mut b = w.open(f, tree)?;
+    walked(f, tree, w, &mut b)
+}
+
+// The same, from the state at the beginning of its body.
+fn walked(f: FunctionId, tree: &FileTree, w: &mut Walk, b: &mut Body) -> Result<PlainFunction, Stop>
+    ensures stop { IfErr result MayStop }
+{
     let source = w.tree_of(f, tree).ok_or(lost())?;
     let mut inits = List::new(w.alloc);
     for i in source.inits.as_slice() {
-        init(i, tree, w, &mut b, &mut inits)?;
+        init(i, tree, w, b, &mut inits)?;
     }
     let mut body = List::new(w.alloc);
     if let Some(list) = &source.body {
-        scoped(list.as_slice(), tree, Flow::start(), w, &mut b, &mut body)?;
+        scoped(list.as_slice(), tree, Flow::start(), w, b, &mut body)?;
     }
     let params = u32::try_from(source.params.len()).map_err(|_| lost())?;
-    let class = b.scope.map(|i| i.0);
     Ok(PlainFunction {
         name: source.name,
         place: source.place,
-        class,
+        class: b.scope.map(|i| i.0),
         params,
         locals: mem::replace(&mut b.locals, List::new(w.alloc)),
         result: b.result,

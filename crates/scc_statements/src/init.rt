@@ -41,13 +41,29 @@ pub(crate) fn init(
     };
     let form = w.field_form(scope, k, tree)?;
     w.note_this(b)?;
-    let mut left = PlainLeft::new(w.alloc, i.place, PlainBase::This);
+    begin_member(args, form, k, i.place, tree, w, b, out)
+}
+
+// What the initialiser of the member of that number does.
+fn begin_member(
+    args: &[Expr],
+    form: Form,
+    k: usize,
+    place: Place,
+    tree: &FileTree,
+    w: &mut Walk,
+    b: &mut Body,
+    out: &mut List<PlainStmt>,
+) -> Result<(), Stop>
+    ensures stop { IfErr result MayStop }
+{
+    let mut left = PlainLeft::new(w.alloc, place, PlainBase::This);
     let member = u32::try_from(k).map_err(|_| lost())?;
     left.parts.push(PlainPart::Member(member))?;
-    let node = begun(args, form, left, i.place, tree, w, b)?;
+    let node = begun(args, form, left, place, tree, w, b)?;
     b.flush(out)?;
     if let Some(node) = node {
-        put(out, i.place, node)?;
+        put(out, place, node)?;
     }
     Ok(())
 }

@@ -7,7 +7,7 @@ use crate::local::locals;
 use crate::loops::{for_head, loop_test, looped, turn_flow};
 use crate::simple::simple;
 use crate::stmts::put;
-use crate::switch::{Cases, Tests, hide, is_label, labels_of, selector};
+use crate::switch::{Cases, hide, is_label, labels_of, selector};
 use scc_base::{Code, List, Place, Stop};
 use scc_bodies::{Body, Flow, Walk, convert, refuse};
 use scc_plaintree::{PlainNode, PlainStmt};
@@ -94,12 +94,7 @@ fn stmt(
             Ok(())
         }
         StmtNode::Switch { of, items } => {
-            let tests = selector(of, place, tree, flow, w, b, out)?;
-            let mark = b.names.mark();
-            let list = cases(items.as_slice(), tests, tree, flow, w, b)?;
-            b.names.close(mark);
-            put(out, place, PlainNode::Block(list))?;
-            Ok(())
+            switch(items.as_slice(), of, place, tree, flow, w, b, out)
         }
         StmtNode::While { test, body } => {
             let mut list = List::new(w.alloc);
@@ -132,24 +127,45 @@ fn stmt(
     }
 }
 
-// The statements of a `switch`, by the labels that they stand behind. The braces are one scope, but pointers and references are
-// known up to the next label.
+// A `switch`. The braces are one scope, but pointers and references are known up to the next label.
 #[cycle(statement)]
-fn cases(
+fn switch(
     items: &[SwitchItem],
-    tests: Tests,
+    of: &Expr,
+    place: Place,
     tree: &FileTree,
     flow: Flow,
     w: &mut Walk,
     b: &mut Body,
-) -> Result<List<PlainStmt>, Stop>
+    out: &mut List<PlainStmt>,
+) -> Result<(), Stop>
     ensures stop { IfErr result MayStop }
 {
-    let mut cases = Cases::new(w.alloc, tests, labels_of(items)?);
+    let tests = selector(of, place, tree, flow, w, b, out)?;
+    let mut cases = Cases::new(w.alloc, tests);
+    switched(items, &mut cases, place, tree, flow, w, b, out)
+}
+
+// A `switch` behind its selector: its statements, by the labels that they stand behind.
+#[cycle(statement)]
+fn switched(
+    items: &[SwitchItem],
+    cases: &mut Cases,
+    place: Place,
+    tree: &FileTree,
+    flow: Flow,
+    w: &mut Walk,
+    b: &mut Body,
+    out: &mut List<PlainStmt>,
+) -> Result<(), Stop>
+    ensures stop { IfErr result MayStop }
+{
+    let mark = b.names.mark();
+    cases.expect(labels_of(items)?);
     for item in items {
         match &item.node {
             SwitchNode::Stmt(s) => {
-                hide(s, b, &mut cases)?;
+                hide(s, b, cases)?;
                 let inner = cases.flow(flow)?;
                 let mut list = cases.taken(w.alloc);
                 stmt(s, tree, inner, w, b, &mut list)?;
@@ -159,7 +175,10 @@ fn cases(
             SwitchNode::Otherwise => cases.label(item.place, None, tree, w, b)?,
         }
     }
-    Ok(cases.whole(w.alloc)?)
+    let list = cases.whole(w.alloc)?;
+    b.names.close(mark);
+    put(out, place, PlainNode::Block(list))?;
+    Ok(())
 }
 
 // A statement that holds no other.

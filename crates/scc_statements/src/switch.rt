@@ -152,7 +152,7 @@ impl Tests {
 }
 
 impl Cases {
-    pub fn new(alloc: Global, tests: Tests, labels: u32) -> Cases {
+    pub fn new(alloc: Global, tests: Tests) -> Cases {
         let last = Group {
             place: tests.place,
             list: List::new(alloc),
@@ -162,9 +162,15 @@ impl Cases {
             groups: List::new(alloc),
             last,
             hidden: List::new(alloc),
-            all: labels,
-            left: labels,
+            all: 0,
+            left: 0,
         }
+    }
+
+    /// So many labels are to come.
+    pub fn expect(&mut self, labels: u32) {
+        self.all = labels;
+        self.left = labels;
     }
 
     /// What stands round a statement behind the labels so far.
@@ -222,41 +228,37 @@ impl Cases {
         Ok(())
     }
 
-    /// What stands in the outermost block.
-    pub fn whole(self, alloc: Global) -> Result<List<PlainStmt>, NoMemory> {
-        let Cases {
-            tests,
-            groups,
-            last,
-            all,
-            ..
-        } = self;
-        let Tests {
-            place,
-            list,
-            default,
-            ..
-        } = tests;
-        let mut list = list;
-        let n = match default {
-            Some(n) => n,
-            None => all,
-        };
-        put(&mut list, place, PlainNode::Exit(n))?;
-        let mut groups = groups;
-        groups.push(last)?;
-        let mut is_first = true;
-        for group in groups.into_vec() {
-            if !is_first {
-                let mut outer = List::new(alloc);
-                put(&mut outer, group.place, PlainNode::Block(list))?;
-                list = outer;
-            }
-            is_first = false;
-            list.append(group.list)?;
-        }
-        Ok(list)
+    /// What stands in the outermost block; its statements are taken out.
+    pub fn whole(&mut self, alloc: Global) -> Result<List<PlainStmt>, NoMemory> {
+        let n = self.tests.default.unwrap_or(self.all);
+        put(&mut self.tests.list, self.tests.place, PlainNode::Exit(n))?;
+        let place = self.last.place;
+        let list = self.taken(alloc);
+        self.groups.push(Group { place, list })?;
+        let tests = mem::replace(&mut self.tests.list, List::new(alloc));
+        let groups = mem::replace(&mut self.groups, List::new(alloc));
+        nested(tests, groups, alloc)
     }
+}
+
+// The tests and the groups of statements, each group behind a block of what stands before it.
+fn nested(
+    tests: List<PlainStmt>,
+    groups: List<Group>,
+    alloc: Global,
+) -> Result<List<PlainStmt>, NoMemory> {
+    let mut list = tests;
+    let mut is_first = true;
+    for group in groups.into_vec() {
+        if !is_first {
+            let mut outer = List::new(alloc);
+            put(&mut outer, group.place, PlainNode::Block(list))?;
+            list = outer;
+        }
+        is_first = false;
+        list.append(group.list)?;
+    }
+    Ok(list)
 }
 
 /// Notes what the names of the pointers and references mean that a statement is about to declare.
