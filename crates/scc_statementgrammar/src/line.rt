@@ -7,8 +7,8 @@ ghost use Rattle.scc_syntax.specs.ParseStatements as s;
 ghost use Rattle.scc_syntax.specs.ParseStatements.{inner};
 ghost use Rattle.scc_terminals.specs.StatementNodes as nodes;
 ghost use Rattle.scc_syntax.specs.Statements as statements;
-ghost use Rattle.scc_terminals.specs.Text.{next_is, next_says, pick};
-ghost use Rattle.scc_reading.specs.Reading.{is_next, token};
+ghost use Rattle.scc_terminals.specs.Text.{mark, next_is, next_says, pick};
+ghost use Rattle.scc_reading.specs.Reading.{and_then, is_next, pure, token};
 ghost use Rattle.scc_tree.specs.Node.{stmt_of};
 
 use crate::simple::{any_simple, local_or_simple};
@@ -61,6 +61,32 @@ pub fn stmt_at(alloc: Global, place: Place, node: StmtNode) -> Result<(Stmt, boo
     ensures { IfOk result (λ x. x ≡ (stmt_of place node, false)) }
 {
     Ok((Stmt::new(alloc, place, node)?, false))
+}
+
+/// A statement of this node, up to its semicolon.
+pub fn up_to_semicolon<'a>(
+    alloc: Global,
+    place: Place,
+    node: StmtNode,
+    ts: &'a [Seen],
+) -> Read<'a, (Stmt, bool)>
+    ensures { Gives (λ x. (x.0, x.1.now)) result (and_then (mark m.semicolon ts.now) (λ _. pure (stmt_of place node, false))) }
+{
+    let (_, rest) = semicolon(ts)?;
+    Ok((stmt_at(alloc, place, node)?, rest))
+}
+
+/// The same, where a bracket stands before the semicolon.
+pub fn up_to_bracket<'a>(
+    alloc: Global,
+    place: Place,
+    node: StmtNode,
+    ts: &'a [Seen],
+) -> Read<'a, (Stmt, bool)>
+    ensures { Gives (λ x. (x.0, x.1.now)) result (and_then (mark m.paren_close ts.now) (λ _ us. and_then (mark m.semicolon us) (λ _. pure (stmt_of place node, false)))) }
+{
+    let (_, rest) = paren_close(ts)?;
+    up_to_semicolon(alloc, place, node, rest)
 }
 
 pub fn process_of(
@@ -168,8 +194,7 @@ pub fn return_rest<'a>(c: Reader, p: Place, ts: &'a [Seen]) -> Read<'a, (Stmt, b
     ensures { Gives (λ x. (x.0, x.1.now)) result (s.return_rest c.entry.names.now (inner c.entry.names.now c.entry.levels) p ts.now) }
 {
     let (of, rest) = returned(c, ts)?;
-    let (_, rest) = semicolon(rest)?;
-    Ok((stmt_at(c.alloc, p, StmtNode::Return(of))?, rest))
+    up_to_semicolon(c.alloc, p, StmtNode::Return(of), rest)
 }
 
 #[tactic(auto, unfolding(scc_syntax::specs::ParseStatements::wait_rest))]
@@ -178,9 +203,7 @@ pub fn wait_rest<'a>(c: Reader, p: Place, ts: &'a [Seen]) -> Read<'a, (Stmt, boo
 {
     let (_, rest) = paren_open(ts)?;
     let (of, rest) = within_paren_close(c, rest)?;
-    let (_, rest) = paren_close(rest)?;
-    let (_, rest) = semicolon(rest)?;
-    Ok((stmt_at(c.alloc, p, StmtNode::Wait(of))?, rest))
+    up_to_bracket(c.alloc, p, StmtNode::Wait(of), rest)
 }
 
 #[tactic(auto, unfolding(scc_syntax::specs::ParseStatements::process_rest))]
@@ -202,10 +225,8 @@ pub fn clocked_rest<'a>(c: Reader, p: Place, ts: &'a [Seen]) -> Read<'a, (Stmt, 
     let ((name, at), rest) = name_at(rest)?;
     let (_, rest) = comma(rest)?;
     let (edge, rest) = open_expr(c, rest)?;
-    let (_, rest) = paren_close(rest)?;
-    let (_, rest) = semicolon(rest)?;
     let node = StmtNode::ClockedThread { name, at, edge };
-    Ok((stmt_at(c.alloc, p, node)?, rest))
+    up_to_bracket(c.alloc, p, node, rest)
 }
 
 #[tactic(auto, unfolding(scc_syntax::specs::ParseStatements::sensitive_rest))]
@@ -216,8 +237,7 @@ pub fn sensitive_rest<'a>(c: Reader, p: Place, ts: &'a [Seen]) -> Read<'a, (Stmt
     let (first, rest) = additive(c, rest)?;
     let found = one(c.alloc, first)?;
     let (found, rest) = more_signals(c, found, rest)?;
-    let (_, rest) = semicolon(rest)?;
-    Ok((stmt_at(c.alloc, p, StmtNode::Sensitive(found))?, rest))
+    up_to_semicolon(c.alloc, p, StmtNode::Sensitive(found), rest)
 }
 
 #[tactic(auto, unfolding(scc_syntax::specs::ParseStatements::quiet_rest))]
@@ -225,9 +245,7 @@ pub fn quiet_rest<'a>(c: Reader, p: Place, ts: &'a [Seen]) -> Read<'a, (Stmt, bo
     ensures { Gives (λ x. (x.0, x.1.now)) result (s.quiet_rest c.entry.names.now (inner c.entry.names.now c.entry.levels) p ts.now) }
 {
     let (_, rest) = paren_open(ts)?;
-    let (_, rest) = paren_close(rest)?;
-    let (_, rest) = semicolon(rest)?;
-    Ok((stmt_at(c.alloc, p, StmtNode::DontInitialize)?, rest))
+    up_to_bracket(c.alloc, p, StmtNode::DontInitialize, rest)
 }
 
 #[tactic(auto, unfolding(scc_syntax::specs::ParseStatements::reset_rest))]
@@ -243,12 +261,10 @@ pub fn reset_rest<'a>(
     let (signal, rest) = open_expr(c, rest)?;
     let (_, rest) = comma(rest)?;
     let (level, rest) = open_expr(c, rest)?;
-    let (_, rest) = paren_close(rest)?;
-    let (_, rest) = semicolon(rest)?;
     let node = StmtNode::ResetSignal {
         signal,
         level,
         asynchronous,
     };
-    Ok((stmt_at(c.alloc, p, node)?, rest))
+    up_to_bracket(c.alloc, p, node, rest)
 }

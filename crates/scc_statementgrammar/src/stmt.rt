@@ -3,17 +3,20 @@ ghost use Rattle.std.specs.Prelude.{◌≡◌, IfOk, false, true};
 ghost use Rattle.scc_terminals.specs.Answer.{Gives, onto};
 ghost use Rattle.scc_terminals.specs.Marks as m;
 ghost use Rattle.scc_terminals.specs.Names as names;
+ghost use Rattle.scc_syntax.specs.ParseExpressions as e;
 ghost use Rattle.scc_syntax.specs.ParseStatements as s;
 ghost use Rattle.scc_syntax.specs.ParseStatements.{inner};
 ghost use Rattle.scc_terminals.specs.StatementNodes as nodes;
 ghost use Rattle.scc_syntax.specs.Statements as statements;
-ghost use Rattle.scc_terminals.specs.Text.{next_is, next_says, pick};
-ghost use Rattle.scc_reading.specs.Reading.{is_next, token};
+ghost use Rattle.scc_terminals.specs.Text.{mark, next_is, next_says, pick};
+ghost use Rattle.scc_reading.specs.Reading.{and_then, is_next, pure, token};
 ghost use Rattle.scc_tree.specs.Node.{stmt_of};
+ghost use Rattle.scc_tree.specs.declared.stmt.StmtNode.TheVariants as variant;
+ghost use Rattle.scc_tree.specs.declared.stmt.SwitchNode.TheVariants as label;
 
 use crate::line::{
     clocked_rest, for_first, for_step, line, process_rest, quiet_rest, reset_rest, return_rest,
-    sensitive_rest, stmt_at, wait_rest, within_semicolon,
+    sensitive_rest, stmt_at, up_to_semicolon, wait_rest, within_semicolon,
 };
 use crate::local::condition;
 use crate::simple::begins_step;
@@ -151,9 +154,7 @@ pub fn do_rest<'a>(c: Reader, p: Place, ts: &'a [Seen]) -> Read<'a, (Stmt, bool)
     let ((body, _), rest) = open_stmt(c, ts)?;
     let (_, rest) = while_word(rest)?;
     let (test, rest) = condition(c, rest)?;
-    let (_, rest) = semicolon(rest)?;
-    let node = StmtNode::Do { body, test };
-    Ok((stmt_at(c.alloc, p, node)?, rest))
+    up_to_semicolon(c.alloc, p, StmtNode::Do { body, test }, rest)
 }
 
 #[tactic(auto, unfolding(scc_syntax::specs::ParseStatements::for_body))]
@@ -187,10 +188,63 @@ pub fn for_rest<'a>(c: Reader, p: Place, ts: &'a [Seen]) -> Read<'a, (Stmt, bool
     let (of, rest) = for_first(c, rest)?;
     let (_, rest) = semicolon(rest)?;
     let (condition, rest) = within_semicolon(c, rest)?;
-    let (_, rest) = semicolon(rest)?;
-    let (last, rest) = for_step(c, rest)?;
+    for_last(c, p, of, condition, rest)
+}
+
+// What follows the test of a `for`.
+#[cycle(statement)]
+pub fn for_last<'a>(
+    c: Reader,
+    p: Place,
+    first: ForFirst,
+    test: Option<Expr>,
+    ts: &'a [Seen],
+) -> Read<'a, (Stmt, bool)>
+    ensures { Gives (λ x. (x.0, x.1.now)) result (and_then (mark m.semicolon ts.now) (λ _ us. and_then (s.for_step c.entry.names.now (inner c.entry.names.now c.entry.levels) us) (λ step vs. and_then (mark m.paren_close vs) (λ _. s.for_body c.entry.names.now (inner c.entry.names.now c.entry.levels) p first test step)))) }
+{
+    let (_, rest) = semicolon(ts)?;
+    let (step, rest) = for_step(c, rest)?;
     let (_, rest) = paren_close(rest)?;
-    for_body(c, p, of, condition, last, rest)
+    for_body(c, p, first, test, step, rest)
+}
+
+// The statement that its semicolon is.
+fn empty(alloc: Global, place: Place, ts: &[Seen]) -> Read<'_, (Stmt, bool)>
+    ensures { Gives (λ x. (x.0, x.1.now)) result (pure (stmt_of place variant.Empty, false) ts.now) }
+{
+    Ok((stmt_at(alloc, place, StmtNode::Empty)?, ts))
+}
+
+// A statement of this node, up to its brace.
+fn up_to_brace<'a>(
+    alloc: Global,
+    place: Place,
+    node: StmtNode,
+    ts: &'a [Seen],
+) -> Read<'a, (Stmt, bool)>
+    ensures { Gives (λ x. (x.0, x.1.now)) result (and_then (mark m.brace_close ts.now) (λ _. pure (stmt_of place node, false))) }
+{
+    let (_, rest) = brace_close(ts)?;
+    Ok((stmt_at(alloc, place, node)?, rest))
+}
+
+fn case_label<'a>(c: Reader, ts: &'a [Seen]) -> Read<'a, SwitchItem>
+    ensures { Gives (λ x. (x.0, x.1.now)) result (and_then (mark m.case_word ts.now) (λ p us. and_then (e.expr c.entry.names.now (inner c.entry.names.now c.entry.levels) us) (λ of vs. and_then (mark m.colon vs) (λ _. pure (nodes.item_of p (label.Case of)))))) }
+{
+    let (place, rest) = case_word(ts)?;
+    let (of, rest) = expr(c, rest)?;
+    let (_, rest) = colon(rest)?;
+    let node = SwitchNode::Case(of);
+    Ok((SwitchItem { place, node }, rest))
+}
+
+fn default_label(ts: &[Seen]) -> Read<'_, SwitchItem>
+    ensures { Gives (λ x. (x.0, x.1.now)) result (and_then (mark m.default_word ts.now) (λ p us. and_then (mark m.colon us) (λ _. pure (nodes.item_of p label.Otherwise)))) }
+{
+    let (place, rest) = default_word(ts)?;
+    let (_, rest) = colon(rest)?;
+    let node = SwitchNode::Otherwise;
+    Ok((SwitchItem { place, node }, rest))
 }
 
 #[tactic(auto, unfolding(scc_syntax::specs::ParseStatements::switch_item))]
@@ -199,17 +253,10 @@ pub fn switch_item<'a>(c: Reader, ts: &'a [Seen]) -> Read<'a, SwitchItem>
     ensures { Gives (λ x. (x.0, x.1.now)) result (s.switch_item c.entry.names.now (inner c.entry.names.now c.entry.levels) ts.now) }
 {
     if begins_case_word(ts) {
-        let (place, rest) = case_word(ts)?;
-        let (of, rest) = expr(c, rest)?;
-        let (_, rest) = colon(rest)?;
-        let node = SwitchNode::Case(of);
-        return Ok((SwitchItem { place, node }, rest));
+        return case_label(c, ts);
     }
     if begins_default_word(ts) {
-        let (place, rest) = default_word(ts)?;
-        let (_, rest) = colon(rest)?;
-        let node = SwitchNode::Otherwise;
-        return Ok((SwitchItem { place, node }, rest));
+        return default_label(ts);
     }
     let ((of, _), rest) = open_stmt(c, ts)?;
     let place = of.place;
@@ -239,9 +286,7 @@ pub fn switch_rest<'a>(c: Reader, p: Place, ts: &'a [Seen]) -> Read<'a, (Stmt, b
     let (of, rest) = condition(c, ts)?;
     let (_, rest) = brace_open(rest)?;
     let (items, rest) = switch_items(c, rest)?;
-    let (_, rest) = brace_close(rest)?;
-    let node = StmtNode::Switch { of, items };
-    Ok((stmt_at(c.alloc, p, node)?, rest))
+    up_to_brace(c.alloc, p, StmtNode::Switch { of, items }, rest)
 }
 
 #[cycle(statement)]
@@ -272,8 +317,7 @@ pub fn block_rest<'a>(c: Reader, p: Place, ts: &'a [Seen]) -> Read<'a, (Stmt, bo
     ensures { Gives (λ x. (x.0, x.1.now)) result (s.block_rest c.entry.names.now (inner c.entry.names.now c.entry.levels) p ts.now) }
 {
     let (body, rest) = inner_stmts(c, ts)?;
-    let (_, rest) = brace_close(rest)?;
-    Ok((stmt_at(c.alloc, p, StmtNode::Block(body))?, rest))
+    up_to_brace(c.alloc, p, StmtNode::Block(body), rest)
 }
 
 /// A statement that begins with a word or mark of its own.
@@ -288,20 +332,14 @@ pub fn word_stmt<'a>(c: Reader, ts: &'a [Seen]) -> Read<'a, (Stmt, bool)>
     let p = t.place;
     match t.terminal {
         Terminal::BraceOpen => block_rest(c, p, rest),
-        Terminal::Semicolon => Ok((stmt_at(c.alloc, p, StmtNode::Empty)?, rest)),
+        Terminal::Semicolon => empty(c.alloc, p, rest),
         Terminal::If => if_rest(c, p, rest),
         Terminal::Switch => switch_rest(c, p, rest),
         Terminal::While => while_rest(c, p, rest),
         Terminal::Do => do_rest(c, p, rest),
         Terminal::For => for_rest(c, p, rest),
-        Terminal::Break => {
-            let (_, rest) = semicolon(rest)?;
-            Ok((stmt_at(c.alloc, p, StmtNode::Break)?, rest))
-        }
-        Terminal::Continue => {
-            let (_, rest) = semicolon(rest)?;
-            Ok((stmt_at(c.alloc, p, StmtNode::Continue)?, rest))
-        }
+        Terminal::Break => up_to_semicolon(c.alloc, p, StmtNode::Break, rest),
+        Terminal::Continue => up_to_semicolon(c.alloc, p, StmtNode::Continue, rest),
         Terminal::Return => return_rest(c, p, rest),
         Terminal::Wait => wait_rest(c, p, rest),
         Terminal::ClockedThread => clocked_rest(c, p, rest),

@@ -23,7 +23,10 @@ abbrev pub decreases-for_body : goal.decreases-for_body
 decreases-for_body l = 8 * l.c.levels + 1
 
 abbrev pub decreases-for_rest : goal.decreases-for_rest
-decreases-for_rest l = 8 * l.c.levels + 2
+decreases-for_rest l = 8 * l.c.levels + 3
+
+abbrev pub decreases-for_last : goal.decreases-for_last
+decreases-for_last l = 8 * l.c.levels + 2
 
 abbrev pub decreases-switch_item : goal.decreases-switch_item
 decreases-switch_item l = 8 * l.c.levels + 1
