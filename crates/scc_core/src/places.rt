@@ -37,10 +37,18 @@ struct Named {
 }
 
 /// The names of a core's cells and vectors.
-#[derive(Drop)]
 pub struct Places {
     branches: IndexMap<Branch, u32>,
     named: Vec<Named>,
+}
+
+impl Drop for Places {
+    fn drop(self) {
+        let Places {
+            branches: _branches,
+            named: _named,
+        } = self;
+    }
 }
 
 impl Places {
@@ -61,14 +69,19 @@ impl Places {
         vectors: &List<VectorSize2>,
     ) -> Result<Places, NoMemory> {
         let mut places = Places::new(alloc)?;
+        places.fill(cells, vectors)?;
+        Ok(places)
+    }
+
+    fn fill(&mut self, cells: &List<Cell>, vectors: &List<VectorSize2>) -> Result<(), NoMemory> {
         for (number, cell) in cells.as_slice().iter().enumerate() {
             let pointer = matches!(cell.sort, CellSort::Pointer(_));
-            places.add(&cell.name, numbered(number)?, pointer)?;
+            self.add(&cell.name, numbered(number)?, pointer)?;
         }
         for v in vectors.as_slice() {
-            places.add_vector(v.path.as_slice(), v.size)?;
+            self.add_vector(v.path.as_slice(), v.size)?;
         }
-        Ok(places)
+        Ok(())
     }
 
     // One more front part, of nothing yet; its number.
