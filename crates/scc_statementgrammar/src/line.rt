@@ -63,6 +63,32 @@ pub fn stmt_at(alloc: Global, place: Place, node: StmtNode) -> Result<(Stmt, boo
     Ok((Stmt::new(alloc, place, node)?, false))
 }
 
+/// The node of a statement whose end isn't read yet. Its drop is one call at each exit.
+pub struct Pending {
+    node: StmtNode,
+}
+
+impl Drop for Pending {
+    fn drop(self) {
+        let Pending { node: _node } = self;
+    }
+}
+
+impl Pending {
+    pub fn new(node: StmtNode) -> Pending
+        ensures { result.node ≡ node }
+    {
+        Pending { node }
+    }
+
+    pub fn into_node(self) -> StmtNode
+        ensures { result ≡ self.node }
+    {
+        let Pending { node } = self;
+        node
+    }
+}
+
 /// A statement of this node, up to its semicolon.
 pub fn up_to_semicolon<'a>(
     alloc: Global,
@@ -72,8 +98,9 @@ pub fn up_to_semicolon<'a>(
 ) -> Read<'a, (Stmt, bool)>
     ensures { Gives (λ x. (x.0, x.1.now)) result (and_then (mark m.semicolon ts.now) (λ _. pure (stmt_of place node, false))) }
 {
+    let pending = Pending::new(node);
     let (_, rest) = semicolon(ts)?;
-    Ok((stmt_at(alloc, place, node)?, rest))
+    Ok((stmt_at(alloc, place, pending.into_node())?, rest))
 }
 
 /// The same, where a bracket stands before the semicolon.
@@ -85,8 +112,9 @@ pub fn up_to_bracket<'a>(
 ) -> Read<'a, (Stmt, bool)>
     ensures { Gives (λ x. (x.0, x.1.now)) result (and_then (mark m.paren_close ts.now) (λ _ us. and_then (mark m.semicolon us) (λ _. pure (stmt_of place node, false)))) }
 {
+    let pending = Pending::new(node);
     let (_, rest) = paren_close(ts)?;
-    up_to_semicolon(alloc, place, node, rest)
+    up_to_semicolon(alloc, place, pending.into_node(), rest)
 }
 
 pub fn process_of(

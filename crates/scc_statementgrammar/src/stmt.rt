@@ -15,8 +15,8 @@ ghost use Rattle.scc_tree.specs.declared.stmt.StmtNode.TheVariants as variant;
 ghost use Rattle.scc_tree.specs.declared.stmt.SwitchNode.TheVariants as label;
 
 use crate::line::{
-    clocked_rest, for_first, for_step, line, process_rest, quiet_rest, reset_rest, return_rest,
-    sensitive_rest, stmt_at, up_to_semicolon, wait_rest, within_semicolon,
+    Pending, clocked_rest, for_first, for_step, line, process_rest, quiet_rest, reset_rest,
+    return_rest, sensitive_rest, stmt_at, up_to_semicolon, wait_rest, within_semicolon,
 };
 use crate::local::condition;
 use crate::simple::begins_step;
@@ -224,8 +224,9 @@ fn up_to_brace<'a>(
 ) -> Read<'a, (Stmt, bool)>
     ensures { Gives (λ x. (x.0, x.1.now)) result (and_then (mark m.brace_close ts.now) (λ _. pure (stmt_of place node, false))) }
 {
+    let pending = Pending::new(node);
     let (_, rest) = brace_close(ts)?;
-    Ok((stmt_at(alloc, place, node)?, rest))
+    Ok((stmt_at(alloc, place, pending.into_node())?, rest))
 }
 
 fn case_label<'a>(c: Reader, ts: &'a [Seen]) -> Read<'a, SwitchItem>
