@@ -10,12 +10,20 @@ use std::alloc::Global;
 /// memory of that name needs.
 pub fn candidates(alloc: Global, vars: &[SvVar]) -> Result<Arrays, NoMemory> {
     let ids = ids_of(alloc, vars)?;
+    candidates_among(alloc, vars, &ids)
+}
+
+fn candidates_among(
+    alloc: Global,
+    vars: &[SvVar],
+    ids: &IndexMap<Vec<u8>, u32>,
+) -> Result<Arrays, NoMemory> {
     let mut arrays = Arrays::none(alloc, vars.len())?;
     for v in vars {
         let name = v.name.bytes();
         if name.ends_with(b"$0") {
             let front = &name[..name.len() - 2];
-            if let Some(array) = candidate(alloc, vars, &ids, front)? {
+            if let Some(array) = candidate(alloc, vars, ids, front)? {
                 arrays.add(array)?;
             }
         }

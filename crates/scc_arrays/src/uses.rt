@@ -94,10 +94,7 @@ impl<'a> Uses<'a> {
                 self.list(no.as_slice())
             }
             SvStmt::Case { of, arms } => {
-                let alloc = self.alloc;
-                if let Some(write) = write_of(alloc, self.arrays, of, arms.as_slice())? {
-                    self.choose(write.array);
-                }
+                self.note_write(of, arms.as_slice())?;
                 self.expr(of)?;
                 self.arms(arms.as_slice())
             }
@@ -108,6 +105,14 @@ impl<'a> Uses<'a> {
     fn arms(&mut self, arms: &'a [SvArm]) -> Result<(), NoMemory> {
         for arm in arms {
             self.list(arm.body.as_slice())?;
+        }
+        Ok(())
+    }
+
+    // A `case` that chooses among the elements of an array.
+    fn note_write(&mut self, of: &SvExpr, arms: &[SvArm]) -> Result<(), NoMemory> {
+        if let Some(write) = write_of(self.alloc, self.arrays, of, arms)? {
+            self.choose(write.array);
         }
         Ok(())
     }

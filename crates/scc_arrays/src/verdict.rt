@@ -5,7 +5,7 @@ use crate::paths::Paths;
 use crate::uses::Uses;
 use crate::write::{first_run, is_start};
 use scc_base::{NoMemory, push};
-use scc_svtree::{SvBlock, SvExpr, SvExprNode, SvLeft, SvModule, SvSet, SvStmt, VarId};
+use scc_svtree::{SvBlock, SvExpr, SvExprNode, SvLeft, SvModule, SvReset, SvSet, SvStmt, VarId};
 use std::alloc::Global;
 
 /// The arrays of a module without wrong sizes, names and drivers that can be memories, in the order in which their first elements are
@@ -96,31 +96,7 @@ fn registers(uses: &mut Uses<'_>) -> Result<(), NoMemory> {
     for _v in uses.m.vars.as_slice() {
         push(&mut places, None)?;
     }
-    for (block, b) in uses.m.blocks.as_slice().iter().enumerate() {
-        if let SvBlock::Edge {
-            clock,
-            reset,
-            sets,
-            ..
-        } = b
-        {
-            uses.mention(*clock);
-            for set in sets.as_slice() {
-                let own = is_own(uses.arrays, set);
-                if let Some(place) = places.get_mut(set.target.0 as usize) {
-                    *place = Some(Place { block, own });
-                }
-            }
-            if let Some(reset) = reset {
-                uses.mention(reset.signal);
-                for load in reset.values.as_slice() {
-                    if uses.arrays.element(load.target).is_some() {
-                        uses.mention(load.target);
-                    }
-                }
-            }
-        }
-    }
+    note_edges(uses, &mut places);
     let arrays = uses.arrays;
     let mut number = 0u32;
     for array in arrays.list.iter() {
@@ -130,6 +106,44 @@ fn registers(uses: &mut Uses<'_>) -> Result<(), NoMemory> {
         number = number.saturating_add(1);
     }
     Ok(())
+}
+
+// Notes where variables are set, and what edges name beside what they set.
+fn note_edges(uses: &mut Uses<'_>, places: &mut Vec<Option<Place>>) {
+    let m = uses.m;
+    for (block, b) in m.blocks.as_slice().iter().enumerate() {
+        if let SvBlock::Edge {
+            clock,
+            reset,
+            sets,
+            ..
+        } = b
+        {
+            uses.mention(*clock);
+            note_sets(uses.arrays, block, sets.as_slice(), places);
+            if let Some(reset) = reset {
+                mention_reset(uses, reset);
+            }
+        }
+    }
+}
+
+fn note_sets(arrays: &Arrays, block: usize, sets: &[SvSet], places: &mut Vec<Option<Place>>) {
+    for set in sets {
+        let own = is_own(arrays, set);
+        if let Some(place) = places.get_mut(set.target.0 as usize) {
+            *place = Some(Place { block, own });
+        }
+    }
+}
+
+fn mention_reset(uses: &mut Uses<'_>, reset: &SvReset) {
+    uses.mention(reset.signal);
+    for load in reset.values.as_slice() {
+        if uses.arrays.element(load.target).is_some() {
+            uses.mention(load.target);
+        }
+    }
 }
 
 // Whether the elements are set in one block, each to its next value, and no next value is set.
