@@ -6,18 +6,21 @@ ghost use Rattle.scc_terminals.specs.Nodes as nodes;
 ghost use Rattle.scc_terminals.specs.Operators as o;
 ghost use Rattle.scc_syntax.specs.ParseExpressions as e;
 ghost use Rattle.scc_syntax.specs.ParseStatements.{inner};
-ghost use Rattle.scc_terminals.specs.Text.{next_says};
-ghost use Rattle.scc_reading.specs.Reading.{pure, repeat};
+ghost use Rattle.scc_terminals.specs.Marks as m;
+ghost use Rattle.scc_terminals.specs.Text.{mark, next_says};
+ghost use Rattle.scc_reading.specs.Reading.{and_then, pure, repeat};
+ghost use Rattle.scc_tree.specs.Node.{expr_of};
+ghost use Rattle.scc_tree.specs.declared.expr.ExprNode.TheVariants as variant;
 
 use crate::first::{
     begins_operated, begins_operator, begins_type, goes_on, operator_at, unary_operator_at,
 };
 use crate::opening::{open_bracketed, open_expr, open_unary};
 use crate::postfix::{after_open, cargs, postfix_after};
-use crate::primary::{after_base, primary};
+use crate::primary::{after_base, primary, up_to_bracket};
 use crate::types::{base_at, is_constant, type_at};
 use scc_base::{List, Place};
-use scc_terminals::marks::{colon, paren_close, paren_open, question};
+use scc_terminals::marks::{colon, paren_open, question};
 use scc_terminals::next::{begins_new_word, begins_paren_open, begins_question};
 use scc_terminals::nodes::chain_of;
 use scc_terminals::part::{Bracketed, Placed, TypeRead};
@@ -110,7 +113,15 @@ pub fn choice_after<'a>(c: Reader, p: Place, test: Expr, ts: &'a [Seen]) -> Read
     }
     let (_, rest) = question(ts)?;
     let (yes, rest) = open_expr(c, rest)?;
-    let (_, rest) = colon(rest)?;
+    choice_last(c, p, test, yes, rest)
+}
+
+// The last part of a `?:`.
+#[cycle(expression)]
+pub fn choice_last<'a>(c: Reader, p: Place, test: Expr, yes: Expr, ts: &'a [Seen]) -> Read<'a, Expr>
+    ensures { Gives (λ x. (x.0, x.1.now)) result (and_then (mark m.colon ts.now) (λ _ us. and_then ((inner c.entry.names.now c.entry.levels).expr us) (λ no. pure (expr_of p (variant.Cond test yes no))))) }
+{
+    let (_, rest) = colon(ts)?;
     let (no, rest) = open_expr(c, rest)?;
     let node = ExprNode::Cond { test, yes, no };
     Ok((Expr::new(c.alloc, p, node)?, rest))
@@ -195,9 +206,7 @@ pub fn new_at<'a>(c: Reader, ts: &'a [Seen]) -> Read<'a, Expr>
     let (of, rest) = base_at(c, false, rest)?;
     let (_, rest) = paren_open(rest)?;
     let (args, rest) = cargs(c, rest)?;
-    let (_, rest) = paren_close(rest)?;
-    let node = ExprNode::Make { ty: of.ty, args };
-    Ok((Expr::new(c.alloc, p, node)?, rest))
+    up_to_bracket(c.alloc, p, ExprNode::Make { ty: of.ty, args }, rest)
 }
 
 /// An expression, or a `new` in its place.

@@ -6,11 +6,13 @@ ghost use Rattle.scc_terminals.specs.Nodes as nodes;
 ghost use Rattle.scc_terminals.specs.Operators as o;
 ghost use Rattle.scc_syntax.specs.ParseExpressions as e;
 ghost use Rattle.scc_syntax.specs.ParseStatements.{inner};
-ghost use Rattle.scc_terminals.specs.Text.{next_says};
-ghost use Rattle.scc_reading.specs.Reading.{pure, repeat};
+ghost use Rattle.scc_terminals.specs.Text.{name_at, next_says};
+ghost use Rattle.scc_reading.specs.Reading.{and_then, pure, repeat};
+ghost use Rattle.scc_tree.specs.declared.expr.PartNode.TheVariants as step;
 
 use crate::first::{begins_part, name_at};
 use crate::opening::{open_argument, open_expr, open_unary};
+use crate::primary::up_to_bracket;
 use scc_base::{List, Place};
 use scc_terminals::halt::{Halt, place_of};
 use scc_terminals::marks::{bracket_close, comma, paren_close};
@@ -93,6 +95,22 @@ pub fn cargs<'a>(c: Reader, ts: &'a [Seen]) -> Read<'a, List<Expr>>
     more_cargs(c, found, rest)
 }
 
+fn member(ts: &[Seen]) -> Read<'_, (Part, bool)>
+    ensures { Gives (λ x. (x.0, x.1.now)) result (and_then (name_at ts.now) (λ x. pure (nodes.part_of x.1 (step.Member x.0), false))) }
+{
+    let ((x, place), rest) = name_at(ts)?;
+    let node = PartNode::Member(x);
+    Ok(((Part { place, node }, false), rest))
+}
+
+fn arrow(ts: &[Seen]) -> Read<'_, (Part, bool)>
+    ensures { Gives (λ x. (x.0, x.1.now)) result (and_then (name_at ts.now) (λ x. pure (nodes.part_of x.1 (step.Arrow x.0), false))) }
+{
+    let ((x, place), rest) = name_at(ts)?;
+    let node = PartNode::Arrow(x);
+    Ok(((Part { place, node }, false), rest))
+}
+
 // One step behind an expression, and whether it is a call.
 #[tactic(auto, unfolding(scc_syntax::specs::ParseExpressions::part_by))]
 #[cycle(expression)]
@@ -116,16 +134,8 @@ pub fn part<'a>(c: Reader, ts: &'a [Seen]) -> Read<'a, (Part, bool)>
             let node = PartNode::Call(args);
             Ok(((Part { place, node }, true), rest))
         }
-        Terminal::Dot => {
-            let ((x, place), rest) = name_at(rest)?;
-            let node = PartNode::Member(x);
-            Ok(((Part { place, node }, false), rest))
-        }
-        Terminal::Arrow => {
-            let ((x, place), rest) = name_at(rest)?;
-            let node = PartNode::Arrow(x);
-            Ok(((Part { place, node }, false), rest))
-        }
+        Terminal::Dot => member(rest),
+        Terminal::Arrow => arrow(rest),
         _ => Err(Halt::Unexpected(place_of(ts))),
     }
 }
@@ -170,8 +180,7 @@ pub fn after_brackets<'a>(c: Reader, p: Place, first: Expr, ts: &'a [Seen]) -> R
     let mut all = one(c.alloc, first)?;
     all.push(second)?;
     let (all, rest) = more_exprs(c, all, rest)?;
-    let (_, rest) = paren_close(rest)?;
-    Ok((Expr::new(c.alloc, p, ExprNode::Concat(all))?, rest))
+    up_to_bracket(c.alloc, p, ExprNode::Concat(all), rest)
 }
 
 #[tactic(auto, unfolding(scc_syntax::specs::ParseExpressions::after_open))]

@@ -6,8 +6,11 @@ ghost use Rattle.scc_terminals.specs.Nodes as nodes;
 ghost use Rattle.scc_terminals.specs.Operators as o;
 ghost use Rattle.scc_syntax.specs.ParseExpressions as e;
 ghost use Rattle.scc_syntax.specs.ParseStatements.{inner};
-ghost use Rattle.scc_terminals.specs.Text.{next_says};
-ghost use Rattle.scc_reading.specs.Reading.{pure, repeat};
+ghost use Rattle.scc_terminals.specs.Marks as m;
+ghost use Rattle.scc_terminals.specs.Text.{mark, name_at, next_says};
+ghost use Rattle.scc_reading.specs.Reading.{and_then, pure, repeat};
+ghost use Rattle.scc_tree.specs.Node.{expr_of};
+ghost use Rattle.scc_tree.specs.declared.expr.ExprNode.TheVariants as variant;
 
 use crate::first::{begins_base, close_unless, name_at};
 use crate::opening::{open_expr, open_type};
@@ -24,6 +27,72 @@ use scc_terminals::terminal::{Seen, Terminal};
 use scc_tree::{Expr, ExprNode, Ty, TyNode};
 use std::alloc::Global;
 
+// The node of an expression whose end isn't read yet. Its drop is one call at each exit.
+struct Pending {
+    node: ExprNode,
+}
+
+impl Drop for Pending {
+    fn drop(self) {
+        let Pending { node: _node } = self;
+    }
+}
+
+impl Pending {
+    fn new(node: ExprNode) -> Pending
+        ensures { result.node ≡ node }
+    {
+        Pending { node }
+    }
+
+    fn into_node(self) -> ExprNode
+        ensures { result ≡ self.node }
+    {
+        let Pending { node } = self;
+        node
+    }
+}
+
+/// An expression of this node, up to its bracket.
+pub fn up_to_bracket<'a>(
+    alloc: Global,
+    place: Place,
+    node: ExprNode,
+    ts: &'a [Seen],
+) -> Read<'a, Expr>
+    ensures { Gives (λ x. (x.0, x.1.now)) result (and_then (mark m.paren_close ts.now) (λ _. pure (expr_of place node))) }
+{
+    let pending = Pending::new(node);
+    let (_, rest) = paren_close(ts)?;
+    Ok((Expr::new(alloc, place, pending.into_node())?, rest))
+}
+
+// A concatenation of two, up to its bracket.
+fn pair_up_to_bracket<'a>(
+    alloc: Global,
+    place: Place,
+    first: Expr,
+    second: Expr,
+    ts: &'a [Seen],
+) -> Read<'a, Expr>
+    ensures { Gives (λ x. (x.0, x.1.now)) result (and_then (mark m.paren_close ts.now) (λ _. pure (expr_of place (variant.Concat (first ∷ second ∷ []))))) }
+{
+    let (_, rest) = paren_close(ts)?;
+    let mut both = one(alloc, first)?;
+    both.push(second)?;
+    Ok((Expr::new(alloc, place, ExprNode::Concat(both))?, rest))
+}
+
+// `::` and a name behind a type.
+fn scoped<'a>(alloc: Global, of: TypeRead, ts: &'a [Seen]) -> Read<'a, Expr>
+    ensures { Gives (λ x. (x.0, x.1.now)) result (and_then (mark m.scope ts.now) (λ _ us. and_then (name_at us) (λ y. pure (expr_of of.place (variant.Scoped of.ty y.0))))) }
+{
+    let (_, rest) = scope(ts)?;
+    let ((member, _), rest) = name_at(rest)?;
+    let node = ExprNode::Scoped { ty: of.ty, member };
+    Ok((Expr::new(alloc, of.place, node)?, rest))
+}
+
 // `(of)` behind a type.
 #[tactic(auto, unfolding(scc_syntax::specs::ParseExpressions::make))]
 #[cycle(expression)]
@@ -32,8 +101,7 @@ pub fn make<'a>(c: Reader, p: Place, to: Ty, ts: &'a [Seen]) -> Read<'a, Expr>
 {
     let (_, rest) = paren_open(ts)?;
     let (of, rest) = open_expr(c, rest)?;
-    let (_, rest) = paren_close(rest)?;
-    Ok((Expr::new(c.alloc, p, ExprNode::Cast { ty: to, of })?, rest))
+    up_to_bracket(c.alloc, p, ExprNode::Cast { ty: to, of }, rest)
 }
 
 /// Behind a type, the rest of a primary that begins with it.
@@ -48,10 +116,7 @@ pub fn after_base<'a>(c: Reader, of: TypeRead, ts: &'a [Seen]) -> Read<'a, Expr>
     if !is_named(of.sort) {
         return Err(Halt::Unexpected(place_of(ts)));
     }
-    let (_, rest) = scope(ts)?;
-    let ((member, _), rest) = name_at(rest)?;
-    let node = ExprNode::Scoped { ty: of.ty, member };
-    Ok((Expr::new(c.alloc, of.place, node)?, rest))
+    scoped(c.alloc, of, ts)
 }
 
 #[tactic(auto, unfolding(scc_syntax::specs::ParseExpressions::primary_by))]
@@ -94,10 +159,7 @@ pub fn concat_rest<'a>(c: Reader, p: Place, ts: &'a [Seen]) -> Read<'a, Expr>
     let (first, rest) = open_expr(c, rest)?;
     let (_, rest) = comma(rest)?;
     let (second, rest) = open_expr(c, rest)?;
-    let (_, rest) = paren_close(rest)?;
-    let mut both = one(c.alloc, first)?;
-    both.push(second)?;
-    Ok((Expr::new(c.alloc, p, ExprNode::Concat(both))?, rest))
+    pair_up_to_bracket(c.alloc, p, first, second, rest)
 }
 
 pub fn truth_of(alloc: Global, place: Place, b: bool) -> Result<Expr, NoMemory>

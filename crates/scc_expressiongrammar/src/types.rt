@@ -8,7 +8,7 @@ ghost use Rattle.scc_terminals.specs.Operators as o;
 ghost use Rattle.scc_syntax.specs.ParseExpressions as e;
 ghost use Rattle.scc_syntax.specs.ParseStatements.{inner};
 ghost use Rattle.scc_terminals.specs.Text.{next_says};
-ghost use Rattle.scc_reading.specs.Reading.{pure, is_next};
+ghost use Rattle.scc_reading.specs.Reading.{and_then, pure, is_next};
 
 use crate::chain::{additive, chain_after, postfix_of};
 use crate::first::{begins_close, begins_type, close, close_unless, goes_on};
@@ -238,18 +238,9 @@ pub fn base_at<'a>(c: Reader, inside: bool, ts: &'a [Seen]) -> Read<'a, TypeRead
         Terminal::Bool => number_type(c.alloc, p, Kind::Bool, rest),
         Terminal::Int => number_type(c.alloc, p, native(32, true), rest),
         Terminal::Long(signed) => number_type(c.alloc, p, native(64, signed), rest),
-        Terminal::Short => {
-            let (_, rest) = int_word(rest)?;
-            number_type(c.alloc, p, native(16, true), rest)
-        }
-        Terminal::Signed => {
-            let (kind, rest) = integer(true, rest)?;
-            number_type(c.alloc, p, kind, rest)
-        }
-        Terminal::Unsigned => {
-            let (kind, rest) = integer(false, rest)?;
-            number_type(c.alloc, p, kind, rest)
-        }
+        Terminal::Short => short_type(c.alloc, p, rest),
+        Terminal::Signed => integer_type(c.alloc, p, true, rest),
+        Terminal::Unsigned => integer_type(c.alloc, p, false, rest),
         Terminal::Sized(family) => sized_rest(c, inside, family, p, rest),
         Terminal::Holder(holder) => holder_rest(c, inside, holder, p, rest),
         Terminal::ClockInput => Ok((clock_type(c.alloc, p)?, rest)),
@@ -264,6 +255,22 @@ pub fn number_type(alloc: Global, place: Place, kind: Kind, ts: &[Seen]) -> Read
     ensures { Gives (λ x. (x.0, x.1.now)) result (pure (e.number_type place kind) ts.now) }
 {
     Ok((word_type(alloc, place, TyNode::Number(kind), false)?, ts))
+}
+
+// The rest of a `short`.
+fn short_type(alloc: Global, place: Place, ts: &[Seen]) -> Read<'_, TypeRead>
+    ensures { Gives (λ x. (x.0, x.1.now)) result (and_then (e.int_word ts.now) (λ _. pure (e.number_type place (nodes.native 16 true)))) }
+{
+    let (_, rest) = int_word(ts)?;
+    number_type(alloc, place, native(16, true), rest)
+}
+
+// The rest of a `signed` or `unsigned`.
+fn integer_type(alloc: Global, place: Place, signed: bool, ts: &[Seen]) -> Read<'_, TypeRead>
+    ensures { Gives (λ x. (x.0, x.1.now)) result (and_then (e.integer signed ts.now) (λ k. pure (e.number_type place k))) }
+{
+    let (kind, rest) = integer(signed, ts)?;
+    number_type(alloc, place, kind, rest)
 }
 
 pub fn constant_type(place: Place, of: TypeRead) -> TypeRead

@@ -116,7 +116,10 @@ abbrev pub decreases-chain::operand : goal.decreases-chain::operand
 decreases-chain::operand l = 64 * l.c.levels + 10
 
 abbrev pub decreases-chain::choice_after : goal.decreases-chain::choice_after
-decreases-chain::choice_after l = 64 * l.c.levels + 1
+decreases-chain::choice_after l = 64 * l.c.levels + 2
+
+abbrev pub decreases-chain::choice_last : goal.decreases-chain::choice_last
+decreases-chain::choice_last l = 64 * l.c.levels + 1
 
 abbrev pub decreases-chain::expr_after : goal.decreases-chain::expr_after
 decreases-chain::expr_after l = 64 * l.c.levels + 41
