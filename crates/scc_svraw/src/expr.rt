@@ -1,6 +1,6 @@
 //! Reads expressions. What an arm does beside its recursion stands in functions of their own, which are `#[inline(never)]` for the
 //! sake of small frames, as the arms are themselves.
-ghost use Rattle.std.specs.Prelude.{◌≡◌, IfOk};
+ghost use Rattle.std.specs.Prelude.{◌≡◌, IfOk, codes, true};
 ghost use Rattle.scc_reading.specs.Reading.{◌>>=◌ as followed_by, pure};
 ghost use Rattle.scc_svgrammar.specs.Answer.{Gives};
 ghost use Rattle.scc_svgrammar.specs.Leaves as leaves;
@@ -38,15 +38,22 @@ fn open_number(alloc: Global, levels: u32, ts: &[u8]) -> Result<(RawExpr, &[u8])
     Err(Halt::Unexpected(ts.len()))
 }
 
+// The end of `$signed` of a literal.
+fn signed_last(alloc: Global, l: RawExpr, ts: &[u8]) -> Result<(RawExpr, &[u8]), Halt>
+    ensures { Gives (λ x. (x.0, x.1.now)) result (followed_by (leaves.text (codes ")")) (λ _. pure (node.Sign true l)) ts.now) }
+{
+    let (_, rest) = text(b")", ts)?;
+    let of = Boxed::new(alloc, l)?;
+    Ok((RawExpr::Sign { signed: true, of }, rest))
+}
+
 #[tactic(auto, unfolding(scc_svgrammar::specs::Reader::signed_number))]
 fn signed_number(alloc: Global, levels: u32, ts: &[u8]) -> Result<(RawExpr, &[u8]), Halt>
     ensures { Gives (λ x. (x.0, x.1.now)) result (reader.signed_number (reader.inner levels) ts.now) }
 {
     let (_, rest) = text(b"$signed(", ts)?;
     let (l, rest) = open_number(alloc, levels, rest)?;
-    let (_, rest) = text(b")", rest)?;
-    let of = Boxed::new(alloc, l)?;
-    Ok((RawExpr::Sign { signed: true, of }, rest))
+    signed_last(alloc, l, rest)
 }
 
 #[tactic(auto, unfolding(scc_svgrammar::specs::Reader::divisor_at))]
@@ -188,12 +195,13 @@ fn closed_expr(alloc: Global, levels: u32, ts: &[u8]) -> Result<(Node<RawExpr>, 
     Ok((of, rest))
 }
 
-// The literal of a width, from behind the `'h`.
+// The literal of a width, from behind the `'`.
 #[inline(never)]
 fn hex_behind(alloc: Global, width: Text, ts: &[u8]) -> Result<(Node<RawExpr>, &[u8]), Halt>
-    ensures { Gives (λ x. (x.0, x.1.now)) result (followed_by (leaves.digits_behind width) (λ l. pure (node.Literal l)) ts.now) }
+    ensures { Gives (λ x. (x.0, x.1.now)) result (followed_by (leaves.text (codes "h")) (λ _. followed_by (leaves.digits_behind width) (λ l. pure (node.Literal l))) ts.now) }
 {
-    let (l, rest) = digits_behind(alloc, width, ts)?;
+    let (_, rest) = text(b"h", ts)?;
+    let (l, rest) = digits_behind(alloc, width, rest)?;
     Ok((literal_node(alloc, l)?, rest))
 }
 
@@ -210,7 +218,6 @@ fn behind_width(
 {
     let (_, rest) = text(b"'", ts)?;
     if bytes::is_next(104, rest) {
-        let (_, rest) = text(b"h", rest)?;
         return hex_behind(alloc, width, rest);
     }
     let (_, rest) = text(b"(", rest)?;
@@ -243,6 +250,19 @@ fn sign(alloc: Global, levels: u32, ts: &[u8]) -> Result<(Node<RawExpr>, &[u8]),
     let (_, rest) = text(b"unsigned(", rest)?;
     let (of, rest) = closed_expr(alloc, levels, rest)?;
     Ok((sign_node(alloc, false, of)?, rest))
+}
+
+// The end of a concatenation.
+#[inline(never)]
+fn concat_last(
+    alloc: Global,
+    all: Nodes<RawExpr>,
+    ts: &[u8],
+) -> Result<(Node<RawExpr>, &[u8]), Halt>
+    ensures { Gives (λ x. (x.0, x.1.now)) result (followed_by (leaves.text (codes "}")) (λ _. pure (node.Concat all)) ts.now) }
+{
+    let (_, rest) = text(b"}", ts)?;
+    Ok((concat_node(alloc, all)?, rest))
 }
 
 // A further part of a concatenation.
@@ -300,8 +320,7 @@ fn concat(alloc: Global, levels: u32, ts: &[u8]) -> Result<(Node<RawExpr>, &[u8]
     let (_, rest) = text(b"{", ts)?;
     let (first, rest) = open_node(alloc, levels, rest)?;
     let (all, rest) = parts_behind(alloc, levels, Nodes::alone(alloc, first)?, rest)?;
-    let (_, rest) = text(b"}", rest)?;
-    Ok((concat_node(alloc, all)?, rest))
+    concat_last(alloc, all, rest)
 }
 
 // The last part of a `?:`.

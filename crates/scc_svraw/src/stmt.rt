@@ -1,6 +1,6 @@
 //! Reads statements. What an arm does beside its recursion stands in functions of their own, which are `#[inline(never)]` for the
 //! sake of small frames, as the arms are themselves.
-ghost use Rattle.std.specs.Prelude.{◌≡◌, ◌+◌, ◌*◌, ◌<◌, ◌^◌, IfOk};
+ghost use Rattle.std.specs.Prelude.{◌≡◌, ◌+◌, ◌*◌, ◌<◌, ◌^◌, IfOk, codes};
 ghost use Rattle.scc_reading.specs.Reading.{◌>>=◌ as followed_by, pure};
 ghost use Rattle.scc_svgrammar.specs.Answer.{Gives};
 ghost use Rattle.scc_svgrammar.specs.Grammar as grammar;
@@ -84,6 +84,20 @@ fn arm_node(
     Node::new(alloc, RawArm { label, body })
 }
 
+// The end of an assignment, from behind its value.
+#[inline(never)]
+fn value_last(
+    alloc: Global,
+    left: RawLeft,
+    value: Node<RawExpr>,
+    ts: &[u8],
+) -> Result<(Node<RawStmt>, &[u8]), Halt>
+    ensures { Gives (λ x. (x.0, x.1.now)) result (followed_by (leaves.text (codes ";\n")) (λ _. pure (node.Assign left value)) ts.now) }
+{
+    let (_, rest) = text(b";\n", ts)?;
+    Ok((assign_node(alloc, left, value)?, rest))
+}
+
 // The end of an assignment.
 #[inline(never)]
 #[tactic(auto, unfolding(scc_svgrammar::specs::Reader::value_behind))]
@@ -97,8 +111,7 @@ fn value_behind(
 {
     let (_, rest) = text(b" = ", ts)?;
     let (value, rest) = open_node(alloc, levels, rest)?;
-    let (_, rest) = text(b";\n", rest)?;
-    Ok((assign_node(alloc, left, value)?, rest))
+    value_last(alloc, left, value, rest)
 }
 
 // An assignment from behind its first word.
@@ -287,6 +300,16 @@ fn branches(
     Ok((if_node(alloc, test, yes, no)?, rest))
 }
 
+// The end of an arm.
+#[inline(never)]
+fn arm_last(outer: u32, body: Nodes<RawStmt>, ts: &[u8]) -> Result<(Nodes<RawStmt>, &[u8]), Halt>
+    ensures { Gives (λ x. (x.0, x.1.now)) result (followed_by (leaves.text (codes "end\n")) (λ _. followed_by (leaves.text (pieces.blanks outer)) (λ _. pure body)) ts.now) }
+{
+    let (_, rest) = text(b"end\n", ts)?;
+    let (_, rest) = blanks(outer, rest)?;
+    Ok((body, rest))
+}
+
 // The body of an arm, from behind its label.
 #[tactic(auto, unfolding(scc_svgrammar::specs::Reader::arm_body))]
 #[cycle(reading_stmt)]
@@ -302,9 +325,7 @@ fn arm_body(
     let (_, rest) = text(b": begin\n", ts)?;
     let (_, rest) = blanks(outer + 2, rest)?;
     let (body, rest) = body(alloc, levels, outer + 2, rest)?;
-    let (_, rest) = text(b"end\n", rest)?;
-    let (_, rest) = blanks(outer, rest)?;
-    Ok((body, rest))
+    arm_last(outer, body, rest)
 }
 
 #[cycle(reading_stmt)]
@@ -339,6 +360,20 @@ fn arms(alloc: Global, levels: u32, outer: u32, ts: &[u8]) -> Result<(Nodes<RawA
     Ok((found, rest))
 }
 
+// The end of a `case`.
+#[inline(never)]
+fn case_last(
+    alloc: Global,
+    of: Node<RawExpr>,
+    arms: Nodes<RawArm>,
+    ts: &[u8],
+) -> Result<(Node<RawStmt>, &[u8]), Halt>
+    ensures { Gives (λ x. (x.0, x.1.now)) result (followed_by (leaves.text (codes "endcase\n")) (λ _. pure (node.Case of arms)) ts.now) }
+{
+    let (_, rest) = text(b"endcase\n", ts)?;
+    Ok((case_node(alloc, of, arms)?, rest))
+}
+
 #[inline(never)]
 #[tactic(auto, unfolding(scc_svgrammar::specs::Reader::case_behind))]
 #[cycle(reading_stmt)]
@@ -355,8 +390,7 @@ fn case_behind(
     let (_, rest) = text(b")\n", ts)?;
     let (_, rest) = blanks(outer, rest)?;
     let (arms, rest) = arms(alloc, levels, outer, rest)?;
-    let (_, rest) = text(b"endcase\n", rest)?;
-    Ok((case_node(alloc, of, arms)?, rest))
+    case_last(alloc, of, arms, rest)
 }
 
 // A statement from behind its first word.
