@@ -13,8 +13,8 @@ use Rattle.scc_thinmodule.specs.Identifiers.{AreIdentifiers}
 use Rattle.scc_thinmodule.proofs.Matching.{matches}
 use Rattle.scc_thinmodule.proofs.Shown.{thin_shown, thin_faultless}
 use Rattle.scc_drive.specs.declared.joining.Read.{Read}
-use Rattle.scc_drive.specs.declared.stopped.Stopped.{Stopped}
-use Rattle.scc_drive.specs.declared.stopped.Stopped.TheVariants as stopped
+use Rattle.scc_stopped.specs.declared.stopped.Stopped.{Stopped}
+use Rattle.scc_stopped.specs.declared.stopped.Stopped.TheVariants as stopped
 use Rattle.scc_drive.specs.CommandOutcome.{reads, outcome_of_design}
 use Rattle.scc_drive.specs.Outcome.{compiling, forming, listing, compiles}
 use Rattle.scc_drive.specs.Stages.{Gives, ReadOutcome}

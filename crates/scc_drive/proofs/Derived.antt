@@ -12,7 +12,7 @@ use Rattle.scc_joined.proofs.Deriving.{joins_whole}
 use Rattle.scc_joined.proofs.Faulting.{stops_first}
 use Rattle.scc_drive.specs.CommandOutcome.{JoinedOutcome, RootsOutcome, joined, refused, missing}
 use Rattle.scc_drive.specs.Outcome.{Task, Outcome, refusal, absent}
-use Rattle.scc_drive.specs.Spots.{spot_of}
+use Rattle.scc_stopped.specs.Spots.{spot_of}
 
 -- the outcome of what joining found
 abbrev pub FoundOutcome : Task → List ℕ → List (List ℕ) → List Source → Result Joined join.Stopped → Outcome → Type 0

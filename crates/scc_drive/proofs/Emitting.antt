@@ -17,15 +17,16 @@ use Rattle.scc_svtrace.specs.Traced.{IsTrace, IsUntraced}
 use Rattle.scc_directives.specs.declared.file.Source.{Source}
 use Rattle.scc_tokens.specs.Files.{first_part}
 use Rattle.scc_trace.specs.Stimulus.{stim_of}
-use Rattle.scc_drive.specs.declared.spots.Spot.{Spot}
-use Rattle.scc_drive.specs.declared.stopped.Stopped.{Stopped}
-use Rattle.scc_drive.specs.declared.stopped.Stopped.TheVariants as stopped
+use Rattle.scc_stopped.specs.declared.spots.Spot.{Spot}
+use Rattle.scc_stopped.specs.declared.stopped.Stopped.{Stopped}
+use Rattle.scc_stopped.specs.declared.stopped.Stopped.TheVariants as stopped
 use Rattle.scc_drive.specs.Answer.{AnswersBy, without}
 use Rattle.scc_drive.specs.CommandOutcome.{TextOutcome, unread, misnamed, meets, outcome_on, outcome_of_stimulus, outcome_of_steps, LongTextOutcome, TextFileOutcome, TextsOutcome}
 use Rattle.scc_drive.specs.Outcome.{Outcome, refusal, absent, runs, wider, tracing, RefusesBy}
-use Rattle.scc_drive.specs.Spots.{spot_in, first_spot}
+use Rattle.scc_stopped.specs.Spots.{spot_in, first_spot}
 use Rattle.scc_drive.specs.Stages.{Gives, Asking, Asked, IsHeld, IsNoModule}
-use Rattle.scc_drive.specs.Stops.{StopsAt, StoppedIn, IsOfText}
+use Rattle.scc_drive.specs.Stops.{IsOfText}
+use Rattle.scc_stopped.specs.Stops.{StopsAt, StoppedIn}
 use Rattle.scc_drive.proofs.Wider.{answers_since}
 use Rattle.scc_drive.proofs.Without.{without_none, still_held}
 

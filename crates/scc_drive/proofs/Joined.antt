@@ -16,15 +16,16 @@ use Rattle.scc_directives.specs.Steps as join
 use Rattle.scc_syntax.specs.Claim.{IsReadFile}
 use Rattle.scc_thinmodule.proofs.Known.{joined_names}
 use Rattle.scc_drive.specs.declared.joining.Read.{Read}
-use Rattle.scc_drive.specs.declared.stopped.Stopped.{Stopped}
-use Rattle.scc_drive.specs.declared.stopped.Stopped.TheVariants as stopped
+use Rattle.scc_stopped.specs.declared.stopped.Stopped.{Stopped}
+use Rattle.scc_stopped.specs.declared.stopped.Stopped.TheVariants as stopped
 use Rattle.scc_drive.specs.Answer.{AnswersBy, without}
 use Rattle.scc_drive.specs.CommandOutcome.{faulty, RootsOutcome}
 use Rattle.scc_drive.proofs.Derived.{FoundOutcome, by_parts}
 use Rattle.scc_drive.specs.Outcome.{Task, Outcome, refusal, absent}
-use Rattle.scc_drive.specs.Spots.{spot_of}
+use Rattle.scc_stopped.specs.Spots.{spot_of}
 use Rattle.scc_drive.specs.Stages.{Gives, Asking, IsJoined, IsUnjoined, ReadOutcome}
-use Rattle.scc_drive.specs.Stops.{Stops, StoppedBy, IsFaulty}
+use Rattle.scc_drive.specs.Stops.{IsFaulty}
+use Rattle.scc_stopped.specs.Stops.{Stops, StoppedBy}
 use Rattle.scc_drive.specs.Words.{roots_of}
 use Rattle.scc_drive.proofs.Without.{without_none, all_still}
 

@@ -1,4 +1,3 @@
-pub mod Moving
 pub mod Saying
 pub mod OneVerdict
 pub mod Asking

@@ -25,7 +25,7 @@ use Rattle.scc_words.specs.declared.command.Command.{Command}
 use Rattle.scc_words.specs.declared.command.Command.TheVariants as command
 use Rattle.scc_drive.specs.CommandOutcome.{CommandOutcome, WordsOutcome, CommandOutcomeBy, GeneratedOutcome, RootsOutcome, JoinedOutcome, reads, faulty, outcome_of_file, outcome_of_design, task_of, has_clocks, is_plain, TextOutcome, unread, misnamed, meets, TextOutcomeBy, LongTextOutcome, TextFileOutcome, outcome_on, outcome_of_stimulus, outcome_of_steps}
 use Rattle.scc_drive.specs.Outcome.{Task, compiling, forming, listing, simulating, tracing, Outcome, bad, refusal, absent, compiles, runs, writes, generated, wider, kind_of, kind_of_task}
-use Rattle.scc_drive.specs.Spots.{spot_of}
+use Rattle.scc_stopped.specs.Spots.{spot_of}
 use Rattle.scc_drive.specs.Laws.{AreAlike, AreOne, is_refusal}
 use Rattle.scc_drive.specs.Words.{command_by, are_words, word_at, roots_of}
 use Rattle.scc_drive.proofs.OneVerdict.{not_both, one_fault}

@@ -5,9 +5,9 @@ use Rattle.std.specs.Io.KnownBytes.{Appends}
 use Rattle.scc_base.specs.Outside.{AppendsPart, Shelf, Rose}
 use Rattle.scc_base.specs.declared.code.Code.{Code}
 use Rattle.scc_directives.specs.declared.file.Source.{Source}
-use Rattle.scc_drive.specs.declared.spots.Spot.{Spot}
-use Rattle.scc_drive.specs.declared.stopped.Stopped.{Stopped}
-use Rattle.scc_drive.specs.declared.stopped.Stopped.TheVariants.{BadWords, Refused, Missing, Failed, NoMemory}
+use Rattle.scc_stopped.specs.declared.spots.Spot.{Spot}
+use Rattle.scc_stopped.specs.declared.stopped.Stopped.{Stopped}
+use Rattle.scc_stopped.specs.declared.stopped.Stopped.TheVariants.{BadWords, Refused, Missing, Failed, NoMemory}
 use Rattle.scc_drive.specs.Answer.{Answers, AnswersBy, ComesFor, Tells, IsDone, IsRefused, IsMissing, HasFailed, IsCutShort, Ends, stopped_text}
 use Rattle.scc_drive.specs.CommandOutcome.{CommandOutcome, JoinedOutcome, WordsOutcome, joined, outcome_of_design, reads}
 use Rattle.scc_drive.specs.Outcome.{Outcome, bad, refusal, absent, compiles, runs, writes, generated, wider, Task, compiling, forming, listing, simulating, tracing, Kind, kind_of, EndsAs, WritesBy, RefusesBy, MissesBy}

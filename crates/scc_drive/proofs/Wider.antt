@@ -5,11 +5,11 @@ use Rattle.scc_base.specs.declared.no_memory.NoMemory.{NoMemory}
 use Rattle.scc_base.specs.Outside.{Shelf, Told, Rose}
 use Rattle.scc_base.specs.declared.code.Code.{Code}
 use Rattle.scc_directives.specs.declared.file.Source.{Source}
-use Rattle.scc_drive.specs.declared.spots.Spot.{Spot}
-use Rattle.scc_drive.specs.declared.stopped.Stopped.{Stopped}
-use Rattle.scc_drive.specs.declared.stopped.Stopped.TheVariants as stopped
+use Rattle.scc_stopped.specs.declared.spots.Spot.{Spot}
+use Rattle.scc_stopped.specs.declared.stopped.Stopped.{Stopped}
+use Rattle.scc_stopped.specs.declared.stopped.Stopped.TheVariants as stopped
 use Rattle.scc_drive.specs.Outcome.{Task, simulating, tracing, Outcome, wider, WritesOf, RefusesOf, MissesOf}
-use Rattle.scc_drive.specs.Spots.{spot_in, first_spot, moved, IsSpotOf}
+use Rattle.scc_stopped.specs.Spots.{spot_in, first_spot, moved, IsSpotOf}
 use Rattle.scc_drive.specs.declared.joining.Read.{Read}
 use Rattle.scc_drive.specs.Answer.{AnswersBy, Asks, Writes, Refuses, Misses}
 use Rattle.scc_drive.specs.CommandOutcome.{RootsOutcome}
@@ -40,11 +40,6 @@ first_of name bytes = (
   (record { name = name; bytes = bytes }, refl, omega arith),
   ap (λ (b : List ℕ). record { file = name; line = (moved 1 1 b).0; column = (moved 1 1 b).1 }) (sym (no_bytes bytes)),
 )
-
--- a place within a file is one of it
-pub spots_within : (s : Source) (at : ℕ) → at ≤ length s.bytes → (r : Result Spot NoMemory) → IfOk r (λ spot. spot ≡ spot_in (Some s) at) → IfOk r (IsSpotOf (s ∷ []))
-spots_within s at within (Ok spot) e = (record { file = 0; at = at }, (s, refl, within), e)
-spots_within s at within (Err x) e = tt
 
 -- a task that asks for the stimulus of this name
 pub record Stimulated (task : Task) (stim top : List ℕ) (sources : List Source) : Type 0 where

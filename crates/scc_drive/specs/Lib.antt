@@ -1,6 +1,4 @@
 pub mod Words
-pub mod Texts
-pub mod Spots
 pub mod Said
 pub mod Stops
 pub mod Outcome

@@ -11,7 +11,7 @@ use Rattle.scc_stages.specs.Emitted.{IsEmitted}
 use Rattle.scc_directives.specs.declared.file.Source.{Source}
 use Rattle.scc_thin.specs.declared.design.Design.{Design}
 use Rattle.scc_thinmodule.specs.Same.{Matches, ShowsTheSame}
-use Rattle.scc_drive.specs.declared.spots.Spot.{Spot}
+use Rattle.scc_stopped.specs.declared.spots.Spot.{Spot}
 use Rattle.scc_drive.specs.Stops.{RefusesLater, RefusesStimulus, RefusesText}
 
 -- what files are for: `compile`, as one module or in another form; `list`; `sim`, with several clocks or one, on the stimulus of that name; `svsim` of a text

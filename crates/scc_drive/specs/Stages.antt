@@ -9,12 +9,12 @@ use Rattle.scc_tokens.specs.Join.{join_of}
 use Rattle.scc_syntax.specs.Claim.{IsReadFile}
 use Rattle.scc_thinmodule.specs.Identifiers.{AreIdentifiers}
 use Rattle.scc_drive.specs.declared.joining.Read.{Read}
-use Rattle.scc_drive.specs.declared.stopped.Stopped.{Stopped}
-use Rattle.scc_drive.specs.declared.stopped.Stopped.TheVariants as stopped
+use Rattle.scc_stopped.specs.declared.stopped.Stopped.{Stopped}
+use Rattle.scc_stopped.specs.declared.stopped.Stopped.TheVariants as stopped
 use Rattle.scc_drive.specs.Answer.{AnswersBy}
 use Rattle.scc_drive.specs.CommandOutcome.{JoinedOutcome, RootsOutcome, TextOutcome}
 use Rattle.scc_drive.specs.Outcome.{Task, Outcome, refusal, WritesBy, RefusesBy, MissesBy}
-use Rattle.scc_drive.specs.Spots.{first_spot}
+use Rattle.scc_stopped.specs.Spots.{first_spot}
 use Rattle.scc_drive.specs.Stops.{RefusesStimulus}
 
 -- Files were joined so, and are a file of the grammar.

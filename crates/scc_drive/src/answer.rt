@@ -8,9 +8,9 @@ ghost use Rattle.scc_words.specs.Within.{Within};
 use crate::compile::compiled;
 use crate::generated::generated;
 use crate::source::{listed, simulated};
-use crate::stopped::Stopped;
 use crate::svsim::svsim;
 use scc_base::{Files, Text};
+use scc_stopped::stopped::Stopped;
 use scc_words::{Command, read_command};
 use std::alloc::Global;
 

@@ -13,12 +13,12 @@ ghost use Rattle.scc_drive.specs.Words.{word_at, roots_of};
 
 use crate::joining::{Read, read_files};
 use crate::later::{front_at, refused_later};
-use crate::stopped::Stopped;
 use crate::thin::printed;
 use crate::words::word;
 use scc_base::{Files, NoMemory, Stop, Text};
 use scc_forms::{TextForm, form_text, has_clocks};
 use scc_stages::compile;
+use scc_stopped::stopped::Stopped;
 use scc_thin::{Halt, read_design};
 use scc_words::Form;
 use std::alloc::Global;

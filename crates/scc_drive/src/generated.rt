@@ -3,9 +3,9 @@ ghost use Rattle.std.specs.Prelude.{◌≡◌, ℕ, List};
 ghost use Rattle.scc_drive.specs.CommandOutcome.{GeneratedOutcome};
 ghost use Rattle.scc_drive.specs.Stages.{Gives};
 
-use crate::stopped::Stopped;
 use scc_base::Text;
 use scc_commands::generated_line;
+use scc_stopped::stopped::Stopped;
 use scc_trace::generate;
 use std::alloc::Global;
 

@@ -3,15 +3,15 @@ ghost use Rattle.std.specs.Prelude.{◌≡◌, ◌≤◌, ◌<◌, ◌+◌, leng
 ghost use Rattle.scc_syntax.specs.Claim.{IsReadFile, IsFault};
 ghost use Rattle.scc_drive.specs.CommandOutcome.{JoinedOutcome};
 ghost use Rattle.scc_drive.specs.Stages.{IsJoined, IsUnjoined};
-ghost use Rattle.scc_drive.specs.Stops.{Stops, StoppedBy, IsFaulty};
+ghost use Rattle.scc_drive.specs.Stops.{IsFaulty};
 ghost use Rattle.scc_drive.specs.Words.{roots_of};
 
-use crate::spots::locate;
-use crate::stopped::Stopped;
 use crate::words::roots;
-use scc_base::{Code, Files, List, Names, NoMemory, Place, Refusal, Stop};
+use scc_base::{Files, List, Names, Refusal, Stop};
 use scc_grammar::parse;
-use scc_tokens::{JoinFault, Joined, Source, join};
+use scc_stopped::fault::{refused, stopped_by};
+use scc_stopped::stopped::Stopped;
+use scc_tokens::{Joined, Source, join};
 use scc_tree::FileTree;
 use std::alloc::Global;
 
@@ -50,19 +50,6 @@ pub fn read_files<F: Files>(
     }
 }
 
-fn stopped_by(alloc: Global, sources: &[Source], fault: JoinFault) -> Stopped
-    ensures { StoppedBy sources.now fault result }
-{
-    match fault {
-        JoinFault::Stop(Stop::Refused(Refusal { code, place, .. })) => {
-            refused(alloc, sources, place, code)
-        }
-        JoinFault::Stop(Stop::NoMemory) => Stopped::NoMemory,
-        JoinFault::Missing(name) => Stopped::Missing(name),
-        JoinFault::Failed(name) => Stopped::Failed(name),
-    }
-}
-
 fn read_joined(
     alloc: Global,
     names: Names,
@@ -86,19 +73,5 @@ fn read_joined(
             code,
         )),
         Err(Stop::NoMemory) => Err(Stopped::NoMemory),
-    }
-}
-
-// A refusal at a place of the files that were read.
-fn refused(alloc: Global, sources: &[Source], place: Place, code: Code) -> Stopped
-    ensures { Stops sources.now place code result }
-{
-    match locate(alloc, sources, place) {
-        Ok(spot) => Stopped::Refused {
-            code,
-            spot,
-            other: None,
-        },
-        Err(NoMemory) => Stopped::NoMemory,
     }
 }

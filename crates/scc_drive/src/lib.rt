@@ -11,10 +11,7 @@ mod later;
 mod laws;
 mod say;
 mod source;
-mod spots;
-mod stopped;
 mod svsim;
-mod texts;
 mod thin;
 mod words;
 

@@ -2,10 +2,10 @@
 ghost use Rattle.std.specs.Prelude.{◌≡◌, ◌<◌, ◌^◌, length, IfOk, IfErr};
 ghost use Rattle.scc_svtext.specs.ModuleText.{module_text};
 ghost use Rattle.scc_thinmodule.specs.Emitted.{module_of};
-ghost use Rattle.scc_drive.specs.declared.stopped.Stopped.TheVariants as stopped;
+ghost use Rattle.scc_stopped.specs.declared.stopped.Stopped.TheVariants as stopped;
 
-use crate::stopped::Stopped;
 use scc_base::{NoMemory, Text};
+use scc_stopped::stopped::Stopped;
 use scc_svtext::print;
 use scc_thin::Design;
 use scc_thinmodule::module_of;

@@ -1,5 +1,5 @@
 ghost use Rattle.std.specs.Prelude.{◌≡◌};
-ghost use Rattle.scc_drive.specs.declared.stopped.Stopped.TheVariants as stopped;
+ghost use Rattle.scc_stopped.specs.declared.stopped.Stopped.TheVariants as stopped;
 
 use crate::spots::Spot;
 use scc_base::{Code, NoMemory, Text};

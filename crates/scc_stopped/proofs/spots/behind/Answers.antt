@@ -1,7 +1,7 @@
 use Rattle.std.proofs.Common.{sym, ◌∙◌, inl, inr}
-use Rattle.scc_drive.proofs.Moving.{turn, over}
-use Rattle.scc_drive.proofs.spots.behind.Goals as goal
-use Rattle.scc_drive.proofs.spots.behind.Goals.{then-b-eq10, else-b-eq10}
+use Rattle.scc_stopped.proofs.Moving.{turn, over}
+use Rattle.scc_stopped.proofs.spots.behind.Goals as goal
+use Rattle.scc_stopped.proofs.spots.behind.Goals.{then-b-eq10, else-b-eq10}
 
 pub loop-b-preserved : goal.loop-b-preserved
 loop-b-preserved c = turn c.args.front.now c.loop-b.b-index c.loop-b-test.true _ _ _ _ _ c.loop-b.invariant.0 c.loop-b.invariant.1 c.loop-b.invariant.2

@@ -2,7 +2,7 @@
 use Rattle.std.specs.Prelude.{ℕ, List, [], ◌++◌, codes, decimal, Option, Some, None}
 use Rattle.scc_base.specs.declared.code.Code.{Code}
 use Rattle.scc_base.specs.Code.{code_number, code_text}
-use Rattle.scc_drive.specs.declared.spots.Spot.{Spot}
+use Rattle.scc_stopped.specs.declared.spots.Spot.{Spot}
 
 -- a file, a line and a column
 abbrev pub spot_text : Spot → List ℕ

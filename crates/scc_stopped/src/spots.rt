@@ -1,7 +1,7 @@
 //! Where a place stands in its file, as a refusal says it.
 ghost use Rattle.std.specs.Prelude.{◌≡◌, ◌≤◌, ◌<◌, ◌^◌, length, take, IfOk, Some, true, ◌∷◌, []};
-ghost use Rattle.scc_drive.specs.Spots.{moved, position_at, spot_of, IsPlaceOf, IsSpotOf};
-ghost use Rattle.scc_drive.specs.Spots as spots;
+ghost use Rattle.scc_stopped.specs.Spots.{moved, position_at, spot_of, IsPlaceOf, IsSpotOf};
+ghost use Rattle.scc_stopped.specs.Spots as spots;
 
 use scc_base::{NoMemory, Place, Text, lost};
 use scc_tokens::Source;

@@ -2,7 +2,7 @@
 use Rattle.std.specs.Prelude.{◌≡◌, ◌≤◌, ℕ, ◌+◌, List, [], ◌∷◌, take, length, if◌then◌else◌, ◌==◌, Option, Some, None, slice_get}
 use Rattle.scc_base.specs.declared.refusal.Place.{Place}
 use Rattle.scc_directives.specs.declared.file.Source.{Source}
-use Rattle.scc_drive.specs.declared.spots.Spot.{Spot}
+use Rattle.scc_stopped.specs.declared.spots.Spot.{Spot}
 
 -- The line and the column behind these bytes, from a line and a column on: an LF begins the next line.
 unfoldable pub moved : ℕ → ℕ → List ℕ → ℕ × ℕ

@@ -3,7 +3,7 @@ use Rattle.std.proofs.Common.{◌≡◌, ◌≢◌, ◌⊎◌, inl, inr, ℕ, �
 use Rattle.std.proofs.lemmas.Bool.{ne_eqb}
 use Rattle.std.proofs.Math.Seq.{drop-cons}
 use Rattle.std.proofs.Math.ListN.{drop_of_length-le}
-use Rattle.scc_drive.specs.Spots.{moved}
+use Rattle.scc_stopped.specs.Spots.{moved}
 
 eqb_of : {a : ℕ} → a ≡ 10 → (a == 10) ≡ true
 eqb_of {a} e = ap (λ n. n == 10) e

@@ -1,6 +1,6 @@
 //! What the program says where it does not end with status 0.
 ghost use Rattle.std.specs.Prelude.{◌≡◌, ◌++◌, IfOk, OnOk};
-ghost use Rattle.scc_drive.specs.Texts.{spot_text, other_text, refusal_text, words_text, missing_text, failed_text, memory_text, output_text};
+ghost use Rattle.scc_stopped.specs.Texts.{spot_text, other_text, refusal_text, words_text, missing_text, failed_text, memory_text, output_text};
 
 use crate::spots::Spot;
 use itoa::Buffer;
