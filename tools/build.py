@@ -1,15 +1,18 @@
 #!/usr/bin/env python3
-"""Proves and builds the libraries that the compiler stands on, several side by side. ./scc calls it.
+"""Proves the compiler and the libraries that it stands on, several side by side, and builds it. ./scc calls it.
 
   tools/build.py
 
 It runs as many checks at a time as there are processors, or as the free memory has room for, each crate after those that it
-stands on. What is built already isn't built again. A line on standard error says which crate was built, and when.
+stands on. What is built already isn't built again: the sum of all that it was built from stands beside it. A line on standard
+error says which crate was built, and when. What was proved before it is ended early is kept.
 
-A command of the toolchain keeps the folders of its crate, and of all crates below, to itself. So each check runs in a copy of
-the sources (a lane), gets the libraries below as links, and hands back what it built. What a check proved before it is ended
-early is kept.
+It calls the toolchain's compiler and not `rt`: so the crates above a library load what it states and not its proofs, as in the
+merge gate, which takes much less time and memory. What `rt check` keeps is neither read nor touched.
 """
+import fcntl
+import functools
+import hashlib
 import os
 import re
 import shutil
@@ -22,176 +25,166 @@ from pathlib import Path
 
 TOP = Path(__file__).resolve().parent.parent
 PROGRAM = "scc"
+# The merge gate leaves this part of a crate's `out` as it was.
+BUILT = TOP / "crates" / PROGRAM / "out" / "rlib"
 # The memory in bytes that a check takes at most, as seen for the crates of this repository.
 MEMORY_OF_A_CHECK = 4 << 30
-# The statuses of a check that was killed, most likely for want of memory.
-KILLED = (247, -signal.SIGKILL)
 
 
 def say(text):
     print(f"scc: {text}", file=sys.stderr, flush=True)
 
 
+class Kit:
+    """The toolchain whose command `rt` is."""
+
+    def __init__(self):
+        command = shutil.which("rt")
+        if not command:
+            sys.exit("scc: there is no command rt: install the Rattle kit first")
+        self.top = Path(command).resolve().parent.parent
+        self.compiler = self.top / "bin" / "rattle"
+        self.version = (self.top / "WHAT").read_bytes()
+
+    def library(self, name):
+        return self.top / "rlibs" / f"{name}.rlib"
+
+
 def crates_below(name):
-    """The crates of this repository below this one, each with those that it names itself."""
+    """The crates of this repository that the named one stands on and itself, each with what it names in crates.txt."""
     rows = [it.partition(":") for it in (TOP / "crates.txt").read_text().splitlines()]
     uses = {crate.strip(): deps.split() for crate, _, deps in rows}
     found, left = {}, [name]
     while left:
-        for it in uses[left.pop()]:
-            if it in uses and it not in found:
-                found[it] = [dep for dep in uses[it] if dep in uses]
-                left.append(it)
+        crate = left.pop()
+        if crate in uses and crate not in found:
+            found[crate] = uses[crate]
+            left += uses[crate]
     return found
-
-
-def all_below(crate, uses):
-    """The crates that this one stands on, also by way of others."""
-    found = set()
-    for it in uses[crate]:
-        found |= {it} | all_below(it, uses)
-    return found
-
-
-def folder_of(crate, top=TOP):
-    return top / "crates" / crate
-
-
-def library(crate, top=TOP):
-    return folder_of(crate, top) / "out" / "rlib"
-
-
-def sources(crate):
-    """The files that a proof of the crate reads."""
-    folders = [folder_of(crate) / part for part in ("src", "specs", "proofs")]
-    return [it for folder in folders for it in folder.rglob("*") if it.is_file()]
-
-
-def is_built(crate, uses):
-    """Whether the library is newer than its sources and the libraries that it stands on."""
-    stamp, *below = [library(it) / "stamp" for it in [crate, *uses[crate]]]
-    if not stamp.is_file():
-        return False
-    return max(it.stat().st_mtime for it in [*below, *sources(crate)]) <= stamp.stat().st_mtime
-
-
-def longest_first(uses):
-    """The crates, first those with the most lines on the longest way from them up."""
-    lines = {}
-    for it in uses:
-        lines[it] = sum(file.read_bytes().count(b"\n") for file in sources(it))
-
-    def way(crate):
-        return lines[crate] + max((ways[it] for it in uses if crate in uses[it]), default=0)
-
-    ways = {}
-    # a crate after those that stand on it, of which none is below it
-    for it in sorted(uses, key=lambda it: -len(all_below(it, uses))):
-        ways[it] = way(it)
-    return sorted(uses, key=lambda it: -ways[it])
-
-
-def link_or_copy(one, other):
-    """Gives a file of a library a second name: the toolchain never writes into one."""
-    try:
-        os.link(one, other)
-    except OSError:
-        shutil.copy2(one, other)
-
-
-class Lane:
-    """A copy of the sources, in which one check runs at a time."""
-
-    def __init__(self, top):
-        self.top, self.crate, self.check, self.since = top, None, None, 0.0
-        shutil.copytree(TOP / "crates", top / "crates", ignore=shutil.ignore_patterns("out"))
-        for name in ("crates.txt", "HANDLES"):
-            shutil.copy(TOP / name, top)
-
-    def begin(self, crate, below, jobs):
-        for it in below:
-            if not library(it, self.top).exists():
-                shutil.copytree(library(it), library(it, self.top), copy_function=link_or_copy)
-        self.crate, self.since = crate, time.monotonic()
-        # with what an earlier check kept
-        self.move_out(TOP, self.top)
-        with open(self.top / "said", "w") as said:
-            words = ["rt", "lib", "--jobs", str(jobs)]
-            place = {"cwd": folder_of(crate, self.top), "stdin": subprocess.DEVNULL}
-            self.check = subprocess.Popen(words, stdout=said, stderr=subprocess.STDOUT, **place)
-
-    def move_out(self, one, other):
-        here, there = (folder_of(self.crate, top) / "out" for top in (one, other))
-        if here.is_dir():
-            shutil.rmtree(there, ignore_errors=True)
-            shutil.move(here, there)
-
-    def end(self):
-        """Ends the check if it still runs, hands back what it left, and answers its status."""
-        status = None
-        if self.check:
-            if self.check.poll() is None:
-                self.check.terminate()
-            status = self.check.wait()
-        self.move_out(self.top, TOP)
-        self.crate, self.check = None, None
-        return status
-
-    def said(self):
-        return (self.top / "said").read_text(errors="replace")
 
 
 class Build:
-    def __init__(self, uses, lanes, processors):
-        self.uses, self.lanes, self.processors = uses, lanes, processors
-        self.left, self.built = longest_first(uses), set()
-        # crates whose check was killed beside others: each runs again with nothing beside it
-        self.alone = set()
+    def __init__(self, kit, uses):
+        self.kit, self.uses = kit, uses
+        self.processors = len(os.sched_getaffinity(0))
+        self.most = max(1, min(self.processors, free_memory() // MEMORY_OF_A_CHECK))
+        self.left, self.built = [], set()
+        # the checks that run, and the crates whose check was killed beside others: each runs again with nothing beside it
+        self.running, self.alone = {}, set()
 
-    def busy(self):
-        return [it for it in self.lanes if it.crate]
+    def own(self, crate):
+        """The crates of this repository that it names."""
+        return [it for it in self.uses[crate] if it in self.uses]
 
-    def ready(self):
-        found = [it for it in self.left if self.built.issuperset(self.uses[it])]
-        beside = [it for it in found if it not in self.alone]
-        return beside or (found[:1] if not self.busy() else [])
+    def sources(self, crate):
+        folders = [TOP / "crates" / crate / part for part in ("src", "specs", "proofs")]
+        return sorted(it for folder in folders for it in folder.rglob("*") if it.is_file())
 
-    def begin(self):
+    @functools.cache
+    def sum(self, crate):
+        """The sum of all that the crate is built from."""
+        found = hashlib.sha256(self.kit.version)
+        found.update(repr((self.uses[crate], [self.sum(it) for it in self.own(crate)])).encode())
+        for it in self.sources(crate):
+            found.update(repr((str(it.relative_to(TOP)), it.read_bytes())).encode())
+        return found.hexdigest()
+
+    def product(self, crate):
+        return BUILT / (crate if crate == PROGRAM else f"{crate}.rlib")
+
+    def noted(self, crate):
+        """The file that has the sum of all that the product was made from."""
+        return BUILT / f"{crate}.sum"
+
+    @functools.cache
+    def is_built(self, crate):
+        """Whether an earlier run built it of the same, over what earlier runs built."""
+        noted = self.noted(crate)
+        is_same = self.product(crate).exists() and noted.is_file() and noted.read_text() == self.sum(crate)
+        return is_same and all(map(self.is_built, self.own(crate)))
+
+    @functools.cache
+    def way(self, crate):
+        """The lines of the crate and of the crates above it, along the longest way up."""
+        lines = sum(it.read_bytes().count(b"\n") for it in self.sources(crate))
+        return lines + max((self.way(it) for it in self.uses if crate in self.uses[it]), default=0)
+
+    def words(self, crate, jobs, product):
+        """The compiler's words for a check that, if it succeeds, writes the product."""
+        kit, is_program = self.kit, crate == PROGRAM
+        words = ["build", "--crate-name", crate, "src/main.rt" if is_program else "src/lib.rt"]
+        for name in ["std", *self.uses[crate]]:
+            words += ["--extern", f"{name}={self.product(name) if name in self.uses else kit.library(name)}"]
+        words += ["-L", f"dependency={kit.top}/rlibs", "-L", f"dependency={BUILT}"]
+        words += ["--antt-project", f"{kit.top}/rattle/logic/antt-project.json", "--logic-built", f"{kit.top}/logic_built"]
+        words += ["--toolchain", f"{kit.top}/toolchain", "--backend", "llvm"] if is_program else ["--statements"]
+        return [*words, "--jobs", str(jobs), "-o", str(product)]
+
+    def link(self, object_file, program):
+        kit = self.kit.top
+        words = ["--target", "x86_64-unknown-linux-gnu", "--toolchain", f"{kit}/toolchain", "-o", program, object_file]
+        return subprocess.run([kit / "bin" / "rattle-link", *words, kit / "c" / "libos_c.a", kit / "c" / "liblibc_c.a"]).returncode
+
+    def begin(self, folder):
         """Begins what can begin. Where fewer checks than processors can run, each gets several."""
-        ready, idle = self.ready(), [it for it in self.lanes if not it.crate]
-        many = len(self.busy()) + min(len(idle), len(ready))
-        for lane, crate in zip(idle, ready):
+        ready = [it for it in self.left if self.built.issuperset(self.own(it))]
+        ready = [it for it in ready if it not in self.alone] or (ready[:1] if not self.running else [])
+        many = min(self.most, len(self.running) + len(ready))
+        for crate in ready[: many - len(self.running)]:
             self.left.remove(crate)
-            if is_built(crate, self.uses):
-                self.built.add(crate)
-            else:
-                jobs = 1 if crate in self.alone else max(1, self.processors // many)
-                lane.begin(crate, all_below(crate, self.uses), jobs)
+            jobs = 1 if crate in self.alone else max(1, self.processors // many)
+            made, said = (Path(folder, f"{crate}.{it}") for it in ("made", "said"))
+            how = {"cwd": TOP / "crates" / crate, "stdin": subprocess.DEVNULL, "stderr": subprocess.STDOUT, "start_new_session": True}
+            with open(said, "w") as out:
+                check = subprocess.Popen([self.kit.compiler, *self.words(crate, jobs, made)], stdout=out, **how)
+            self.running[crate] = check, made, said, time.monotonic()
 
-    def end(self, lane):
+    def end(self, crate):
         """Takes in a check that ended. Answers whether the build can go on."""
-        crate, minutes = lane.crate, (time.monotonic() - lane.since) / 60
-        status = lane.end()
-        if status in KILLED and crate not in self.alone:
+        check, made, said, since = self.running.pop(crate)
+        minutes, product, status = (time.monotonic() - since) / 60, self.product(crate), check.wait()
+        if not status and crate == PROGRAM:
+            linked = made.with_suffix(".linked")
+            status, made = self.link(made, linked), linked
+        if status == -signal.SIGKILL and crate not in self.alone:
+            # most likely for want of memory
             self.alone.add(crate)
             self.left.append(crate)
         elif status:
-            print(lane.said(), file=sys.stderr, end="")
+            print(said.read_text(errors="replace"), file=sys.stderr, end="")
             say(f"{crate} was not proved")
             return False
         else:
+            self.noted(crate).unlink(missing_ok=True)
+            shutil.rmtree(product, ignore_errors=True)
+            made.replace(product)
+            self.noted(crate).write_text(self.sum(crate))
             self.built.add(crate)
             say(f"{crate} proved in {minutes:.1f} minutes ({len(self.built)} of {len(self.uses)})")
         return True
 
-    def run(self):
-        while self.left or self.busy():
-            self.begin()
-            time.sleep(0.1)
-            for lane in self.busy():
-                if lane.check.poll() is not None and not self.end(lane):
-                    return 1
-        return 0
+    def run(self, folder):
+        self.built = {it for it in self.uses if self.is_built(it)}
+        self.left = sorted(self.uses.keys() - self.built, key=lambda it: (-self.way(it), it))
+        try:
+            while self.left or self.running:
+                self.begin(folder)
+                time.sleep(0.1)
+                for crate in [it for it, run in self.running.items() if run[0].poll() is not None]:
+                    if not self.end(crate):
+                        return 1
+            self.hand_out(folder)
+            return 0
+        finally:
+            for check, *_ in self.running.values():
+                # with the copies of itself that share its work
+                os.killpg(check.pid, signal.SIGTERM)
+                check.wait()
+
+    def hand_out(self, folder):
+        """Copies the program to where ./scc starts it: the merge gate replaces what is there."""
+        shutil.copy(self.product(PROGRAM), Path(folder, PROGRAM))
+        Path(folder, PROGRAM).replace(BUILT.parent / PROGRAM)
 
 
 def free_memory():
@@ -203,27 +196,22 @@ def ended(number, frame):
     raise KeyboardInterrupt
 
 
-def build_in(folder, uses):
-    """Builds the crates in lanes of this folder."""
-    processors = len(os.sched_getaffinity(0))
-    many = max(1, min(processors, free_memory() // MEMORY_OF_A_CHECK))
-    lanes = [Lane(Path(folder, str(it))) for it in range(many)]
-    try:
-        return Build(uses, lanes, processors).run()
-    finally:
-        for lane in lanes:
-            if lane.crate:
-                lane.end()
+def build():
+    BUILT.mkdir(parents=True, exist_ok=True)
+    with open(BUILT / "lock", "w") as lock:
+        fcntl.flock(lock, fcntl.LOCK_EX)
+        # left by a run that was killed
+        for it in BUILT.glob("new-*"):
+            shutil.rmtree(it)
+        # on the disk of the products, which are then renamed into place
+        with tempfile.TemporaryDirectory(prefix="new-", dir=BUILT) as folder:
+            return Build(Kit(), crates_below(PROGRAM)).run(folder)
 
 
 def main():
-    uses = crates_below(PROGRAM)
-    if all(is_built(it, uses) for it in uses):
-        return 0
     signal.signal(signal.SIGTERM, ended)
     try:
-        with tempfile.TemporaryDirectory(prefix="scc-", dir=os.environ.get("TMPDIR", "/var/tmp")) as folder:
-            return build_in(folder, uses)
+        return build()
     except KeyboardInterrupt:
         say("ended; what was proved is kept")
         return 130
