@@ -10,6 +10,7 @@ error says which crate was built, and when. What was proved before it is ended e
 It calls the toolchain's compiler and not `rt`: so the crates above a library load what it states and not its proofs, as in the
 merge gate, which takes much less time and memory. What `rt check` keeps is neither read nor touched.
 """
+import contextlib
 import fcntl
 import functools
 import hashlib
@@ -177,8 +178,9 @@ class Build:
             return 0
         finally:
             for check, *_ in self.running.values():
-                # with the copies of itself that share its work
-                os.killpg(check.pid, signal.SIGTERM)
+                # with the copies of itself that share its work; it may have ended by itself
+                with contextlib.suppress(ProcessLookupError):
+                    os.killpg(check.pid, signal.SIGTERM)
                 check.wait()
 
     def hand_out(self, folder):
