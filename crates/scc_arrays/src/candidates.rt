@@ -33,13 +33,19 @@ fn candidates_among(
 
 fn ids_of(alloc: Global, vars: &[SvVar]) -> Result<IndexMap<Vec<u8>, u32>, NoMemory> {
     let mut ids = IndexMap::new(alloc);
+    number(alloc, vars, &mut ids)?;
+    Ok(ids)
+}
+
+// Notes the number of each variable by its name.
+fn number(alloc: Global, vars: &[SvVar], ids: &mut IndexMap<Vec<u8>, u32>) -> Result<(), NoMemory> {
     let mut number = 0u32;
     for v in vars {
         let name = Vec::from_slice(alloc, v.name.bytes())?;
         let _old = ids.insert(name, number)?;
         number = number.saturating_add(1);
     }
-    Ok(ids)
+    Ok(())
 }
 
 fn candidate(

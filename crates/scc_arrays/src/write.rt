@@ -19,6 +19,14 @@ pub struct Write<'a> {
 /// before assigns.
 pub fn first_run(alloc: Global, vars: &[SvVar], body: &[SvStmt]) -> Result<usize, NoMemory> {
     let mut seen = IndexMap::new(alloc);
+    run_over(vars, body, &mut seen)
+}
+
+fn run_over(
+    vars: &[SvVar],
+    body: &[SvStmt],
+    seen: &mut IndexMap<u32, ()>,
+) -> Result<usize, NoMemory> {
     let mut count = 0usize;
     for s in body {
         let Some(v) = first_of(vars, s) else {

@@ -27,10 +27,21 @@ pub fn loads_of(
     cells: Cells<'_>,
 ) -> Result<List<SvLoad>, NoMemory> {
     let mut words = IndexMap::new(alloc);
+    words_of(alloc, split, cells, &mut words)?;
+    loads_in(alloc, registers, &words)
+}
+
+// The words that the reset segment assigns, by what is assigned.
+fn words_of(
+    alloc: Global,
+    split: &Split,
+    cells: Cells<'_>,
+    words: &mut IndexMap<u32, u128>,
+) -> Result<(), NoMemory> {
     for s in split.reset.as_slice() {
         match &s.node {
             SegNode::Plain(stmt) => {
-                if one(stmt, alloc, cells, &mut words)? != End::Through {
+                if one(stmt, alloc, cells, words)? != End::Through {
                     return Err(lost());
                 }
             }
@@ -41,12 +52,20 @@ pub fn loads_of(
                 let Some(left) = count.checked_sub(1) else {
                     return Err(lost());
                 };
-                put(&mut words, STATE, u128::from(*k))?;
-                put(&mut words, COUNTER, u128::from(left))?;
+                put(words, STATE, u128::from(*k))?;
+                put(words, COUNTER, u128::from(left))?;
             }
             SegNode::If { .. } => return Err(lost()),
         }
     }
+    Ok(())
+}
+
+fn loads_in(
+    alloc: Global,
+    registers: &[Register],
+    words: &IndexMap<u32, u128>,
+) -> Result<List<SvLoad>, NoMemory> {
     let mut loads = List::new(alloc);
     for r in registers {
         if let Some(bits) = words.get(&r.lowered) {

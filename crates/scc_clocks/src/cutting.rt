@@ -22,8 +22,10 @@ pub fn domains(alloc: Global, c: &Core) -> Result<Domains, NoMemory> {
         })?;
         part = part.saturating_add(1);
     }
-    let Homes { clocks, .. } = homes;
-    Ok(Domains { clocks, parts })
+    Ok(Domains {
+        clocks: homes.into_clocks(),
+        parts,
+    })
 }
 
 // The processes of each part.

@@ -7,16 +7,27 @@ use std::alloc::Global;
 pub const NOWHERE: u32 = u32::MAX;
 
 /// Where each process of a core stands among the parts: a part for each clock, and a last one for the combinational methods.
-#[derive(Drop)]
 pub struct Homes {
     /// The clocks' cells, ascending.
-    pub clocks: List<u32>,
+    clocks: List<u32>,
     /// For each process its part.
     parts: Vec<u32>,
     /// For each process its number in its part.
     numbers: Vec<u32>,
     /// How many processes each part has.
     pub sizes: Vec<u32>,
+}
+
+// One call at each exit of what owns them.
+impl Drop for Homes {
+    fn drop(self) {
+        let Homes {
+            clocks: _clocks,
+            parts: _parts,
+            numbers: _numbers,
+            sizes: _sizes,
+        } = self;
+    }
 }
 
 /// Those of a core.
@@ -89,6 +100,17 @@ fn at(numbers: &[u32], i: usize) -> Result<u32, NoMemory> {
 }
 
 impl Homes {
+    /// The clocks' cells, ascending.
+    pub fn into_clocks(self) -> List<u32> {
+        let Homes {
+            clocks,
+            parts: _parts,
+            numbers: _numbers,
+            sizes: _sizes,
+        } = self;
+        clocks
+    }
+
     fn add(&mut self, part: u32) -> Result<(), NoMemory> {
         let Some(size) = self.sizes.get_mut(part as usize) else {
             return Err(lost());

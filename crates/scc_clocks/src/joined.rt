@@ -5,11 +5,21 @@ use scc_svtree::{Dir, SvModule, SvVar};
 use std::alloc::Global;
 
 /// Variables, and their numbers by name.
-#[derive(Drop)]
 pub struct Joined {
     alloc: Global,
-    pub vars: List<SvVar>,
+    vars: List<SvVar>,
     ids: IndexMap<Vec<u8>, u32>,
+}
+
+// One call at each exit of what owns them.
+impl Drop for Joined {
+    fn drop(self) {
+        let Joined {
+            alloc: _,
+            vars: _vars,
+            ids: _ids,
+        } = self;
+    }
 }
 
 impl Joined {
@@ -44,6 +54,16 @@ impl Joined {
         Ok(())
     }
 
+    /// All variables.
+    pub fn into_vars(self) -> List<SvVar> {
+        let Joined {
+            alloc: _,
+            vars,
+            ids: _ids,
+        } = self;
+        vars
+    }
+
     /// The numbers of a module's variables.
     pub fn ids_of(&self, m: &SvModule) -> Result<Vec<u32>, NoMemory> {
         let mut ids = Vec::new(self.alloc);
@@ -58,10 +78,19 @@ impl Joined {
 }
 
 /// The widths of what modules declare beside inputs, by name.
-#[derive(Drop)]
 pub struct Widths {
     alloc: Global,
     by_name: IndexMap<Vec<u8>, u32>,
+}
+
+// One call at each exit of what owns them.
+impl Drop for Widths {
+    fn drop(self) {
+        let Widths {
+            alloc: _,
+            by_name: _by_name,
+        } = self;
+    }
 }
 
 impl Widths {

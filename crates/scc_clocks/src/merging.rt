@@ -27,8 +27,11 @@ pub fn merge(
     let joined = declared(alloc, names, c, &homes, parts)?;
     let blocks = all_blocks(alloc, c, &homes, &joined, parts)?;
     let name = Text::from_bytes(alloc, names.text(c.top).as_bytes())?;
-    let Joined { vars, .. } = joined;
-    Ok(SvModule { name, vars, blocks })
+    Ok(SvModule {
+        name,
+        vars: joined.into_vars(),
+        blocks,
+    })
 }
 
 fn declared(
@@ -154,7 +157,15 @@ struct Part<'a> {
     next: usize,
 }
 
-impl Part<'_> {
+impl<'a> Part<'a> {
+    fn of(joined: &Joined, m: &'a SvModule) -> Result<Part<'a>, NoMemory> {
+        Ok(Part {
+            ids: joined.ids_of(m)?,
+            blocks: m.blocks.as_slice(),
+            next: 0,
+        })
+    }
+
     // Takes the next block.
     fn take(&mut self, alloc: Global) -> Result<SvBlock, NoMemory> {
         let Some(block) = self.blocks.get(self.next) else {
@@ -180,18 +191,25 @@ fn all_blocks(
 ) -> Result<List<SvBlock>, NoMemory> {
     let mut from = Vec::new(alloc);
     for m in parts {
-        let part = Part {
-            ids: joined.ids_of(m)?,
-            blocks: m.blocks.as_slice(),
-            next: 0,
-        };
-        push(&mut from, part)?;
+        push(&mut from, Part::of(joined, m)?)?;
     }
-    let combs = combs_of(homes)?;
-    let constant = first_constant(combs, parts)?;
     let mut out = List::new(alloc);
-    if constant {
-        constants(alloc, from.as_mut_slice(), &mut out)?;
+    take_all(alloc, c, homes, parts, from.as_mut_slice(), &mut out)?;
+    Ok(out)
+}
+
+// Takes the blocks of all parts in the order in which they stand in one module.
+fn take_all(
+    alloc: Global,
+    c: &Core,
+    homes: &Homes,
+    parts: &[SvModule],
+    from: &mut [Part<'_>],
+    out: &mut List<SvBlock>,
+) -> Result<(), NoMemory> {
+    let combs = combs_of(homes)?;
+    if first_constant(combs, parts)? {
+        constants(alloc, from, out)?;
     }
     if let Some(last) = from.last_mut() {
         for _ in 0..combs {
@@ -207,7 +225,7 @@ fn all_blocks(
             out.push(part.take(alloc)?)?;
         }
     }
-    Ok(out)
+    Ok(())
 }
 
 // How many combinational methods there are.

@@ -16,13 +16,18 @@ const MOST: usize = 4_294_967_295;
 /// The line of the generated design of so many stages: how many processes, registers and states it has, and the word at its output
 /// one edge for each stage behind its reset, by its emitted module.
 pub fn generated_line(alloc: Global, stages: u32) -> Result<Text, NoMemory> {
-    let Generated { names, front } = known(design_of(alloc, stages))?;
-    let text = compile_front(alloc, &names, b"Gen", &front)?;
-    let module = known(read(alloc, text.bytes()))?;
+    let made = known(design_of(alloc, stages))?;
+    line_of(alloc, stages, &made)
+}
+
+// What owns a design has no branch behind it: each would let all of it go.
+fn line_of(alloc: Global, stages: u32, made: &Generated) -> Result<Text, NoMemory> {
+    let text = compile_front(alloc, &made.names, b"Gen", &made.front)?;
     let stimulus = stimulus_of(alloc, stages)?;
     let trace = trace_of(alloc, text.bytes(), stimulus.bytes())?;
     let q = last_word(trace.bytes())?;
-    line(alloc, stages, &front, &module, q)
+    let module = known(read(alloc, text.bytes()))?;
+    line(alloc, stages, &made.front, &module, q)
 }
 
 // No stage refuses a generated design.

@@ -69,14 +69,9 @@ fn traced(
         steps,
         order,
     )?;
-    let mut out = Text::new(alloc);
-    for _ in 0..usize::MAX {
-        match simulation.next() {
-            Ok(Some(piece)) => out.push_bytes(piece.bytes())?,
-            Ok(None) => return Ok(out),
-            // a process that passes its bound stops the command as want of memory does
-            Err(RunStop::NoMemory | RunStop::Bound(_)) => return Err(NoMemory),
-        }
+    match simulation.whole() {
+        Ok(trace) => Ok(trace),
+        // a process that passes its bound stops the command as want of memory does
+        Err(RunStop::NoMemory | RunStop::Bound(_)) => Err(NoMemory),
     }
-    Err(lost())
 }

@@ -16,12 +16,23 @@ use scc_tree::FileTree;
 use std::alloc::Global;
 
 /// Files that were joined, and what the grammar reads of them.
-#[derive(Drop)]
 pub struct Read {
     pub names: Names,
     pub sources: List<Source>,
     pub joined: Joined,
     pub tree: FileTree,
+}
+
+// One call at each exit of what owns it.
+impl Drop for Read {
+    fn drop(self) {
+        let Read {
+            names: _names,
+            sources: _sources,
+            joined: _joined,
+            tree: _tree,
+        } = self;
+    }
 }
 
 /// Joins so many of the files that the words name from word 2 on, and reads them by the grammar.

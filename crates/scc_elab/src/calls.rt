@@ -58,14 +58,26 @@ fn constructed(p: &Plain, many: bool, alloc: Global) -> Result<Design, Stop>
 {
     check_top(p)?;
     let mut g = Grown::new(alloc)?;
-    let mut stack = Stack::new(alloc);
+    built(p, many, &mut g)
+}
+
+// What owns all that construction makes has no branch behind it: each would let all of it go.
+fn built(p: &Plain, many: bool, g: &mut Grown) -> Result<Design, Stop>
+    ensures { IfOk result (λ d. storage_of d.objects ≤ 1048576) }
+{
+    construct(p, g)?;
+    check_functions(p, g.alloc)?;
+    check_ports(g)?;
+    let processes = processes_of(g, many)?;
+    Ok(design_of(g, processes)?)
+}
+
+// Runs the constructors.
+fn construct(p: &Plain, g: &mut Grown) -> Result<(), Stop> {
     let place = class_of(p, p.top)?.place;
-    make_one(&[], Base::Class(p.top), TOP, place, p, &mut stack, &mut g)?;
-    run(&mut stack, p, &mut g)?;
-    check_functions(p, alloc)?;
-    check_ports(&g)?;
-    let processes = processes_of(&g, many)?;
-    Ok(design_of(&g, processes)?)
+    let mut stack = Stack::new(g.alloc);
+    make_one(&[], Base::Class(p.top), TOP, place, p, &mut stack, g)?;
+    run(&mut stack, p, g)
 }
 
 // The top's constructor has no parameter but its name: the first one that is a module's name.

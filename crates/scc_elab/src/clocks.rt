@@ -32,9 +32,13 @@ pub fn processes_of(g: &Grown, many: bool) -> Result<List<Process>, Stop> {
         first: None,
         by_root: IndexMap::new(g.alloc),
     };
+    all_of(g, &mut clocks)
+}
+
+fn all_of(g: &Grown, clocks: &mut Clocks) -> Result<List<Process>, Stop> {
     let mut list = List::new(g.alloc);
     for record in g.records.as_slice() {
-        list.push(process_of(record, &mut clocks, g)?)?;
+        list.push(process_of(record, clocks, g)?)?;
     }
     Ok(list)
 }

@@ -64,11 +64,21 @@ pub enum Task<'t> {
 }
 
 /// Tasks, values and locations that are still wanted.
-#[derive(Drop)]
 pub struct Walk<'t> {
     tasks: Vec<Task<'t>>,
     values: Vec<Value>,
     located: Vec<Located>,
+}
+
+// One call at each exit of what owns it.
+impl Drop for Walk<'_> {
+    fn drop(self) {
+        let Walk {
+            tasks: _tasks,
+            values: _values,
+            located: _located,
+        } = self;
+    }
 }
 
 impl<'t> Walk<'t> {

@@ -21,10 +21,19 @@ struct Named {
 }
 
 /// Where members stand in the objects of their classes.
-#[derive(Drop)]
 pub struct Layout {
     classes: Vec<Members>,
     numbers: IndexMap<Named, u32>,
+}
+
+// One call at each exit of what owns it.
+impl Drop for Layout {
+    fn drop(self) {
+        let Layout {
+            classes: _classes,
+            numbers: _numbers,
+        } = self;
+    }
 }
 
 /// A product of sizes, where it is less than the number of slots that there may be.

@@ -5,22 +5,36 @@ use scc_svtree::{SvVar, VarId};
 use std::alloc::Global;
 
 /// The names of a module's variables, none of which stands twice.
-#[derive(Drop)]
 pub struct Variables {
     names: IndexSet<Vec<u8>>,
+}
+
+// One call at each exit of what owns them.
+impl Drop for Variables {
+    fn drop(self) {
+        let Variables { names: _names } = self;
+    }
 }
 
 impl Variables {
     /// Those of a list.
     pub fn of(alloc: Global, vars: &[SvVar]) -> Result<Variables, NoMemory> {
-        let mut names = IndexSet::new(alloc);
+        let mut variables = Variables {
+            names: IndexSet::new(alloc),
+        };
+        variables.add(alloc, vars)?;
+        Ok(variables)
+    }
+
+    fn add(&mut self, alloc: Global, vars: &[SvVar]) -> Result<(), NoMemory> {
         for v in vars {
-            let (_, new) = names.insert_full(Vec::from_slice(alloc, v.name.bytes())?)?;
+            let name = Vec::from_slice(alloc, v.name.bytes())?;
+            let (_, new) = self.names.insert_full(name)?;
             if !new {
                 return Err(lost());
             }
         }
-        Ok(Variables { names })
+        Ok(())
     }
 
     /// The variable of a name.

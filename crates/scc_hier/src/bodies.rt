@@ -33,7 +33,6 @@ pub struct Given<'a> {
 }
 
 // What grows while they are made.
-#[derive(Drop)]
 struct Making {
     keys: IndexSet<Vec<u8>>,
     bodies: Bodies,
@@ -45,17 +44,48 @@ struct Making {
     ids: Vec<u32>,
 }
 
-fn nothing(alloc: Global, given: Given<'_>) -> Result<Making, NoMemory> {
-    Ok(Making {
-        keys: IndexSet::new(alloc),
-        bodies: Bodies {
-            class: vec![in alloc; 0; given.plans.len()]?,
-            made: Vec::new(alloc),
-        },
-        wires: rows(alloc, given.plans.len())?,
-        places: vec![in alloc; 0; given.m.vars.len()]?,
-        ids: vec![in alloc; UNDECLARED; given.m.vars.len()]?,
-    })
+// One call at each exit of what owns it.
+impl Drop for Making {
+    fn drop(self) {
+        let Making {
+            keys: _keys,
+            bodies: _bodies,
+            wires: _wires,
+            places: _places,
+            ids: _ids,
+        } = self;
+    }
+}
+
+impl Making {
+    // Nothing is made yet.
+    fn new(alloc: Global, given: Given<'_>) -> Result<Making, NoMemory> {
+        let class = vec![in alloc; 0; given.plans.len()]?;
+        let places = vec![in alloc; 0; given.m.vars.len()]?;
+        let ids = vec![in alloc; UNDECLARED; given.m.vars.len()]?;
+        let wires = rows(alloc, given.plans.len())?;
+        Ok(Making {
+            keys: IndexSet::new(alloc),
+            bodies: Bodies {
+                class,
+                made: Vec::new(alloc),
+            },
+            wires,
+            places,
+            ids,
+        })
+    }
+
+    fn into_bodies(self) -> Bodies {
+        let Making {
+            keys: _keys,
+            bodies,
+            wires: _wires,
+            places: _places,
+            ids: _ids,
+        } = self;
+        bodies
+    }
 }
 
 fn set(ids: &mut Vec<u32>, at: usize, id: u32) -> Result<(), NoMemory> {
@@ -262,10 +292,9 @@ fn make(alloc: Global, k: usize, given: Given<'_>, making: &mut Making) -> Resul
 
 /// The modules of module objects.
 pub fn bodies_of(alloc: Global, given: Given<'_>) -> Result<Bodies, NoMemory> {
-    let mut making = nothing(alloc, given)?;
+    let mut making = Making::new(alloc, given)?;
     for k in (0..given.plans.len()).rev() {
         make(alloc, k, given, &mut making)?;
     }
-    let Making { bodies, .. } = making;
-    Ok(bodies)
+    Ok(making.into_bodies())
 }

@@ -4,10 +4,19 @@ use scc_base::NoMemory;
 use std::alloc::Global;
 
 /// The paths of module objects, of which the top's isn't among them: the first has the number 1.
-#[derive(Drop)]
 pub struct Paths {
     alloc: Global,
     texts: IndexSet<Vec<u8>>,
+}
+
+// One call at each exit of what owns them.
+impl Drop for Paths {
+    fn drop(self) {
+        let Paths {
+            alloc: _,
+            texts: _texts,
+        } = self;
+    }
 }
 
 impl Paths {

@@ -16,7 +16,6 @@ use std::alloc::Global;
 use std::mem;
 
 // A location that is being built.
-#[derive(Drop)]
 struct Draft<'a> {
     place: Place,
     base: CoreBase,
@@ -36,6 +35,50 @@ struct Draft<'a> {
 struct Found {
     left: CoreLeft,
     holds: Option<Base>,
+}
+
+// One call at each exit of what owns a draft, in place of the drops of all fields.
+impl Drop for Draft<'_> {
+    fn drop(self) {
+        let Draft {
+            place: _,
+            base: _base,
+            spot: _,
+            parts: _parts,
+            sizes: _,
+            holds: _,
+            pointer: _,
+        } = self;
+    }
+}
+
+impl Draft<'_> {
+    // The location of a draft: a whole name is its cell, a port below the top its root's.
+    fn finished(self, g: &Growing, pick: Option<CorePick>) -> CoreLeft {
+        let Draft {
+            place,
+            mut base,
+            spot,
+            parts,
+            sizes: _,
+            holds: _,
+            pointer,
+        } = self;
+        let cell = match spot {
+            Some(spot) if parts.is_empty() && pointer => g.places.pointer(spot),
+            Some(spot) if parts.is_empty() => g.places.cell(spot),
+            _ => None,
+        };
+        if let Some(cell) = cell {
+            base = CoreBase::Cell(g.places.root(&g.cells, cell));
+        }
+        CoreLeft {
+            place,
+            base,
+            parts,
+            pick,
+        }
+    }
 }
 
 impl Growing {
@@ -106,7 +149,7 @@ impl Growing {
             None => None,
         };
         let holds = draft.holds;
-        let left = self.finished(draft, pick)?;
+        let left = draft.finished(self, pick);
         Ok(Found { left, holds })
     }
 
@@ -193,7 +236,7 @@ impl Growing {
         let sizes = of.sizes;
         let mut reference = of;
         reference.pointer = true;
-        let left = self.finished(reference, None)?;
+        let left = reference.finished(self, None);
         let mut made = drafted(self.alloc, place, followed(self.alloc, left)?, None, holds);
         made.sizes = sizes;
         Ok(made)
@@ -267,34 +310,6 @@ impl Growing {
             name.extend(step)?;
         }
         Ok(made)
-    }
-
-    // The location of a draft: a whole name is its cell, a port below the top its root's.
-    fn finished(&self, of: Draft, pick: Option<CorePick>) -> Result<CoreLeft, NoMemory> {
-        let Draft {
-            place,
-            mut base,
-            spot,
-            parts,
-            sizes: _,
-            holds: _,
-            pointer,
-        } = of;
-        let cell = match spot {
-            Some(spot) if parts.is_empty() && pointer => self.places.pointer(spot),
-            Some(spot) if parts.is_empty() => self.places.cell(spot),
-            _ => None,
-        };
-        if let Some(cell) = cell {
-            let cells = &self.cells;
-            base = CoreBase::Cell(self.places.root(cells, cell));
-        }
-        Ok(CoreLeft {
-            place,
-            base,
-            parts,
-            pick,
-        })
     }
 
     #[cycle(located)]

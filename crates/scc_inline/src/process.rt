@@ -3,11 +3,10 @@ ghost use Rattle.std.specs.Prelude.{IfErr};
 ghost use Rattle.scc_inline.specs.Refusals.{MayStop};
 
 use crate::scope::{Growing, Here, Scope, Source, This};
-use indexmap::IndexMap;
-use scc_base::{Code, List, NoMemory, Path, PathPart, Stop, lost};
+use scc_base::{Code, List, Name, NoMemory, Path, PathPart, Place, Stop, lost};
 use scc_core::{
-    CellName, Core, CoreBase, CoreLeft, CoreNode, CoreProcess, CoreStmt, Edge2, Places, Reset2,
-    Sort2, numbered,
+    CellName, Core, CoreBase, CoreLeft, CoreNode, CoreProcess, CoreStmt, Edge2, Reset2, Sort2,
+    numbered,
 };
 use scc_design::{Design, Process, Sort};
 use scc_plainfacts::{DEPTH, Facts, ObjectCells, all_facts, object_cells, vectors};
@@ -20,40 +19,19 @@ use std::alloc::Global;
 pub fn inline(alloc: Global, p: &Plain, d: &Design) -> Result<Core, Stop>
     ensures stop { IfErr result MayStop }
 {
+    let top = p.classes.get(p.top as usize).ok_or(lost())?.name;
     let facts = all_facts(alloc, p)?;
-    let ObjectCells { cells, of } = object_cells(alloc, p, d)?;
     let vectors = vectors(alloc, d)?;
-    let places = Places::of(alloc, &cells, &vectors)?;
-    let mut growing = Growing {
-        alloc,
-        cells,
-        places,
-        counters: IndexMap::new(alloc),
-        process: Path::new(alloc),
-        number: 0,
-        next: 0,
-    };
+    let ObjectCells { cells, of } = object_cells(alloc, p, d)?;
+    let mut growing = Growing::start(alloc, cells, &vectors)?;
     let source = Source {
         plain: p,
         facts: facts.as_slice(),
     };
     let processes = growing.processes(source, d, of.as_slice())?;
-    let top = p.classes.get(p.top as usize).ok_or(lost())?.name;
-    let Growing {
-        alloc: _,
-        cells,
-        places,
-        counters,
-        process,
-        number: _,
-        next: _,
-    } = growing;
-    drop(places);
-    drop(counters);
-    drop(process);
     Ok(Core {
         top,
-        cells,
+        cells: growing.into_cells(),
         processes,
         vectors,
     })
@@ -87,8 +65,6 @@ impl Growing {
     ) -> Result<CoreProcess, Stop>
         ensures stop { IfErr result MayStop }
     {
-        let alloc = self.alloc;
-        let place = process.place;
         let function = source
             .plain
             .functions
@@ -98,42 +74,68 @@ impl Growing {
             return Err(lost().into());
         };
         if is_too_large(facts) {
-            return Err(Stop::refused(Code::TooLarge, place));
+            return Err(Stop::refused(Code::TooLarge, process.place));
         }
         let object = d.objects.get(process.object as usize).ok_or(lost())?;
-        let path = object.path.as_slice();
-        self.process = Path::of(alloc, path)?;
-        self.process.push(PathPart::Member(function.name))?;
-        self.next = 0;
-        let this = This {
-            left: CoreLeft::new(alloc, place, CoreBase::Prefix(named(alloc, path)?)),
-            spot: self.places.path(path),
-            soft: false,
-        };
         let here = Here {
             source,
             function,
             facts,
         };
-        let mut scope = Scope::new(alloc, function, Some(this))?;
-        let copied = self.body(&mut scope, &here, DEPTH)?;
-        let mut body = List::new(alloc);
-        body.push(CoreStmt {
-            place,
-            node: CoreNode::Block(copied),
-        })?;
+        self.begin(object.path.as_slice(), function.name)?;
+        let edge = edge(process, cells)?;
+        let reset = reset(process, cells)?;
+        let senses = senses(self.alloc, process, cells)?;
+        let body = self.block_of(object.path.as_slice(), &here, process.place)?;
+        let name = named(self.alloc, self.process.as_slice())?;
         Ok(CoreProcess {
             sort: match process.sort {
                 Sort::Method => Sort2::Method,
                 Sort::Thread => Sort2::Thread,
             },
-            name: named(alloc, self.process.as_slice())?,
-            place,
-            senses: senses(alloc, process, cells)?,
-            edge: edge(process, cells)?,
-            reset: reset(process, cells)?,
+            name,
+            place: process.place,
+            senses,
+            edge,
+            reset,
             body,
         })
+    }
+
+    // No local of the process has a number yet.
+    fn begin(&mut self, path: &[PathPart], function: Name) -> Result<(), NoMemory> {
+        self.process = Path::of(self.alloc, path)?;
+        self.process.push(PathPart::Member(function))?;
+        self.next = 0;
+        Ok(())
+    }
+
+    // The body of a process of the object at a path, in one block.
+    fn block_of(
+        &mut self,
+        path: &[PathPart],
+        here: &Here,
+        place: Place,
+    ) -> Result<List<CoreStmt>, Stop>
+        ensures stop { IfErr result MayStop }
+    {
+        let this = This {
+            left: CoreLeft::new(
+                self.alloc,
+                place,
+                CoreBase::Prefix(named(self.alloc, path)?),
+            ),
+            spot: self.places.path(path),
+            soft: false,
+        };
+        let mut scope = Scope::new(self.alloc, here.function, Some(this))?;
+        let body = self.body(&mut scope, here, DEPTH)?;
+        let mut block = List::new(self.alloc);
+        block.push(CoreStmt {
+            place,
+            node: CoreNode::Block(body),
+        })?;
+        Ok(block)
     }
 }
 

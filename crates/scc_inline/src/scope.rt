@@ -4,7 +4,7 @@ use scc_base::{List, Name, NoMemory, Path, Place, lost, push};
 use scc_bits::{Kind, Value, Word};
 use scc_core::{
     Cell, CellName, CellSort, CoreBase, CoreExpr, CoreExprNode, CoreLeft, CoreNode, CoreStmt,
-    Counters, Known, Places, Spot, numbered,
+    Counters, Known, Places, Spot, VectorSize2, numbered,
 };
 use scc_plainfacts::Facts;
 use scc_plaintree::{Base, Plain, PlainFunction, PlainMember, Reach};
@@ -36,7 +36,6 @@ pub struct This {
 }
 
 /// A copy of a function, as far as it has come.
-#[derive(Drop)]
 pub struct Scope {
     /// The object whose function it is.
     pub this: Option<This>,
@@ -54,8 +53,22 @@ pub struct Scope {
     loops: usize,
 }
 
+// One call at each exit of what owns a copy, in place of the drops of all fields.
+impl Drop for Scope {
+    fn drop(self) {
+        let Scope {
+            this: _this,
+            locals: _locals,
+            numbers: _numbers,
+            pointed: _pointed,
+            answer: _,
+            answers: _answers,
+            loops: _,
+        } = self;
+    }
+}
+
 /// What grows with each copied statement.
-#[derive(Drop)]
 pub struct Growing {
     pub alloc: Global,
     pub cells: List<Cell>,
@@ -66,6 +79,20 @@ pub struct Growing {
     pub process: Path,
     pub number: u32,
     pub next: u32,
+}
+
+impl Drop for Growing {
+    fn drop(self) {
+        let Growing {
+            alloc: _,
+            cells: _cells,
+            places: _places,
+            counters: _counters,
+            process: _process,
+            number: _,
+            next: _,
+        } = self;
+    }
 }
 
 impl Scope {
@@ -123,6 +150,38 @@ impl Scope {
 }
 
 impl Growing {
+    /// Over the cells of the objects: no process is copied yet.
+    pub fn start(
+        alloc: Global,
+        cells: List<Cell>,
+        vectors: &List<VectorSize2>,
+    ) -> Result<Growing, NoMemory> {
+        let places = Places::of(alloc, &cells, vectors)?;
+        Ok(Growing {
+            alloc,
+            cells,
+            places,
+            counters: IndexMap::new(alloc),
+            process: Path::new(alloc),
+            number: 0,
+            next: 0,
+        })
+    }
+
+    /// All cells that there are.
+    pub fn into_cells(self) -> List<Cell> {
+        let Growing {
+            alloc: _,
+            cells,
+            places: _places,
+            counters: _counters,
+            process: _process,
+            number: _,
+            next: _,
+        } = self;
+        cells
+    }
+
     /// What is known before a run where no counter is.
     pub fn known(&self) -> Known<'_> {
         Known::new(&self.cells, &self.places)

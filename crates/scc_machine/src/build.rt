@@ -29,7 +29,6 @@ struct Reached<'t> {
     pointer: bool,
 }
 
-#[derive(Drop)]
 struct Builder<'t> {
     p: &'t Plain,
     d: &'t Design,
@@ -41,6 +40,21 @@ struct Builder<'t> {
     /// The first slot of the top.
     top: u32,
     placed: Placed,
+}
+
+// One call at each exit of what owns it.
+impl Drop for Builder<'_> {
+    fn drop(self) {
+        let Builder {
+            p: _,
+            d: _,
+            layout: _,
+            made: _made,
+            vectors: _,
+            top: _,
+            placed: _placed,
+        } = self;
+    }
 }
 
 /// Gives a design's objects slots, in which signals and variables hold the words of the start.
@@ -67,11 +81,23 @@ pub fn place_objects(
     b.place_all(start, store)?;
     b.bind_ports(store)?;
     b.lead_pointers(store)?;
-    let Builder { placed, .. } = b;
-    Ok(placed)
+    Ok(b.into_placed())
 }
 
 impl<'t> Builder<'t> {
+    fn into_placed(self) -> Placed {
+        let Builder {
+            p: _,
+            d: _,
+            layout: _,
+            made: _made,
+            vectors: _,
+            top: _,
+            placed,
+        } = self;
+        placed
+    }
+
     fn place_all(&mut self, start: &Start, store: &mut Store) -> Result<(), NoMemory> {
         let d = self.d;
         let mut next: usize = 0;

@@ -31,7 +31,6 @@ impl<T: Drop> From<AllocFailed<T>> for RunStop {
 }
 
 /// A design that runs. Once a call answered an error, every later one gives the same.
-#[derive(Drop)]
 pub struct Runner<'a> {
     pub(crate) machine: Machine,
     pub(crate) processes: Vec<Running>,
@@ -51,6 +50,26 @@ pub struct Runner<'a> {
     /// Whether a clock has its edge, by the number of its port.
     pub(crate) ticks: Vec<bool>,
     pub(crate) stopped: Option<RunStop>,
+}
+
+// One call at each exit of what owns it.
+impl Drop for Runner<'_> {
+    fn drop(self) {
+        let Runner {
+            machine: _machine,
+            processes: _processes,
+            bounds: _,
+            words: _words,
+            inputs: _inputs,
+            combs: _combs,
+            clocked: _clocked,
+            asynchronous: _asynchronous,
+            listeners: _listeners,
+            due: _due,
+            ticks: _ticks,
+            stopped: _,
+        } = self;
+    }
 }
 
 impl<'a> Runner<'a> {
@@ -80,13 +99,18 @@ impl<'a> Runner<'a> {
             ticks: Vec::new(alloc),
             stopped: None,
         };
-        let mut number = 0;
-        for process in d.processes.as_slice() {
-            runner.add_process(alloc, number, process, slots.as_slice())?;
-            number = number.saturating_add(1);
-        }
+        runner.add_processes(alloc, d, slots.as_slice())?;
         runner.add_inputs(alloc, d)?;
         Ok(runner)
+    }
+
+    fn add_processes(&mut self, alloc: Global, d: &Design, slots: &[u32]) -> Result<(), NoMemory> {
+        let mut number = 0;
+        for process in d.processes.as_slice() {
+            self.add_process(alloc, number, process, slots)?;
+            number = number.saturating_add(1);
+        }
+        Ok(())
     }
 
     fn add_process(

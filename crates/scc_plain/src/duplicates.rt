@@ -28,10 +28,19 @@ struct First {
 }
 
 // What the scopes declare so far.
-#[derive(Drop)]
 struct Scopes {
     names: IndexMap<Declared, First>,
     opened: usize,
+}
+
+// One call at each exit of what owns them.
+impl Drop for Scopes {
+    fn drop(self) {
+        let Scopes {
+            names: _names,
+            opened: _,
+        } = self;
+    }
 }
 
 /// Refuses the first name, in text order, that its scope declares before already, by E302; the other place is the first declaration. A

@@ -4,9 +4,15 @@ use scc_base::{List, NoMemory, lost};
 use std::alloc::Global;
 
 /// A graph: nodes by number from 0, each with those that it leads to.
-#[derive(Drop)]
 pub struct Graph {
     rows: Vec<List<u32>>,
+}
+
+// One call at each exit of what owns it.
+impl Drop for Graph {
+    fn drop(self) {
+        let Graph { rows: _rows } = self;
+    }
 }
 
 impl Graph {
@@ -55,7 +61,6 @@ pub struct Groups {
     group: Vec<u32>,
 }
 
-#[derive(Drop)]
 struct Guess {
     /// The first node, by when it was entered, that a node is known to reach.
     low: Vec<u32>,
@@ -65,6 +70,64 @@ struct Guess {
     tasks: Vec<Task>,
     entered: u32,
     closed: u32,
+}
+
+// One call at each exit of what owns it.
+impl Drop for Guess {
+    fn drop(self) {
+        let Guess {
+            low: _low,
+            group: _group,
+            open: _open,
+            tasks: _tasks,
+            entered: _,
+            closed: _,
+        } = self;
+    }
+}
+
+impl Guess {
+    // No node has a group yet.
+    fn new(alloc: Global, nodes: usize) -> Result<Guess, NoMemory> {
+        let low = vec![in alloc; NONE; nodes]?;
+        let group = vec![in alloc; NONE; nodes]?;
+        Ok(Guess {
+            low,
+            group,
+            open: Vec::new(alloc),
+            tasks: Vec::new(alloc),
+            entered: 0,
+            closed: 0,
+        })
+    }
+
+    // Walks over all nodes.
+    fn walk(&mut self, g: &Graph) -> Result<(), NoMemory> {
+        for k in 0..g.len() {
+            let k = u32::try_from(k).map_err(|_| lost())?;
+            self.tasks.push(Task::Enter(k))?;
+        }
+        for _ in 0..usize::MAX {
+            match self.tasks.pop() {
+                None => return Ok(()),
+                Some(Task::Enter(k)) => enter(g, self, k)?,
+                Some(Task::Leave(k)) => leave(g, self, k),
+            }
+        }
+        Err(lost())
+    }
+
+    fn into_groups(self) -> Groups {
+        let Guess {
+            low: _low,
+            group,
+            open: _open,
+            tasks: _tasks,
+            entered: _,
+            closed: _,
+        } = self;
+        Groups { group }
+    }
 }
 
 fn at(list: &[u32], k: u32) -> u32 {
@@ -123,27 +186,9 @@ fn leave(g: &Graph, s: &mut Guess, k: u32) {
 impl Groups {
     /// The groups of a graph's nodes.
     pub fn of(alloc: Global, g: &Graph) -> Result<Groups, NoMemory> {
-        let mut s = Guess {
-            low: vec![in alloc; NONE; g.len()]?,
-            group: vec![in alloc; NONE; g.len()]?,
-            open: Vec::new(alloc),
-            tasks: Vec::new(alloc),
-            entered: 0,
-            closed: 0,
-        };
-        for k in 0..g.len() {
-            s.tasks
-                .push(Task::Enter(u32::try_from(k).map_err(|_| lost())?))?;
-        }
-        for _ in 0..usize::MAX {
-            match s.tasks.pop() {
-                None => break,
-                Some(Task::Enter(k)) => enter(g, &mut s, k)?,
-                Some(Task::Leave(k)) => leave(g, &mut s, k),
-            }
-        }
-        let Guess { group, .. } = s;
-        let groups = Groups { group };
+        let mut guess = Guess::new(alloc, g.len())?;
+        guess.walk(g)?;
+        let groups = guess.into_groups();
         if !groups.are_ranked(g)? {
             return Err(lost());
         }

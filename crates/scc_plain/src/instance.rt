@@ -21,7 +21,57 @@ struct Members {
     /// Its functions with bodies, in the order of their first declarations.
     bodies: List<FunctionId>,
     /// The names with initialisers, once they are asked for.
-    initialised: Option<IndexSet<Name>>,
+    initialised: Option<Initialised>,
+}
+
+// The names with initialisers of a constructor.
+struct Initialised {
+    names: IndexSet<Name>,
+}
+
+// One call at each exit of what owns them.
+impl Drop for Initialised {
+    fn drop(self) {
+        let Initialised { names: _names } = self;
+    }
+}
+
+impl Initialised {
+    // The names of an instance's constructor, none where it has none.
+    fn of(i: InstanceId, field: &Field, tree: &FileTree, w: &mut Walk) -> Result<Initialised, Stop>
+        ensures stop { IfErr result MayStop }
+    {
+        let mut initialised = Initialised {
+            names: IndexSet::new(w.alloc),
+        };
+        initialised.note_all(i, field, tree, w)?;
+        Ok(initialised)
+    }
+
+    fn note_all(
+        &mut self,
+        i: InstanceId,
+        field: &Field,
+        tree: &FileTree,
+        w: &mut Walk,
+    ) -> Result<(), Stop>
+        ensures stop { IfErr result MayStop }
+    {
+        if let Some(f) = constructor(i, field.place, tree, w)? {
+            let function = w.tree_of(f, tree).ok_or(lost())?;
+            for init in function.inits.as_slice() {
+                if let Some(name) = init.name {
+                    self.note(name)?;
+                }
+            }
+        }
+        Ok(())
+    }
+
+    fn note(&mut self, name: Name) -> Result<(), NoMemory> {
+        self.names.insert(name)?;
+        Ok(())
+    }
 }
 
 /// Walks an instance.
@@ -35,9 +85,10 @@ pub fn walk_instance(
     ensures stop { IfErr result MayStop }
 {
     let class = w.templates.body(tree, i).ok_or(lost())?;
+    let name = class_name(i, tree, w)?;
     let mut m = Members {
         i,
-        name: class_name(i, tree, w)?,
+        name,
         bodies: List::new(w.alloc),
         initialised: None,
     };
@@ -108,11 +159,11 @@ impl Members {
         ensures stop { IfErr result MayStop }
     {
         if self.initialised.is_none() {
-            let names = initialised(self.i, field, tree, w)?;
-            self.initialised = Some(names);
+            let initialised = Initialised::of(self.i, field, tree, w)?;
+            self.initialised = Some(initialised);
         }
         match &self.initialised {
-            Some(names) => Ok(names.contains(&field.decl.name)),
+            Some(initialised) => Ok(initialised.names.contains(&field.decl.name)),
             None => Ok(false),
         }
     }
@@ -203,30 +254,4 @@ impl Members {
         }
         Ok(())
     }
-}
-
-// The names with initialisers of an instance's constructor, none where it has none.
-fn initialised(
-    i: InstanceId,
-    field: &Field,
-    tree: &FileTree,
-    w: &mut Walk,
-) -> Result<IndexSet<Name>, Stop>
-    ensures stop { IfErr result MayStop }
-{
-    let mut names = IndexSet::new(w.alloc);
-    if let Some(f) = constructor(i, field.place, tree, w)? {
-        let function = w.tree_of(f, tree).ok_or(lost())?;
-        for init in function.inits.as_slice() {
-            if let Some(name) = init.name {
-                note(&mut names, name)?;
-            }
-        }
-    }
-    Ok(names)
-}
-
-fn note(names: &mut IndexSet<Name>, name: Name) -> Result<(), NoMemory> {
-    names.insert(name)?;
-    Ok(())
 }

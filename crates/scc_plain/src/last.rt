@@ -9,6 +9,7 @@ use scc_bodies::{CallOn, Note, Walk, gone, refuse};
 use scc_plaintree::{Base, Reach};
 use scc_templates::{InstanceId, Needed};
 use scc_tree::FileTree;
+use std::alloc::Global;
 
 /// Refuses a call by a class's name (E304) of a function that uses its object, and then a class that holds itself or a function that
 /// calls itself (E309), in the order of the walk, a class before its functions.
@@ -18,13 +19,12 @@ pub fn look_last(tree: &FileTree, w: &mut Walk, order: &Order) -> Result<(), Sto
     let calls = Calls::of(w)?;
     calls.by_class(w)?;
     let holds = holding(tree, w)?;
-    let classes = Cycles::of(w, holds)?;
-    let functions = Cycles::of(w, calls.all)?;
+    let classes = Cycles::of(w.alloc, &holds)?;
+    let functions = Cycles::of(w.alloc, &calls.all)?;
     look(tree, w, order, &classes, &functions)
 }
 
 // What functions call.
-#[derive(Drop)]
 struct Calls {
     all: Graph,
     /// From a function to those that call it on their own object.
@@ -33,26 +33,40 @@ struct Calls {
     users: List<u32>,
 }
 
+// One call at each exit of what owns them.
+impl Drop for Calls {
+    fn drop(self) {
+        let Calls {
+            all: _all,
+            own: _own,
+            users: _users,
+        } = self;
+    }
+}
+
 impl Calls {
     fn of(w: &Walk) -> Result<Calls, NoMemory> {
         let count = w.function_count();
-        let mut calls = Calls {
-            all: Graph::new(w.alloc, count)?,
-            own: Graph::new(w.alloc, count)?,
-            users: List::new(w.alloc),
-        };
+        let all = Graph::new(w.alloc, count)?;
+        let own = Graph::new(w.alloc, count)?;
+        let users = List::new(w.alloc);
+        let mut calls = Calls { all, own, users };
         for note in w.notes.as_slice() {
-            match *note {
-                Note::This(f) => calls.users.push(f.0)?,
-                Note::Call { from, to, on, .. } => {
-                    calls.all.lead(from.0, to.0)?;
-                    if on == CallOn::Own {
-                        calls.own.lead(to.0, from.0)?;
-                    }
-                }
-            }
+            calls.add(*note)?;
         }
         Ok(calls)
+    }
+
+    fn add(&mut self, note: Note) -> Result<(), NoMemory> {
+        match note {
+            Note::This(f) => self.users.push(f.0),
+            Note::Call { from, to, on, .. } => {
+                if on == CallOn::Own {
+                    self.own.lead(to.0, from.0)?;
+                }
+                self.all.lead(from.0, to.0)
+            }
+        }
     }
 
     // E304 at the first call by a class's name of a function that uses its object, by itself or by what it calls on it.
@@ -100,14 +114,14 @@ fn holding(tree: &FileTree, w: &mut Walk) -> Result<Graph, Stop>
 
 // A graph with its groups.
 #[derive(Drop)]
-struct Cycles {
-    graph: Graph,
+struct Cycles<'a> {
+    graph: &'a Graph,
     groups: Groups,
 }
 
-impl Cycles {
-    fn of(w: &Walk, graph: Graph) -> Result<Cycles, NoMemory> {
-        let groups = Groups::of(w.alloc, &graph)?;
+impl<'a> Cycles<'a> {
+    fn of(alloc: Global, graph: &'a Graph) -> Result<Cycles<'a>, NoMemory> {
+        let groups = Groups::of(alloc, graph)?;
         Ok(Cycles { graph, groups })
     }
 
@@ -115,10 +129,10 @@ impl Cycles {
     fn refuse(&self, w: &Walk, k: u32, place: Place) -> Result<(), Stop>
         ensures stop { IfErr result MayStop }
     {
-        if !self.groups.is_looped(&self.graph, k) {
+        if !self.groups.is_looped(self.graph, k) {
             return Ok(());
         }
-        if !reaches_itself(w.alloc, &self.graph, k)? {
+        if !reaches_itself(w.alloc, self.graph, k)? {
             return gone();
         }
         refuse(Code::Recursion, place)
@@ -129,8 +143,8 @@ fn look(
     tree: &FileTree,
     w: &Walk,
     order: &Order,
-    classes: &Cycles,
-    functions: &Cycles,
+    classes: &Cycles<'_>,
+    functions: &Cycles<'_>,
 ) -> Result<(), Stop>
     ensures stop { IfErr result MayStop }
 {
@@ -162,7 +176,7 @@ fn functions_of(
     tree: &FileTree,
     w: &Walk,
     order: &Order,
-    functions: &Cycles,
+    functions: &Cycles<'_>,
 ) -> Result<usize, Stop>
     ensures stop { IfErr result MayStop }
 {

@@ -7,9 +7,15 @@ use scc_tree::{FileTree, FunctionTree, Item, ItemNode};
 use std::alloc::Global;
 
 /// For each class body, by its item, the bodies outside its class of functions that it doesn't declare.
-#[derive(Drop)]
 pub struct Outside {
     by_body: IndexMap<usize, List<u32>>,
+}
+
+// One call at each exit of what owns it.
+impl Drop for Outside {
+    fn drop(self) {
+        let Outside { by_body: _by_body } = self;
+    }
 }
 
 /// The name's place of the function whose body an item is.

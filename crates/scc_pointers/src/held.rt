@@ -5,12 +5,23 @@ use scc_core::{CellName, CellSort, Copies, CoreBase, CoreLeft, Known, Places};
 use std::alloc::Global;
 
 /// What resolving is given, and the targets of the local pointers so far; None for null.
-#[derive(Drop)]
 pub struct Resolver<'a> {
     pub alloc: Global,
     pub known: Known<'a>,
     pub places: &'a Places,
     held: IndexMap<u32, Option<CoreLeft>>,
+}
+
+// One call at each exit of what owns it.
+impl Drop for Resolver<'_> {
+    fn drop(self) {
+        let Resolver {
+            alloc: _,
+            known: _,
+            places: _,
+            held: _held,
+        } = self;
+    }
 }
 
 impl<'a> Resolver<'a> {

@@ -5,6 +5,7 @@ ghost use Rattle.scc_rules.specs.Refusals.{Finds};
 
 use crate::facts::{Facts, Role, filled, is_combinational};
 use scc_base::{Code, List, NoMemory, Refusal, lost, push};
+use scc_flow::Mark;
 use std::alloc::Global;
 use std::collections::BTreeSet;
 
@@ -18,48 +19,106 @@ pub struct Readers {
 
 /// Who reads whom.
 pub fn readers_of(alloc: Global, f: &Facts<'_>) -> Result<Readers, NoMemory> {
+    let writers = writers_of(alloc, f)?;
     let mut found = Readers {
         methods: Vec::new(alloc),
         lists: Vec::new(alloc),
     };
+    found.list(alloc, f)?;
+    found.fill(alloc, f, writers.as_slice())?;
+    Ok(found)
+}
+
+// For each cell the last combinational method that writes it.
+fn writers_of(alloc: Global, f: &Facts<'_>) -> Result<Vec<Option<u32>>, NoMemory> {
     let mut writers = filled(alloc, f.core.cells.len(), None)?;
     let mut n = 0u32;
     for (p, marks) in f.core.processes.as_slice().iter().zip(f.marks.iter()) {
-        push(&mut found.lists, Vec::new(alloc))?;
         if is_combinational(p) {
-            push(&mut found.methods, n)?;
             for mark in marks.as_slice() {
-                if mark.write && f.role(mark.named.base)? == Role::Root {
-                    for cell in f.cells(alloc, mark)?.iter() {
-                        match writers.get_mut(*cell as usize) {
-                            Some(writer) => *writer = Some(n),
-                            None => return Err(lost()),
-                        }
-                    }
-                }
+                write(alloc, f, mark, n, &mut writers)?;
             }
         }
-        let Some(behind) = n.checked_add(1) else {
-            return Err(lost());
-        };
-        n = behind;
+        n = behind(n)?;
     }
-    let mut last = filled(alloc, f.core.processes.len(), None)?;
-    for reader in found.methods.iter() {
-        let Some(marks) = f.marks.get(*reader as usize) else {
-            return Err(lost());
-        };
-        for mark in marks.as_slice() {
-            if !mark.write && f.role(mark.named.base)? == Role::Root {
-                for cell in f.cells(alloc, mark)?.iter() {
-                    if let Some(Some(writer)) = writers.get(*cell as usize) {
-                        reads(*reader, *writer, &mut last, &mut found.lists)?;
-                    }
-                }
-            }
+    Ok(writers)
+}
+
+fn write(
+    alloc: Global,
+    f: &Facts<'_>,
+    mark: &Mark,
+    n: u32,
+    writers: &mut Vec<Option<u32>>,
+) -> Result<(), NoMemory> {
+    if !mark.write || f.role(mark.named.base)? != Role::Root {
+        return Ok(());
+    }
+    for cell in f.cells(alloc, mark)?.iter() {
+        match writers.get_mut(*cell as usize) {
+            Some(writer) => *writer = Some(n),
+            None => return Err(lost()),
         }
     }
-    Ok(found)
+    Ok(())
+}
+
+fn behind(n: u32) -> Result<u32, NoMemory> {
+    n.checked_add(1).ok_or(lost())
+}
+
+impl Readers {
+    // Lists the combinational methods, and no reader yet.
+    fn list(&mut self, alloc: Global, f: &Facts<'_>) -> Result<(), NoMemory> {
+        let mut n = 0u32;
+        for p in f.core.processes.as_slice() {
+            push(&mut self.lists, Vec::new(alloc))?;
+            if is_combinational(p) {
+                push(&mut self.methods, n)?;
+            }
+            n = behind(n)?;
+        }
+        Ok(())
+    }
+
+    // Adds each method to the readers of those that write what it reads.
+    fn fill(
+        &mut self,
+        alloc: Global,
+        f: &Facts<'_>,
+        writers: &[Option<u32>],
+    ) -> Result<(), NoMemory> {
+        let mut last = filled(alloc, f.core.processes.len(), None)?;
+        for reader in self.methods.iter() {
+            let Some(marks) = f.marks.get(*reader as usize) else {
+                return Err(lost());
+            };
+            for mark in marks.as_slice() {
+                read(alloc, f, mark, *reader, writers, &mut last, &mut self.lists)?;
+            }
+        }
+        Ok(())
+    }
+}
+
+fn read(
+    alloc: Global,
+    f: &Facts<'_>,
+    mark: &Mark,
+    reader: u32,
+    writers: &[Option<u32>],
+    last: &mut Vec<Option<u32>>,
+    lists: &mut Vec<Vec<u32>>,
+) -> Result<(), NoMemory> {
+    if mark.write || f.role(mark.named.base)? != Role::Root {
+        return Ok(());
+    }
+    for cell in f.cells(alloc, mark)?.iter() {
+        if let Some(Some(writer)) = writers.get(*cell as usize) {
+            reads(reader, *writer, last, lists)?;
+        }
+    }
+    Ok(())
 }
 
 // Notes that one method reads what another writes; `last` has the last reader of each writer.
@@ -94,53 +153,106 @@ fn list_of<'a>(r: &'a Readers, n: u32) -> Result<&'a [u32], NoMemory> {
 /// The combinational methods, each behind the others that write what it reads, the least number first. None of them is on a
 /// cycle.
 pub fn order_of(alloc: Global, r: &Readers) -> Result<List<u32>, NoMemory> {
-    let mut missing = filled(alloc, r.lists.len(), 0u32)?;
-    for writer in r.methods.iter() {
-        for reader in list_of(r, *writer)? {
-            match missing.get_mut(*reader as usize) {
-                Some(count) => {
-                    let Some(more) = count.checked_add(1) else {
+    let mut sorting = Sorting::new(alloc, r.lists.len())?;
+    sorting.count(r)?;
+    sorting.begin(r)?;
+    sorting.run(r)?;
+    Ok(sorting.into_order())
+}
+
+// Methods that are being ordered.
+struct Sorting {
+    // For each process how many others write what it reads and aren't ordered yet.
+    missing: Vec<u32>,
+    // Those that wait for no other.
+    ready: BTreeSet<u32>,
+    order: List<u32>,
+}
+
+// One call at each exit of what owns it.
+impl Drop for Sorting {
+    fn drop(self) {
+        let Sorting {
+            missing: _missing,
+            ready: _ready,
+            order: _order,
+        } = self;
+    }
+}
+
+impl Sorting {
+    // Of so many processes.
+    fn new(alloc: Global, processes: usize) -> Result<Sorting, NoMemory> {
+        let missing = filled(alloc, processes, 0u32)?;
+        Ok(Sorting {
+            missing,
+            ready: BTreeSet::new(alloc),
+            order: List::new(alloc),
+        })
+    }
+
+    fn into_order(self) -> List<u32> {
+        let Sorting {
+            missing: _missing,
+            ready: _ready,
+            order,
+        } = self;
+        order
+    }
+
+    // Counts for each method those that write what it reads.
+    fn count(&mut self, r: &Readers) -> Result<(), NoMemory> {
+        for writer in r.methods.iter() {
+            for reader in list_of(r, *writer)? {
+                if reader != writer {
+                    let Some(count) = self.missing.get_mut(*reader as usize) else {
                         return Err(lost());
                     };
-                    if reader != writer {
-                        *count = more;
-                    }
+                    *count = behind(*count)?;
                 }
-                None => return Err(lost()),
             }
         }
+        Ok(())
     }
-    let mut ready = BTreeSet::new(alloc);
-    for n in r.methods.iter() {
-        if missing.get(*n as usize) == Some(&0) {
-            let _is_new = ready.insert(*n)?;
+
+    fn begin(&mut self, r: &Readers) -> Result<(), NoMemory> {
+        for n in r.methods.iter() {
+            if self.missing.get(*n as usize) == Some(&0) {
+                let _is_new = self.ready.insert(*n)?;
+            }
         }
+        Ok(())
     }
-    let mut order = List::new(alloc);
-    for _ in 0..r.methods.len() {
-        let Some(n) = ready.pop_first() else {
+
+    fn run(&mut self, r: &Readers) -> Result<(), NoMemory> {
+        for _ in 0..r.methods.len() {
+            let Some(n) = self.ready.pop_first() else {
+                return Err(lost());
+            };
+            self.order.push(n)?;
+            for reader in list_of(r, n)? {
+                if *reader != n {
+                    self.settle(*reader)?;
+                }
+            }
+        }
+        Ok(())
+    }
+
+    // One that writes what a method reads is ordered.
+    fn settle(&mut self, reader: u32) -> Result<(), NoMemory> {
+        let Some(count) = self.missing.get_mut(reader as usize) else {
             return Err(lost());
         };
-        order.push(n)?;
-        for reader in list_of(r, n)? {
-            if *reader == n {
-                continue;
-            }
-            match missing.get_mut(*reader as usize) {
-                Some(count) => {
-                    let Some(fewer) = count.checked_sub(1) else {
-                        return Err(lost());
-                    };
-                    *count = fewer;
-                    if fewer == 0 {
-                        let _is_new = ready.insert(*reader)?;
-                    }
-                }
-                None => return Err(lost()),
-            }
+        let Some(fewer) = count.checked_sub(1) else {
+            return Err(lost());
+        };
+        *count = fewer;
+        if fewer == 0 {
+            let _is_new = self.ready.insert(reader)?;
         }
+        Ok(())
     }
-    Ok(order)
 }
 
 /// The first method on a cycle, with the first that reads what it writes on a cycle with it.

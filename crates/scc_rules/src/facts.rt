@@ -33,27 +33,31 @@ pub fn facts_of<'a>(
     known: Known<'a>,
     roots: Vec<u32>,
 ) -> Result<Facts<'a>, NoMemory> {
-    let mut lives = Vec::new(alloc);
-    let mut marks = Vec::new(alloc);
-    let mut ends_of = Vec::new(alloc);
-    for process in core.processes.as_slice() {
-        let LivePart { body, ends } = live_part(alloc, &known, process.body.as_slice())?;
-        let own = marked(alloc, &known, body.as_slice())?;
-        push(&mut marks, own)?;
-        push(&mut lives, body)?;
-        push(&mut ends_of, ends)?;
-    }
-    Ok(Facts {
+    let mut facts = Facts {
         core,
         known,
         roots,
-        lives,
-        marks,
-        ends: ends_of,
-    })
+        lives: Vec::new(alloc),
+        marks: Vec::new(alloc),
+        ends: Vec::new(alloc),
+    };
+    facts.fill(alloc)?;
+    Ok(facts)
 }
 
 impl<'a> Facts<'a> {
+    // Adds the facts of each process.
+    fn fill(&mut self, alloc: Global) -> Result<(), NoMemory> {
+        for process in self.core.processes.as_slice() {
+            let LivePart { body, ends } = live_part(alloc, &self.known, process.body.as_slice())?;
+            let own = marked(alloc, &self.known, body.as_slice())?;
+            push(&mut self.marks, own)?;
+            push(&mut self.lives, body)?;
+            push(&mut self.ends, ends)?;
+        }
+        Ok(())
+    }
+
     /// The cell, or for a port below the top its root.
     pub fn root(&self, cell: u32) -> Result<u32, NoMemory> {
         self.roots.get(cell as usize).copied().ok_or(lost())

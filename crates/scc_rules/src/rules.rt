@@ -4,9 +4,9 @@ ghost use Rattle.scc_base.specs.declared.code.Code.TheVariants as code;
 ghost use Rattle.scc_rules.specs.Refusals.{Finds, MayStop, is_refusal};
 
 use crate::clock::{clock_as_data, missing_sensitivity};
-use crate::cycles::{comb_loop, order_of, readers_of};
+use crate::cycles::{Readers, comb_loop, order_of, readers_of};
 use crate::facts::{Facts, facts_of};
-use crate::flow::{first_of, paths_of};
+use crate::flow::{Paths, first_of, paths_of};
 use crate::ways::loop_without_wait;
 use crate::whole::{first_chosen_signal, first_wait};
 use crate::writers::{shared_variable, two_writers};
@@ -34,20 +34,44 @@ pub fn check_known(alloc: Global, places: &Places, c: &Core) -> Result<Order, St
     let known = Known::new(&c.cells, places);
     let roots = places.roots(alloc, &c.cells)?;
     let f = facts_of(alloc, c, known, roots)?;
-    refuse(clock_as_data(alloc, &f)?)?;
-    refuse(two_writers(alloc, &f)?)?;
-    refuse(shared_variable(alloc, &f)?)?;
-    refuse(missing_sensitivity(alloc, &f)?)?;
-    let paths = paths_of(alloc, &f)?;
-    refuse(first_of(paths.as_slice(), Code::Latch))?;
-    let readers = readers_of(alloc, &f)?;
-    refuse(comb_loop(alloc, &f, &readers)?)?;
-    refuse(first_of(paths.as_slice(), Code::CombState))?;
-    refuse(wait_in_method(&f))?;
-    refuse(loop_may_not_wait(alloc, &f)?)?;
-    refuse(end_reached(&f))?;
-    refuse(signal_index(alloc, &f)?)?;
-    Ok(order_of(alloc, &readers)?)
+    check_facts(alloc, &f)
+}
+
+// What owns facts, paths or readers has no branch behind them: each would let all of them go.
+fn check_facts(alloc: Global, f: &Facts<'_>) -> Result<Order, Stop>
+    ensures stop { IfErr result MayStop }
+{
+    refuse(clock_as_data(alloc, f)?)?;
+    refuse(two_writers(alloc, f)?)?;
+    refuse(shared_variable(alloc, f)?)?;
+    refuse(missing_sensitivity(alloc, f)?)?;
+    let paths = paths_of(alloc, f)?;
+    check_paths(alloc, f, paths.as_slice())
+}
+
+fn check_paths(alloc: Global, f: &Facts<'_>, paths: &[Paths]) -> Result<Order, Stop>
+    ensures stop { IfErr result MayStop }
+{
+    refuse(first_of(paths, Code::Latch))?;
+    let readers = readers_of(alloc, f)?;
+    check_readers(alloc, f, paths, &readers)
+}
+
+fn check_readers(
+    alloc: Global,
+    f: &Facts<'_>,
+    paths: &[Paths],
+    readers: &Readers,
+) -> Result<Order, Stop>
+    ensures stop { IfErr result MayStop }
+{
+    refuse(comb_loop(alloc, f, readers)?)?;
+    refuse(first_of(paths, Code::CombState))?;
+    refuse(wait_in_method(f))?;
+    refuse(loop_may_not_wait(alloc, f)?)?;
+    refuse(end_reached(f))?;
+    refuse(signal_index(alloc, f)?)?;
+    Ok(order_of(alloc, readers)?)
 }
 
 fn refuse(found: Option<Refusal>) -> Result<(), Stop>

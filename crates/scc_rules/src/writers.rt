@@ -91,7 +91,6 @@ fn clash(
 }
 
 /// What is known of the processes so far.
-#[derive(Drop)]
 struct Shared {
     /// For each variable where the first process that names it does.
     named: Vec<Option<First>>,
@@ -103,17 +102,43 @@ struct Shared {
     writes: Vec<u32>,
 }
 
+// One call at each exit of what owns it.
+impl Drop for Shared {
+    fn drop(self) {
+        let Shared {
+            named: _named,
+            written: _written,
+            own: _own,
+            writes: _writes,
+        } = self;
+    }
+}
+
 /// A variable that two processes name and one of them writes: at the first such statement of the later one.
 pub fn shared_variable(alloc: Global, f: &Facts<'_>) -> Result<Option<Refusal>, NoMemory>
     ensures { IfOk result (Finds code.SharedVariable) }
 {
     let n = f.core.cells.len();
+    let named = filled(alloc, n, None)?;
+    let written = filled(alloc, n, None)?;
+    let own = filled(alloc, n, None)?;
+    let writes = filled(alloc, n, 0)?;
     let mut shared = Shared {
-        named: filled(alloc, n, None)?,
-        written: filled(alloc, n, None)?,
-        own: filled(alloc, n, None)?,
-        writes: filled(alloc, n, 0)?,
+        named,
+        written,
+        own,
+        writes,
     };
+    first_shared(alloc, f, &mut shared)
+}
+
+fn first_shared(
+    alloc: Global,
+    f: &Facts<'_>,
+    shared: &mut Shared,
+) -> Result<Option<Refusal>, NoMemory>
+    ensures { IfOk result (Finds code.SharedVariable) }
+{
     let mut process = 0u32;
     for marks in f.marks.iter() {
         process = process.saturating_add(1);
@@ -122,7 +147,7 @@ pub fn shared_variable(alloc: Global, f: &Facts<'_>) -> Result<Option<Refusal>, 
                 stamp(alloc, f, mark, process, &mut shared.writes)?;
             }
         }
-        if let Some(found) = shared_by(alloc, f, marks.as_slice(), process, &mut shared)? {
+        if let Some(found) = shared_by(alloc, f, marks.as_slice(), process, shared)? {
             return Ok(Some(found));
         }
     }

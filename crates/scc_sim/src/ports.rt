@@ -7,7 +7,6 @@ use scc_trace::StimPort;
 use std::alloc::Global;
 
 /// The ports of a design's top, in construction order.
-#[derive(Drop)]
 pub struct SimPorts {
     /// The names of the clocks.
     pub clocks: List<Text>,
@@ -16,6 +15,19 @@ pub struct SimPorts {
     pub inputs: List<StimPort>,
     pub outputs: List<StimPort>,
     pub output_numbers: Vec<u32>,
+}
+
+// One call at each exit of what owns them.
+impl Drop for SimPorts {
+    fn drop(self) {
+        let SimPorts {
+            clocks: _clocks,
+            clock_numbers: _clock_numbers,
+            inputs: _inputs,
+            outputs: _outputs,
+            output_numbers: _output_numbers,
+        } = self;
+    }
 }
 
 impl SimPorts {

@@ -14,7 +14,6 @@ use std::alloc::Global;
 const PIECE: usize = 65_536;
 
 /// A design that runs on a stimulus.
-#[derive(Drop)]
 pub struct Simulation<'a> {
     alloc: Global,
     runner: Runner<'a>,
@@ -23,6 +22,20 @@ pub struct Simulation<'a> {
     orders: Option<Orders>,
     /// The number of the next step; None before the trace's first line.
     next: Option<u64>,
+}
+
+// One call at each exit of what owns it.
+impl Drop for Simulation<'_> {
+    fn drop(self) {
+        let Simulation {
+            alloc: _,
+            runner: _runner,
+            ports: _ports,
+            steps: _steps,
+            orders: _orders,
+            next: _,
+        } = self;
+    }
 }
 
 impl<'a> Simulation<'a> {

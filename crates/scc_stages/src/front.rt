@@ -19,7 +19,6 @@ use scc_unroll::Unroll;
 use std::alloc::Global;
 
 /// What the stages make of a file, up to what the emitted module is written from.
-#[derive(Drop)]
 pub struct Front {
     /// The program without templates.
     pub plain: Plain,
@@ -31,6 +30,19 @@ pub struct Front {
     pub order: Order,
     /// The segments of each thread, in process order.
     pub splits: List<Split>,
+}
+
+// One call at each exit of what owns it.
+impl Drop for Front {
+    fn drop(self) {
+        let Front {
+            plain: _plain,
+            design: _design,
+            core: _core,
+            order: _order,
+            splits: _splits,
+        } = self;
+    }
 }
 
 /// What the stages make of a file whose top is the class of this name; `many` says whether it may have several clocks. The first

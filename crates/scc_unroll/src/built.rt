@@ -2,22 +2,44 @@
 use crate::line::Line;
 use crate::look::Marks;
 use crate::turns::{TURNS, next_of, put, start_of};
+use indexmap::IndexMap;
 use scc_base::{List, NoMemory, lost};
 use scc_bits::Value;
 use scc_core::{Copies, CoreExpr, CoreExprNode, CoreNode, CoreStmt, Count, Counters, Known};
 use std::alloc::Global;
 
 /// What is written out of a process.
-#[derive(Drop)]
 pub struct Unrolled<'a> {
-    pub alloc: Global,
-    pub known: Known<'a>,
-    pub marks: &'a Marks,
-    /// The counters of the loops that run, which stand as literals.
-    pub counters: Counters,
+    alloc: Global,
+    known: Known<'a>,
+    marks: &'a Marks,
+    // The counters of the loops that run, which stand as literals.
+    counters: Counters,
 }
 
-impl Unrolled<'_> {
+// One call at each exit of what owns it.
+impl Drop for Unrolled<'_> {
+    fn drop(self) {
+        let Unrolled {
+            alloc: _,
+            known: _,
+            marks: _,
+            counters: _counters,
+        } = self;
+    }
+}
+
+impl<'a> Unrolled<'a> {
+    /// No loop runs yet.
+    pub fn new(alloc: Global, known: Known<'a>, marks: &'a Marks) -> Unrolled<'a> {
+        Unrolled {
+            alloc,
+            known,
+            marks,
+            counters: IndexMap::new(alloc),
+        }
+    }
+
     fn start(&self, count: &Count) -> Result<Value, NoMemory> {
         start_of(count, self.alloc, self.known, &self.counters)
     }

@@ -21,7 +21,36 @@ pub struct Line {
 }
 
 /// How often each cell is assigned, with what is aimed at counted as many times more.
-pub type Uses = IndexMap<u32, u32>;
+pub struct Uses {
+    counts: IndexMap<u32, u32>,
+}
+
+// One call at each exit of what owns it.
+impl Drop for Uses {
+    fn drop(self) {
+        let Uses { counts: _counts } = self;
+    }
+}
+
+impl Uses {
+    /// Nothing is assigned yet.
+    pub fn new(alloc: Global) -> Uses {
+        Uses {
+            counts: IndexMap::new(alloc),
+        }
+    }
+
+    /// How often a cell is assigned.
+    pub fn of(&self, cell: u32) -> u32 {
+        self.counts.get(&cell).copied().unwrap_or(0)
+    }
+
+    fn add(&mut self, cell: u32, times: u32) -> Result<(), NoMemory> {
+        let count = self.of(cell).saturating_add(times);
+        let _old = self.counts.insert(cell, count)?;
+        Ok(())
+    }
+}
 
 /// More than any count of assignments that matters.
 const AIMED: u32 = 1_000;
@@ -99,12 +128,8 @@ fn note(s: &CoreStmt, uses: &mut Uses) -> Result<(), NoMemory> {
 }
 
 fn used(left: &CoreLeft, times: u32, uses: &mut Uses) -> Result<(), NoMemory> {
-    let CoreBase::Cell(cell) = left.base else {
-        return Ok(());
-    };
-    if left.parts.is_empty() {
-        let before = uses.get(&cell).copied().unwrap_or(0);
-        let _old = uses.insert(cell, before.saturating_add(times))?;
+    match left.base {
+        CoreBase::Cell(cell) if left.parts.is_empty() => uses.add(cell, times),
+        _ => Ok(()),
     }
-    Ok(())
 }

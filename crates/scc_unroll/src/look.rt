@@ -1,6 +1,7 @@
 //! Which loops are counted.
 use crate::line::{Line, Uses};
 use crate::turns::{number, put};
+use indexmap::IndexMap;
 use scc_base::{NoMemory, Place, lost, push};
 use scc_bits::{Value, Word};
 use scc_core::{CoreNode, CoreStmt, Count, Counters, Known};
@@ -14,12 +15,21 @@ pub struct Uncounted {
 }
 
 /// What was found of each statement, by its number in the walk.
-#[derive(Drop)]
 pub struct Marks {
     /// Whether it is a counted loop.
     counted: Vec<bool>,
     /// Whether a counted loop stands in it, or it is one.
     loops: Vec<bool>,
+}
+
+// One call at each exit of what owns them.
+impl Drop for Marks {
+    fn drop(self) {
+        let Marks {
+            counted: _counted,
+            loops: _loops,
+        } = self;
+    }
 }
 
 impl Marks {
@@ -60,14 +70,57 @@ impl Marks {
 }
 
 /// What the look is given, and what it notes.
-#[derive(Drop)]
 pub struct Look<'a> {
-    pub alloc: Global,
-    pub known: Known<'a>,
-    pub uses: &'a Uses,
-    /// The counters of the loops around, each as 0.
-    pub counters: Counters,
-    pub marks: Marks,
+    alloc: Global,
+    known: Known<'a>,
+    uses: &'a Uses,
+    // The counters of the loops around, each as 0.
+    counters: Counters,
+    marks: Marks,
+}
+
+// One call at each exit of what owns it.
+impl Drop for Look<'_> {
+    fn drop(self) {
+        let Look {
+            alloc: _,
+            known: _,
+            uses: _,
+            counters: _counters,
+            marks: _marks,
+        } = self;
+    }
+}
+
+impl<'a> Look<'a> {
+    /// A look at so many statements, with no loop around.
+    pub fn new(
+        alloc: Global,
+        known: Known<'a>,
+        uses: &'a Uses,
+        statements: u32,
+    ) -> Result<Look<'a>, NoMemory> {
+        let marks = Marks::new(alloc, statements)?;
+        Ok(Look {
+            alloc,
+            known,
+            uses,
+            counters: IndexMap::new(alloc),
+            marks,
+        })
+    }
+
+    /// What it noted.
+    pub fn into_marks(self) -> Marks {
+        let Look {
+            alloc: _,
+            known: _,
+            uses: _,
+            counters: _counters,
+            marks,
+        } = self;
+        marks
+    }
 }
 
 /// Marks the counted loops of some statements; the first other loop without a wait.
@@ -153,7 +206,7 @@ fn counted_by(
     let Some(count) = count else {
         return Ok(None);
     };
-    if line.waits || at.uses.get(&count.cell).copied().unwrap_or(0) > 2 {
+    if line.waits || at.uses.of(count.cell) > 2 {
         return Ok(None);
     }
     let known = at.known;

@@ -5,11 +5,10 @@ ghost use Rattle.scc_base.specs.declared.refusal.Stop.TheVariants as stop;
 ghost use Rattle.scc_unroll.specs.Unrolled.{KeepsAllButBodies, IsOfUnrolling, head_of};
 
 use crate::built::{Unrolled, unrolled_stmts};
-use crate::line::{Line, lines_of};
-use crate::look::{Look, Marks, look_over};
-use crate::turns::{STATEMENTS, TURNS, Turns, count_turns};
-use indexmap::IndexMap;
-use scc_base::{Code, List, NoMemory, Place, Stop, Tally};
+use crate::line::{Line, Uses, lines_of};
+use crate::look::{Look, Marks, Uncounted, look_over};
+use crate::turns::{Turns, count_turns};
+use scc_base::{Code, List, NoMemory, Place, Stop};
 use scc_core::{Core, CoreProcess, CoreStmt, Known, Pass, Places};
 use std::alloc::Global;
 
@@ -60,29 +59,11 @@ fn process(alloc: Global, known: Known<'_>, p: CoreProcess) -> Result<CoreProces
     ensures head { IfOk result (λ q. head_of q ≡ head_of p) }
     ensures stop { (r : Refusal) → result ≡ Err (stop.Refused r) → IsOfUnrolling r }
 {
-    let body = match new_body(alloc, known, p.body.as_slice(), p.place)? {
-        Some(body) => body,
-        None => return Ok(p),
-    };
-    let CoreProcess {
-        sort,
-        name,
-        place,
-        senses,
-        edge,
-        reset,
-        body: old,
-    } = p;
-    drop(old);
-    Ok(CoreProcess {
-        sort,
-        name,
-        place,
-        senses,
-        edge,
-        reset,
-        body,
-    })
+    let mut p = p;
+    if let Some(body) = new_body(alloc, known, p.body.as_slice(), p.place)? {
+        p.body = body;
+    }
+    Ok(p)
 }
 
 // The unrolled body; None where it has no counted loop.
@@ -94,19 +75,53 @@ fn new_body(
 ) -> Result<Option<List<CoreStmt>>, Stop>
     ensures stop { (r : Refusal) → result ≡ Err (stop.Refused r) → IsOfUnrolling r }
 {
-    let mut uses = IndexMap::new(alloc);
+    let found = found_in(alloc, known, body)?;
+    let lines = found.lines.as_slice();
+    let over = over_of(alloc, known, body, lines, &found.marks, place)?;
+    stop_at(found.uncounted, over)?;
+    if !has_any(lines, &found.marks) {
+        return Ok(None);
+    }
+    let mut u = Unrolled::new(alloc, known, &found.marks);
+    Ok(Some(unrolled_stmts(body, lines, &mut u)?))
+}
+
+// The statements of a body, and which of its loops are counted.
+struct Found {
+    lines: List<Line>,
+    marks: Marks,
+    uncounted: Option<Uncounted>,
+}
+
+// One call at each exit of what owns it.
+impl Drop for Found {
+    fn drop(self) {
+        let Found {
+            lines: _lines,
+            marks: _marks,
+            uncounted: _,
+        } = self;
+    }
+}
+
+fn found_in(alloc: Global, known: Known<'_>, body: &[CoreStmt]) -> Result<Found, NoMemory> {
+    let mut uses = Uses::new(alloc);
     let mut statements = 0;
     let lines = lines_of(body, alloc, &mut uses, &mut statements)?;
-    let mut at = Look {
-        alloc,
-        known,
-        uses: &uses,
-        counters: IndexMap::new(alloc),
-        marks: Marks::new(alloc, statements)?,
-    };
+    let mut at = Look::new(alloc, known, &uses, statements)?;
     let uncounted = look_over(body, lines.as_slice(), &mut at)?;
-    let Look { marks, .. } = at;
-    let over = over_of(alloc, known, body, lines.as_slice(), &marks, place)?;
+    let marks = at.into_marks();
+    Ok(Found {
+        lines,
+        marks,
+        uncounted,
+    })
+}
+
+// The first refusal of a body: a loop that isn't counted, or turns or statements past their limits.
+fn stop_at(uncounted: Option<Uncounted>, over: TooMany) -> Result<(), Stop>
+    ensures stop { (r : Refusal) → result ≡ Err (stop.Refused r) → IsOfUnrolling r }
+{
     if let Some(loop_of) = uncounted {
         let first = match over.position {
             Some(position) => loop_of.position < position,
@@ -116,19 +131,10 @@ fn new_body(
             return Err(Stop::refused(Code::UncountedLoop, loop_of.place));
         }
     }
-    if let Some(place) = over.place {
-        return Err(Stop::refused(Code::TooManyTurns, place));
+    match over.place {
+        Some(place) => Err(Stop::refused(Code::TooManyTurns, place)),
+        None => Ok(()),
     }
-    if !has_any(lines.as_slice(), &marks) {
-        return Ok(None);
-    }
-    let mut u = Unrolled {
-        alloc,
-        known,
-        marks: &marks,
-        counters: IndexMap::new(alloc),
-    };
-    Ok(Some(unrolled_stmts(body, lines.as_slice(), &mut u)?))
 }
 
 fn has_any(lines: &[Line], marks: &Marks) -> bool {
@@ -151,25 +157,16 @@ fn over_of(
     marks: &Marks,
     process: Place,
 ) -> Result<TooMany, NoMemory> {
-    let mut t = Turns {
-        alloc,
-        known,
-        marks,
-        counters: IndexMap::new(alloc),
-        turns: Tally::new(TURNS),
-        size: Tally::new(STATEMENTS),
-        over: None,
-    };
+    let mut t = Turns::new(alloc, known, marks);
     count_turns(body, lines, &mut t)?;
-    let Turns { over, size, .. } = t;
-    Ok(match over {
+    Ok(match t.over {
         Some(over) => TooMany {
             position: Some(over.position),
             place: Some(over.place),
         },
         None => TooMany {
             position: None,
-            place: size.is_over().then_some(process),
+            place: t.size.is_over().then_some(process),
         },
     })
 }

@@ -1,6 +1,7 @@
 //! Turns, counted in the order in which they run, before anything is written out.
 use crate::line::Line;
 use crate::look::Marks;
+use indexmap::IndexMap;
 use scc_base::{NoMemory, Place, Tally, lost};
 use scc_bits::{Kind, Value};
 use scc_core::{Copies, CoreExpr, CoreNode, CoreStmt, Count, Counters, Known};
@@ -9,7 +10,7 @@ use std::alloc::Global;
 /// The most turns of the counted loops of a process together.
 pub const TURNS: u32 = 4_096;
 /// The most statements of an unrolled body.
-pub const STATEMENTS: u32 = 65_536;
+const STATEMENTS: u32 = 65_536;
 
 /// A loop that makes a turn too many.
 #[derive(Clone, Copy)]
@@ -19,17 +20,31 @@ pub struct Over {
 }
 
 /// What is counted of a process.
-#[derive(Drop)]
 pub struct Turns<'a> {
-    pub alloc: Global,
-    pub known: Known<'a>,
-    pub marks: &'a Marks,
-    /// The counters of the loops that run.
-    pub counters: Counters,
-    pub turns: Tally,
+    alloc: Global,
+    known: Known<'a>,
+    marks: &'a Marks,
+    // The counters of the loops that run.
+    counters: Counters,
+    turns: Tally,
     /// The statements of the unrolled body.
     pub size: Tally,
     pub over: Option<Over>,
+}
+
+// One call at each exit of what owns it.
+impl Drop for Turns<'_> {
+    fn drop(self) {
+        let Turns {
+            alloc: _,
+            known: _,
+            marks: _,
+            counters: _counters,
+            turns: _,
+            size: _,
+            over: _,
+        } = self;
+    }
 }
 
 /// The number of an expression in which these counters stand as literals; None where it isn't static.
@@ -87,7 +102,20 @@ pub fn next_of(
     }
 }
 
-impl Turns<'_> {
+impl<'a> Turns<'a> {
+    /// Nothing is counted yet.
+    pub fn new(alloc: Global, known: Known<'a>, marks: &'a Marks) -> Turns<'a> {
+        Turns {
+            alloc,
+            known,
+            marks,
+            counters: IndexMap::new(alloc),
+            turns: Tally::new(TURNS),
+            size: Tally::new(STATEMENTS),
+            over: None,
+        }
+    }
+
     fn start(&self, count: &Count) -> Result<Value, NoMemory> {
         start_of(count, self.alloc, self.known, &self.counters)
     }
