@@ -64,7 +64,7 @@ fn first_statement(tree: &FileTree) -> Option<&Stmt> {
     last_body(tree)?.get(0)
 }
 
-fn show(s: &mut Shown, tree: &FileTree, view: &View) -> Result<(), AllocError> {
+fn show(s: &mut Shown, tree: &FileTree, view: &View) {
     match view {
         View::Placed => file(s, tree, 0),
         View::Items(skipped) => file(s, tree, *skipped),
@@ -127,8 +127,8 @@ fn read(alloc: Global, files: &mut MemFiles, text: &[u8], view: &View) -> Result
     match parse(alloc, &tokens) {
         Ok(tree) => {
             let mut shown = Shown::new(alloc, &names, matches!(view, View::Placed));
-            show(&mut shown, &tree, view)?;
-            Ok(shown.text)
+            show(&mut shown, &tree, view);
+            Ok(shown.finish()?)
         }
         Err(stop) => Ok(show_stop(alloc, text, &stop)?),
     }

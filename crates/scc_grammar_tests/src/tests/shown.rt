@@ -1,14 +1,16 @@
 //! A short printed form of trees. Nodes stand in parentheses, their sort first; operators stand between their operands, and
 //! what follows an expression behind it. Where places are shown, the number of a node's first byte stands before it.
-use scc_base::{List, Name, Names, Place};
+use scc_base::{List, Name, Names, NoMemory, Place};
 use scc_bits::{Kind, Op, Word};
 use scc_tree::{Expr, ExprNode, Family, Link, Part, PartNode, Ty, TyArg, TyNode, UnaryOp};
-use std::alloc::{AllocError, Global};
+use std::alloc::Global;
 
-/// What has been printed.
+/// What has been printed. It goes on after want of memory, which `finish` tells: a call that can't fail takes a sixth of the time
+/// of one that can, and these printers are nothing but calls.
 #[derive(Drop)]
 pub struct Shown<'a> {
-    pub text: String,
+    text: String,
+    lost: bool,
     alloc: Global,
     names: &'a Names,
     places: bool,
@@ -18,45 +20,57 @@ impl<'a> Shown<'a> {
     pub fn new(alloc: Global, names: &'a Names, places: bool) -> Shown<'a> {
         Shown {
             text: String::new(alloc),
+            lost: false,
             alloc,
             names,
             places,
         }
     }
 
-    pub fn word(&mut self, word: &str) -> Result<(), AllocError> {
-        self.text.push_str(word)
+    /// What has been printed, unless memory ran out.
+    pub fn finish(self) -> Result<String, NoMemory> {
+        let Shown { text, lost, .. } = self;
+        if lost {
+            return Err(NoMemory);
+        }
+        Ok(text)
     }
 
-    pub fn name(&mut self, name: Name) -> Result<(), AllocError> {
-        if self.names.has(name) {
-            self.text.push_str(self.names.text(name))
-        } else {
-            self.text.push_str("?")
+    pub fn word(&mut self, word: &str) {
+        if self.text.push_str(word).is_err() {
+            self.lost = true;
         }
     }
 
-    pub fn at(&mut self, place: Place) -> Result<(), AllocError> {
+    pub fn name(&mut self, name: Name) {
+        let names = self.names;
+        self.word(if names.has(name) {
+            names.text(name)
+        } else {
+            "?"
+        });
+    }
+
+    pub fn at(&mut self, place: Place) {
         if self.places {
-            let at = place.at;
-            let text = format!(in self.alloc; "{at}:")?;
-            self.text.push_str(text.as_str())
-        } else {
-            Ok(())
+            self.size(place.at as usize);
+            self.word(":");
         }
     }
 
-    fn bits(&mut self, bits: u128) -> Result<(), AllocError> {
-        let text = format!(in self.alloc; "{bits}")?;
-        self.text.push_str(text.as_str())
+    fn bits(&mut self, bits: u128) {
+        match format!(in self.alloc; "{bits}") {
+            Ok(text) => self.word(text.as_str()),
+            Err(_) => self.lost = true,
+        }
     }
 
-    pub fn count(&mut self, count: u32) -> Result<(), AllocError> {
-        self.bits(u128::from(count))
+    pub fn count(&mut self, count: u32) {
+        self.bits(u128::from(count));
     }
 
-    pub fn size(&mut self, size: usize) -> Result<(), AllocError> {
-        self.bits(size as u128)
+    pub fn size(&mut self, size: usize) {
+        self.bits(size as u128);
     }
 }
 
@@ -132,7 +146,7 @@ fn family_word(family: Family) -> &'static str {
     }
 }
 
-fn number(s: &mut Shown, kind: Kind, word: Word) -> Result<(), AllocError> {
+fn number(s: &mut Shown, kind: Kind, word: Word) {
     match kind {
         Kind::Bool if word.bits == 0 => s.word("false"),
         Kind::Bool if word.bits == 1 => s.word("true"),
@@ -141,65 +155,63 @@ fn number(s: &mut Shown, kind: Kind, word: Word) -> Result<(), AllocError> {
             signed: true,
         } => s.bits(word.bits),
         _ => {
-            s.bits(word.bits)?;
-            s.word(":")?;
-            s.word(kind_word(kind))
+            s.bits(word.bits);
+            s.word(":");
+            s.word(kind_word(kind));
         }
     }
 }
 
 #[cycle(shown_expr)]
-fn around(s: &mut Shown, word: &str, of: &Ty) -> Result<(), AllocError> {
-    s.word(word)?;
-    ty(s, of)?;
-    s.word(")")
+fn around(s: &mut Shown, word: &str, of: &Ty) {
+    s.word(word);
+    ty(s, of);
+    s.word(")");
 }
 
 #[cycle(shown_expr)]
-fn arg(s: &mut Shown, a: &TyArg) -> Result<(), AllocError> {
+fn arg(s: &mut Shown, a: &TyArg) {
     match a {
         TyArg::Value(e) => expr(s, e),
         TyArg::Named(t) => {
-            s.word(":")?;
-            ty(s, t)
+            s.word(":");
+            ty(s, t);
         }
     }
 }
 
 /// The arguments, each behind a blank.
 #[cycle(shown_expr)]
-pub fn args(s: &mut Shown, list: &List<TyArg>) -> Result<(), AllocError> {
+pub fn args(s: &mut Shown, list: &List<TyArg>) {
     for a in list.as_slice() {
-        s.word(" ")?;
-        arg(s, a)?;
+        s.word(" ");
+        arg(s, a);
     }
-    Ok(())
 }
 
 /// The expressions, each behind a blank.
 #[cycle(shown_expr)]
-pub fn exprs(s: &mut Shown, list: &List<Expr>) -> Result<(), AllocError> {
+pub fn exprs(s: &mut Shown, list: &List<Expr>) {
     for e in list.as_slice() {
-        s.word(" ")?;
-        expr(s, e)?;
+        s.word(" ");
+        expr(s, e);
     }
-    Ok(())
 }
 
 #[cycle(shown_expr)]
-pub fn ty(s: &mut Shown, t: &Ty) -> Result<(), AllocError> {
-    s.at(t.place)?;
+pub fn ty(s: &mut Shown, t: &Ty) {
+    s.at(t.place);
     if t.constant {
-        s.word("const ")?;
+        s.word("const ");
     }
     match t.node.get() {
         TyNode::Number(kind) => s.word(kind_word(*kind)),
         TyNode::Sized { family, width } => {
-            s.word("(")?;
-            s.word(family_word(*family))?;
-            s.word(" ")?;
-            expr(s, width)?;
-            s.word(")")
+            s.word("(");
+            s.word(family_word(*family));
+            s.word(" ");
+            expr(s, width);
+            s.word(")");
         }
         TyNode::Input(of) => around(s, "(in ", of),
         TyNode::Output(of) => around(s, "(out ", of),
@@ -211,79 +223,76 @@ pub fn ty(s: &mut Shown, t: &Ty) -> Result<(), AllocError> {
             name,
             args: Some(list),
         } => {
-            s.word("(")?;
-            s.name(*name)?;
-            args(s, list)?;
-            s.word(")")
+            s.word("(");
+            s.name(*name);
+            args(s, list);
+            s.word(")");
         }
     }
 }
 
 #[cycle(shown_expr)]
-fn links(s: &mut Shown, list: &List<Link>) -> Result<(), AllocError> {
+fn links(s: &mut Shown, list: &List<Link>) {
     for l in list.as_slice() {
-        s.word(" ")?;
-        s.at(l.place)?;
-        s.word(op_word(l.op))?;
-        s.word(" ")?;
-        expr(s, &l.operand)?;
+        s.word(" ");
+        s.at(l.place);
+        s.word(op_word(l.op));
+        s.word(" ");
+        expr(s, &l.operand);
     }
-    Ok(())
 }
 
 // The expressions, with a blank between two.
 #[cycle(shown_expr)]
-fn call_args(s: &mut Shown, list: &List<Expr>) -> Result<(), AllocError> {
+fn call_args(s: &mut Shown, list: &List<Expr>) {
     let mut first = true;
     for e in list.as_slice() {
         if !first {
-            s.word(" ")?;
+            s.word(" ");
         }
         first = false;
-        expr(s, e)?;
+        expr(s, e);
     }
-    Ok(())
 }
 
 #[cycle(shown_expr)]
-fn part(s: &mut Shown, p: &Part) -> Result<(), AllocError> {
+fn part(s: &mut Shown, p: &Part) {
     match &p.node {
         PartNode::Index(e) => {
-            s.at(p.place)?;
-            s.word("[")?;
-            expr(s, e)?;
-            s.word("]")
+            s.at(p.place);
+            s.word("[");
+            expr(s, e);
+            s.word("]");
         }
         PartNode::Member(name) => {
-            s.word(".")?;
-            s.at(p.place)?;
-            s.name(*name)
+            s.word(".");
+            s.at(p.place);
+            s.name(*name);
         }
         PartNode::Arrow(name) => {
-            s.word("->")?;
-            s.at(p.place)?;
-            s.name(*name)
+            s.word("->");
+            s.at(p.place);
+            s.name(*name);
         }
         PartNode::Call(list) => {
-            s.at(p.place)?;
-            s.word("(")?;
-            call_args(s, list)?;
-            s.word(")")
+            s.at(p.place);
+            s.word("(");
+            call_args(s, list);
+            s.word(")");
         }
     }
 }
 
 #[cycle(shown_expr)]
-fn parts(s: &mut Shown, list: &List<Part>) -> Result<(), AllocError> {
+fn parts(s: &mut Shown, list: &List<Part>) {
     for p in list.as_slice() {
-        part(s, p)?;
+        part(s, p);
     }
-    Ok(())
 }
 
 #[cycle(shown_expr)]
-pub fn expr(s: &mut Shown, e: &Expr) -> Result<(), AllocError> {
-    s.at(e.place)?;
+pub fn expr(s: &mut Shown, e: &Expr) {
+    s.at(e.place);
     match e.node.get() {
         ExprNode::Number(kind, word) => number(s, *kind, *word),
         ExprNode::This => s.word("this"),
@@ -291,55 +300,55 @@ pub fn expr(s: &mut Shown, e: &Expr) -> Result<(), AllocError> {
         ExprNode::Text => s.word("text"),
         ExprNode::Ident(name) => s.name(*name),
         ExprNode::Scoped { ty: t, member } => {
-            s.word("(:: ")?;
-            ty(s, t)?;
-            s.word(" ")?;
-            s.name(*member)?;
-            s.word(")")
+            s.word("(:: ");
+            ty(s, t);
+            s.word(" ");
+            s.name(*member);
+            s.word(")");
         }
         ExprNode::Chain { first, rest } => {
-            s.word("(")?;
-            expr(s, first)?;
-            links(s, rest)?;
-            s.word(")")
+            s.word("(");
+            expr(s, first);
+            links(s, rest);
+            s.word(")");
         }
         ExprNode::Unary { op, of } => {
-            s.word("(")?;
-            s.word(unary_word(*op))?;
-            s.word(" ")?;
-            expr(s, of)?;
-            s.word(")")
+            s.word("(");
+            s.word(unary_word(*op));
+            s.word(" ");
+            expr(s, of);
+            s.word(")");
         }
         ExprNode::Cond { test, yes, no } => {
-            s.word("(? ")?;
-            expr(s, test)?;
-            s.word(" ")?;
-            expr(s, yes)?;
-            s.word(" ")?;
-            expr(s, no)?;
-            s.word(")")
+            s.word("(? ");
+            expr(s, test);
+            s.word(" ");
+            expr(s, yes);
+            s.word(" ");
+            expr(s, no);
+            s.word(")");
         }
         ExprNode::Cast { ty: t, of } => {
-            s.word("(cast ")?;
-            ty(s, t)?;
-            s.word(" ")?;
-            expr(s, of)?;
-            s.word(")")
+            s.word("(cast ");
+            ty(s, t);
+            s.word(" ");
+            expr(s, of);
+            s.word(")");
         }
         ExprNode::Parts { of, parts: list } => {
-            expr(s, of)?;
-            parts(s, list)
+            expr(s, of);
+            parts(s, list);
         }
         ExprNode::Concat(list) => {
-            s.word("(concat")?;
-            exprs(s, list)?;
-            s.word(")")
+            s.word("(concat");
+            exprs(s, list);
+            s.word(")");
         }
         ExprNode::Make { ty: t, args: list } => {
-            s.word("(new ")?;
-            ty(s, t)?;
-            exprs(s, list)?;
-            s.word(")")
+            s.word("(new ");
+            ty(s, t);
+            exprs(s, list);
+            s.word(")");
         }
     }
 }
