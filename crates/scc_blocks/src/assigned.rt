@@ -1,4 +1,5 @@
 //! Which variables statements assign.
+use crate::stamps::Stamps;
 use scc_base::{NoMemory, lost, push};
 use scc_svtree::{SvArm, SvLeft, SvStmt, VarId};
 use std::alloc::Global;
@@ -14,13 +15,7 @@ pub struct Assigned {
     pub temporaries: Vec<bool>,
 }
 
-/// For each cell and next value the last process that assigns it, counted from 1; 0 for none.
-#[derive(Drop)]
-pub struct Stamps {
-    pub by: Vec<u32>,
-}
-
-/// What a process's statements assign. `turn` is the process's number, counted from 1.
+/// What a process's statements assign. `turn` is the process's number, counted from 1; `stamps` has all cells and next values.
 pub fn assigned_by(
     alloc: Global,
     body: &[SvStmt],

@@ -11,7 +11,6 @@ use scc_svtree::{Dir, SvVar};
 use std::alloc::Global;
 
 /// The variables of a module, and the numbers that they have there.
-#[derive(Drop)]
 pub struct Declared {
     pub vars: List<SvVar>,
     /// Of cell c at 2c, of its next value at 2c + 1.
@@ -20,13 +19,31 @@ pub struct Declared {
     pub own: Vec<Own>,
 }
 
+impl Drop for Declared {
+    fn drop(self) {
+        let Declared {
+            vars: _vars,
+            cells: _cells,
+            own: _own,
+        } = self;
+    }
+}
+
 /// The numbers of a process's own variables.
-#[derive(Drop)]
 pub struct Own {
     /// That of the variable of blocks that are left, then the temporaries.
     pub next: Vec<u32>,
     /// State, next state, counter, next counter.
     pub last: Vec<u32>,
+}
+
+impl Drop for Own {
+    fn drop(self) {
+        let Own {
+            next: _next,
+            last: _last,
+        } = self;
+    }
 }
 
 /// What is to be declared of a process.
@@ -57,6 +74,16 @@ pub fn nothing(alloc: Global, cells: usize) -> Result<Declared, NoMemory> {
 }
 
 impl Declared {
+    /// The variables, which are all that is left of it.
+    pub fn into_vars(self) -> List<SvVar> {
+        let Declared {
+            vars,
+            cells: _cells,
+            own: _own,
+        } = self;
+        vars
+    }
+
     // A variable of a name; its number.
     fn put(&mut self, name: Text, width: u32, dir: Dir) -> Result<u32, NoMemory> {
         let Ok(number) = u32::try_from(self.vars.len()) else {

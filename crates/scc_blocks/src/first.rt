@@ -22,8 +22,18 @@ pub fn registers_of(
     cells: &[u32],
     declared: &Declared,
     own: &Own,
-) -> Result<Vec<Register>, NoMemory> {
+) -> Result<List<Register>, NoMemory> {
     let mut found = Vec::new(alloc);
+    find_registers(cells, declared, own, &mut found)?;
+    Ok(List::from_vec(found))
+}
+
+fn find_registers(
+    cells: &[u32],
+    declared: &Declared,
+    own: &Own,
+    found: &mut Vec<Register>,
+) -> Result<(), NoMemory> {
     for cell in cells {
         let at = *cell as usize;
         match (declared.cells.get(2 * at), declared.cells.get(2 * at + 1)) {
@@ -32,7 +42,7 @@ pub fn registers_of(
                     return Err(lost());
                 };
                 push(
-                    &mut found,
+                    found,
                     Register {
                         now: *now,
                         next: *next,
@@ -51,11 +61,11 @@ pub fn registers_of(
         (*counter, *next_counter, crate::thread::COUNTER),
     ] {
         if now != UNDECLARED {
-            push(&mut found, Register { now, next, lowered })?;
+            push(found, Register { now, next, lowered })?;
         }
     }
     found.sort()?;
-    Ok(found)
+    Ok(())
 }
 
 /// A variable that a block assigns, and the register whose next value it is.
@@ -75,30 +85,50 @@ pub fn first_assignments(
     own: &Own,
 ) -> Result<List<SvStmt>, NoMemory> {
     let mut targets = Vec::new(alloc);
+    find_targets(assigned, registers, declared, own, &mut targets)?;
+    firsts(alloc, targets.as_slice(), declared)
+}
+
+// What is assigned first, in declaration order; where a variable is met twice, its register stands first.
+fn find_targets(
+    assigned: &Assigned,
+    registers: &[Register],
+    declared: &Declared,
+    own: &Own,
+    targets: &mut Vec<Target>,
+) -> Result<(), NoMemory> {
     for r in registers {
         let target = Target {
             var: r.next,
             of: r.now,
         };
-        push(&mut targets, target)?;
+        push(targets, target)?;
     }
     for lowered in assigned.cells.iter() {
         let Some(var) = declared.cells.get(*lowered as usize) else {
             return Err(lost());
         };
         let of = UNDECLARED;
-        push(&mut targets, Target { var: *var, of })?;
+        push(targets, Target { var: *var, of })?;
     }
     for var in own.next.iter() {
         if *var != UNDECLARED {
             let of = UNDECLARED;
-            push(&mut targets, Target { var: *var, of })?;
+            push(targets, Target { var: *var, of })?;
         }
     }
     targets.sort()?;
+    Ok(())
+}
+
+fn firsts(
+    alloc: Global,
+    targets: &[Target],
+    declared: &Declared,
+) -> Result<List<SvStmt>, NoMemory> {
     let mut out = List::new(alloc);
     let mut before = None;
-    for target in targets.iter() {
+    for target in targets {
         if before != Some(target.var) {
             out.push(first(alloc, *target, declared)?)?;
         }

@@ -7,6 +7,7 @@ mod declare;
 mod first;
 mod module;
 mod reset;
+mod stamps;
 mod thread;
 mod views;
 mod written;

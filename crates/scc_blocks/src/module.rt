@@ -1,15 +1,16 @@
 //! The module.
-use crate::assigned::{Assigned, Stamps, assigned_by};
+use crate::assigned::{Assigned, assigned_by};
 use crate::body::{Body, method_body, thread_body};
 use crate::declare::{Declared, Own, Wanted, nothing};
 use crate::first::{first_assignments, registers_of, sets_of};
 use crate::reset::loads_of;
+use crate::stamps::Stamps;
 use crate::thread::{Widths, widths_of};
 use crate::views::{Views, views_of};
 use crate::written::written;
 use scc_base::{Boxed, List, Names, NoMemory, Text, lost, push};
 use scc_bits::{Word, width};
-use scc_core::{CellSort, Core, CoreProcess, Places, Sort2};
+use scc_core::{CellSort, Core, CoreProcess, CoreStmt, Places, Sort2};
 use scc_flow::live;
 use scc_lower::{Cells, View};
 use scc_renumber::{Ids, UNDECLARED, renumbered};
@@ -35,32 +36,47 @@ pub fn blocks(
     s: &[Split],
 ) -> Result<SvModule, NoMemory> {
     let places = Places::of(alloc, &c.cells, &c.vectors)?;
-    let cells = Cells::new(&c.cells, &places);
     let splits = splits_of(alloc, c, s)?;
-    let (views, bodies) = bodies_of(alloc, c, cells, splits.as_slice())?;
+    let cells = Cells::new(&c.cells, &places);
+    module(alloc, names, c, o.as_slice(), cells, splits.as_slice())
+}
+
+fn module(
+    alloc: Global,
+    names: &Names,
+    c: &Core,
+    order: &[u32],
+    cells: Cells<'_>,
+    splits: &[Option<&Split>],
+) -> Result<SvModule, NoMemory> {
+    let lives = lives_of(alloc, c, cells)?;
+    let views = views_of(alloc, c, lives.writes.as_slice(), splits)?;
+    let bodies = bodies_of(alloc, c, cells, splits, &lives, views.views.as_slice())?;
     let assigned = all_assigned(alloc, c, bodies.as_slice())?;
     let every = every_assigned(alloc, c, assigned.as_slice(), &views)?;
-    let declared = declare(
+    let mut declared = nothing(alloc, c.cells.len())?;
+    declare(
         alloc,
         names,
         c,
-        splits.as_slice(),
+        splits,
         bodies.as_slice(),
         assigned.as_slice(),
         every.as_slice(),
+        &mut declared,
     )?;
     let made = Made {
         c,
         cells,
-        splits: splits.as_slice(),
+        splits,
         views: &views,
         bodies: bodies.as_slice(),
         assigned: assigned.as_slice(),
         declared: &declared,
     };
-    let blocks = all_blocks(alloc, made, o.as_slice())?;
+    let blocks = all_blocks(alloc, made, order)?;
     let name = Text::from_bytes(alloc, name_of(names, c)?)?;
-    let Declared { vars, .. } = declared;
+    let vars = declared.into_vars();
     Ok(SvModule { name, vars, blocks })
 }
 
@@ -95,77 +111,77 @@ fn splits_of<'a>(
     Ok(found)
 }
 
-fn kept_of<'a>(split: Option<&'a Split>) -> &'a [u32] {
-    match split {
-        Some(split) => split.kept.as_slice(),
-        None => &[],
+/// The live statements of each process, and the cells that they write.
+struct Lives {
+    lists: List<List<CoreStmt>>,
+    writes: List<List<u32>>,
+}
+
+impl Drop for Lives {
+    fn drop(self) {
+        let Lives {
+            lists: _lists,
+            writes: _writes,
+        } = self;
     }
 }
 
-// The views of all cells, and the statements of each process.
+fn lives_of(alloc: Global, c: &Core, cells: Cells<'_>) -> Result<Lives, NoMemory> {
+    let mut stamps = Stamps::new(alloc);
+    stamps.grow(cells.cells.len())?;
+    let mut lives = Lives {
+        lists: List::new(alloc),
+        writes: List::new(alloc),
+    };
+    let mut turn = 0u32;
+    for process in c.processes.as_slice() {
+        turn = turn.checked_add(1).ok_or(lost())?;
+        let live = live(alloc, &cells.known, process.body.as_slice())?;
+        let writes = written(alloc, live.as_slice(), cells, turn, &mut stamps)?;
+        lives.writes.push(writes)?;
+        lives.lists.push(live)?;
+    }
+    Ok(lives)
+}
+
+// The statements of each process.
 fn bodies_of(
     alloc: Global,
     c: &Core,
     cells: Cells<'_>,
     splits: &[Option<&Split>],
-) -> Result<(Views, Vec<Body>), NoMemory> {
-    let mut lives = Vec::new(alloc);
-    let mut writes = Vec::new(alloc);
-    let mut kept = Vec::new(alloc);
-    let mut stamps = Vec::new(alloc);
-    for _ in cells.cells {
-        push(&mut stamps, 0)?;
-    }
-    let mut turn = 0u32;
-    for (process, split) in c.processes.as_slice().iter().zip(splits.iter()) {
-        let Some(next) = turn.checked_add(1) else {
-            return Err(lost());
-        };
-        turn = next;
-        let live = live(alloc, &cells.known, process.body.as_slice())?;
-        push(
-            &mut writes,
-            written(alloc, live.as_slice(), cells, turn, &mut stamps)?,
-        )?;
-        push(&mut lives, live)?;
-        push(&mut kept, kept_of(*split))?;
-    }
-    let views = views_of(alloc, c, writes.as_slice(), kept.as_slice())?;
-    let mut bodies = Vec::new(alloc);
+    lives: &Lives,
+    views: &[View],
+) -> Result<List<Body>, NoMemory> {
+    let mut bodies = List::new(alloc);
     for ((process, split), live) in c
         .processes
         .as_slice()
         .iter()
         .zip(splits.iter())
-        .zip(lives.iter())
+        .zip(lives.lists.as_slice().iter())
     {
         let body = match split {
-            Some(split) => thread_body(alloc, process, split, cells, views.views.as_slice())?,
-            None => method_body(alloc, live.as_slice(), cells, views.views.as_slice())?,
+            Some(split) => thread_body(alloc, process, split, cells, views)?,
+            None => method_body(alloc, live.as_slice(), cells, views)?,
         };
-        push(&mut bodies, body)?;
+        bodies.push(body)?;
     }
-    Ok((views, bodies))
+    Ok(bodies)
 }
 
-fn all_assigned(alloc: Global, c: &Core, bodies: &[Body]) -> Result<Vec<Assigned>, NoMemory> {
-    let mut stamps = Stamps {
-        by: Vec::new(alloc),
-    };
-    for _ in c.cells.as_slice() {
-        push(&mut stamps.by, 0)?;
-        push(&mut stamps.by, 0)?;
-    }
-    let mut found = Vec::new(alloc);
+fn all_assigned(alloc: Global, c: &Core, bodies: &[Body]) -> Result<List<Assigned>, NoMemory> {
+    let mut stamps = Stamps::new(alloc);
+    // cells and next values
+    stamps.grow(c.cells.len())?;
+    stamps.grow(c.cells.len())?;
+    let mut found = List::new(alloc);
     let mut turn = 0u32;
     for body in bodies {
-        let Some(next) = turn.checked_add(1) else {
-            return Err(lost());
-        };
-        turn = next;
+        turn = turn.checked_add(1).ok_or(lost())?;
         let stmts = body.stmts.as_slice();
         let assigned = assigned_by(alloc, stmts, body.temporaries.len(), turn, &mut stamps)?;
-        push(&mut found, assigned)?;
+        found.push(assigned)?;
     }
     Ok(found)
 }
@@ -176,24 +192,34 @@ fn every_assigned(
     c: &Core,
     assigned: &[Assigned],
     views: &Views,
-) -> Result<Vec<bool>, NoMemory> {
+) -> Result<List<bool>, NoMemory> {
     let mut every = Vec::new(alloc);
+    note_assigned(c, assigned, views, &mut every)?;
+    Ok(List::from_vec(every))
+}
+
+fn note_assigned(
+    c: &Core,
+    assigned: &[Assigned],
+    views: &Views,
+    every: &mut Vec<bool>,
+) -> Result<(), NoMemory> {
     for _ in c.cells.as_slice() {
-        push(&mut every, false)?;
-        push(&mut every, false)?;
+        push(every, false)?;
+        push(every, false)?;
     }
     for a in assigned {
         for lowered in a.cells.iter() {
-            set(&mut every, *lowered as usize)?;
+            set(every, *lowered as usize)?;
         }
     }
     for registers in views.registers.iter() {
         for cell in registers.iter() {
-            set(&mut every, 2 * *cell as usize)?;
-            set(&mut every, 2 * *cell as usize + 1)?;
+            set(every, 2 * *cell as usize)?;
+            set(every, 2 * *cell as usize + 1)?;
         }
     }
-    Ok(every)
+    Ok(())
 }
 
 fn set(every: &mut Vec<bool>, at: usize) -> Result<(), NoMemory> {
@@ -207,10 +233,15 @@ fn set(every: &mut Vec<bool>, at: usize) -> Result<(), NoMemory> {
 }
 
 // The cells of each process's locals, in the order in which they are numbered.
-fn locals_of(alloc: Global, c: &Core) -> Result<Vec<Vec<u32>>, NoMemory> {
+fn locals_of(alloc: Global, c: &Core) -> Result<List<Vec<u32>>, NoMemory> {
     let mut found = Vec::new(alloc);
+    find_locals(alloc, c, &mut found)?;
+    Ok(List::from_vec(found))
+}
+
+fn find_locals(alloc: Global, c: &Core, found: &mut Vec<Vec<u32>>) -> Result<(), NoMemory> {
     for _ in c.processes.as_slice() {
-        push(&mut found, Vec::new(alloc))?;
+        push(found, Vec::new(alloc))?;
     }
     let mut at = 0u32;
     for cell in c.cells.as_slice() {
@@ -221,12 +252,9 @@ fn locals_of(alloc: Global, c: &Core) -> Result<Vec<Vec<u32>>, NoMemory> {
                 None => return Err(lost()),
             }
         }
-        let Some(next) = at.checked_add(1) else {
-            return Err(lost());
-        };
-        at = next;
+        at = at.checked_add(1).ok_or(lost())?;
     }
-    Ok(found)
+    Ok(())
 }
 
 fn declare(
@@ -237,8 +265,8 @@ fn declare(
     bodies: &[Body],
     assigned: &[Assigned],
     every: &[bool],
-) -> Result<Declared, NoMemory> {
-    let mut declared = nothing(alloc, c.cells.len())?;
+    declared: &mut Declared,
+) -> Result<(), NoMemory> {
     declared.ports(alloc, names, c)?;
     declared.objects(alloc, names, c, every)?;
     let locals = locals_of(alloc, c)?;
@@ -268,7 +296,7 @@ fn declare(
         };
         declared.process(alloc, names, c, wanted, every)?;
     }
-    Ok(declared)
+    Ok(())
 }
 
 /// All that the blocks are written from.

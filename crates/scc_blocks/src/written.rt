@@ -1,5 +1,6 @@
 //! Which cells a process writes.
-use scc_base::{List, NoMemory, lost, push};
+use crate::stamps::Stamps;
+use scc_base::{List, NoMemory, lost};
 use scc_core::{CoreNode, CoreStmt};
 use scc_lower::{Cells, cells_of};
 use std::alloc::Global;
@@ -11,7 +12,7 @@ pub fn written(
     live: &[CoreStmt],
     cells: Cells<'_>,
     turn: u32,
-    stamps: &mut Vec<u32>,
+    stamps: &mut Stamps,
 ) -> Result<List<u32>, NoMemory> {
     let mut out = List::new(alloc);
     each(live, alloc, cells, turn, stamps, &mut out)?;
@@ -24,7 +25,7 @@ fn each(
     alloc: Global,
     cells: Cells<'_>,
     turn: u32,
-    stamps: &mut Vec<u32>,
+    stamps: &mut Stamps,
     out: &mut List<u32>,
 ) -> Result<(), NoMemory> {
     for s in body {
@@ -39,7 +40,7 @@ fn one(
     alloc: Global,
     cells: Cells<'_>,
     turn: u32,
-    stamps: &mut Vec<u32>,
+    stamps: &mut Stamps,
     out: &mut List<u32>,
 ) -> Result<(), NoMemory> {
     match &s.node {
@@ -60,8 +61,8 @@ fn one(
     }
 }
 
-fn note(cell: u32, turn: u32, stamps: &mut Vec<u32>, out: &mut List<u32>) -> Result<(), NoMemory> {
-    match stamps.get_mut(cell as usize) {
+fn note(cell: u32, turn: u32, stamps: &mut Stamps, out: &mut List<u32>) -> Result<(), NoMemory> {
+    match stamps.by.get_mut(cell as usize) {
         Some(stamp) => {
             if *stamp != turn {
                 *stamp = turn;

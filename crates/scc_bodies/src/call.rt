@@ -9,92 +9,12 @@ use scc_base::{Code, List, Name, NoMemory, Place, Stop, lost};
 use scc_drafts::draft::load;
 use scc_drafts::flow::Flow;
 use scc_drafts::form::Form;
-use scc_drafts::meant::{Meant, Method, PortCall, Subject};
+use scc_drafts::meant::{Meant, Subject};
 use scc_drafts::pick::ranged;
 use scc_drafts::refusal::{gone, refuse};
 use scc_plaintree::{Base, PlainArg, PlainBase, PlainLeft, PlainNode, PlainStmt};
 use scc_templates::{FunctionKey, InstanceId};
 use scc_tree::{Expr, FileTree};
-
-/// A call by what it is made of.
-#[derive(Drop)]
-pub(crate) enum Call {
-    /// Of a function, which is named at a place.
-    Function {
-        scope: Option<InstanceId>,
-        name: Name,
-        object: Option<PlainLeft>,
-        place: Place,
-    },
-    /// One that stands only as a statement or a sensitivity.
-    Done {
-        call: PortCall,
-        of: Subject,
-    },
-    /// A range of bits.
-    Range(Subject),
-    /// One of the language without arguments.
-    Method {
-        method: Method,
-        of: Subject,
-    },
-    /// None.
-    Wrong,
-}
-
-fn of_method(method: Method, of: Subject, count: usize) -> Call {
-    match method {
-        Method::Port(call) => Call::Done { call, of },
-        Method::Range => {
-            if count == 2 {
-                return Call::Range(of);
-            }
-            Call::Wrong
-        }
-        _ => {
-            if count == 0 {
-                return Call::Method { method, of };
-            }
-            Call::Wrong
-        }
-    }
-}
-
-// Brackets behind what is no function: a binding, or a range of bits.
-fn of_subject(of: Subject, is_port: bool, count: usize) -> Call {
-    if is_port && count == 1 {
-        let call = PortCall::Bind;
-        return Call::Done { call, of };
-    }
-    if count == 2 {
-        return Call::Range(of);
-    }
-    Call::Wrong
-}
-
-/// What brackets with so many arguments are behind what is named.
-pub(crate) fn call_of(m: Meant, count: usize) -> Call {
-    match m {
-        Meant::Function {
-            scope,
-            name,
-            object,
-            place,
-        } => Call::Function {
-            scope,
-            name,
-            object,
-            place,
-        },
-        Meant::Built { method, of } => of_method(method, of, count),
-        Meant::Loc(l) => {
-            let is_port = l.form.is_port();
-            of_subject(Subject::Loc(l), is_port, count)
-        }
-        Meant::Value(x) => of_subject(Subject::Value(x), false, count),
-        _ => Call::Wrong,
-    }
-}
 
 impl Walk {
     /// The function that is called, with its parameters known. Refuses by E301 at the name where it has no body.

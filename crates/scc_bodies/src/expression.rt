@@ -3,20 +3,20 @@ ghost use Rattle.std.specs.Prelude.{IfErr};
 ghost use Rattle.scc_drafts.specs.Refusals.{MayStop};
 
 use crate::body::Body;
-use crate::call::{Call, call_of};
 use crate::function::FunctionId;
 use crate::walk::Walk;
 use scc_base::{Code, List, Place, Stop, lost};
 use scc_bits::{Kind, Value, Word};
+use scc_drafts::call::Call;
 use scc_drafts::draft::{Draft, cast, choose, convert, literal, operate, operate_one};
 use scc_drafts::flow::Flow;
 use scc_drafts::form::{Form, number_kind};
 use scc_drafts::join::Joining;
-use scc_drafts::meant::{Meant, taken};
+use scc_drafts::meant::Meant;
 use scc_drafts::pick::{answered, indexed};
 use scc_drafts::refusal::refuse;
 use scc_drafts::syntax::{is_lazy, is_text, made_args, operator_of};
-use scc_drafts::target::{aimed, is_zero};
+use scc_drafts::target::is_zero;
 use scc_plaintree::{Base, PlainArg, PlainTarget, Reach};
 use scc_templates::TypeOf;
 use scc_tree::{Expr, ExprNode, FileTree, Link, Part, PartNode, UnaryOp};
@@ -88,7 +88,7 @@ impl Walk {
         ensures stop { IfErr result MayStop }
     {
         let m = self.meant(e, tree, flow, b)?;
-        taken(self.alloc, m, e.place)
+        m.value(self.alloc, e.place)
     }
 
     // Operators of one precedence, from the left.
@@ -135,20 +135,20 @@ impl Walk {
         ensures stop { IfErr result MayStop }
     {
         if let Some(op) = operator_of(op) {
-            let x = taken(self.alloc, m, of)?;
+            let x = m.value(self.alloc, of)?;
             return Ok(Meant::Value(operate_one(self.alloc, place, op, x)?));
         }
         if op == UnaryOp::Deref {
-            return Ok(Meant::Loc(self.followed(m, place, b)?));
+            return Ok(Meant::Loc(m.followed(self.alloc, b.scope, place)?));
         }
-        match m {
-            Meant::Loc(l) => {
+        match m.loc() {
+            Some(l) => {
                 if l.form.dims > 0 || l.pick.is_some() {
                     return refuse(Code::Mismatch, place);
                 }
                 Ok(Meant::Address(l))
             }
-            _ => refuse(Code::Mismatch, place),
+            None => refuse(Code::Mismatch, place),
         }
     }
 
@@ -220,7 +220,7 @@ impl Walk {
     ) -> Result<Meant, Stop>
         ensures stop { IfErr result MayStop }
     {
-        match call_of(m, args.len()) {
+        match m.call(args.len()) {
             Call::Function {
                 scope,
                 name,
@@ -341,7 +341,7 @@ impl Walk {
         if is_zero(e) && form.reach == Reach::Pointer {
             return Ok(PlainTarget::Null);
         }
-        aimed(self.alloc, m, form, b.scope, e.place)
+        m.aimed(self.alloc, form, b.scope, e.place)
     }
 
     /// The value of a condition, a `bool`; E304 where it has none.

@@ -13,7 +13,7 @@ pub use function::FunctionId;
 pub use scc_drafts::draft::{Draft, convert, literal, load, operate};
 pub use scc_drafts::flow::Flow;
 pub use scc_drafts::form::{Form, Loc, base_of, reach_of};
-pub use scc_drafts::meant::{Meant, Method, PortCall, Subject, taken};
+pub use scc_drafts::meant::{Meant, Method, PortCall, Subject};
 pub use scc_drafts::refusal::{gone, refuse};
 pub use scc_drafts::syntax::last_args;
 pub use walk::{CallOn, Note, Walk};

@@ -156,41 +156,6 @@ impl Walk {
         Ok(PlainLeft::new(self.alloc, place, PlainBase::This))
     }
 
-    /// What a pointer leads to. Refuses by E304.
-    pub(crate) fn followed(&self, m: Meant, place: Place, b: &Body) -> Result<Loc, Stop>
-        ensures stop { IfErr result MayStop }
-    {
-        match m {
-            Meant::This => match b.scope {
-                Some(i) => {
-                    let left = PlainLeft::new(self.alloc, place, PlainBase::This);
-                    Ok(Loc::new(left, Form::direct(Base::Class(i.0))))
-                }
-                None => gone(),
-            },
-            Meant::Address(l) => Ok(l),
-            Meant::Loc(l) => self.behind(l, place),
-            _ => refuse(Code::Mismatch, place),
-        }
-    }
-
-    // What a variable leads to.
-    fn behind(&self, l: Loc, place: Place) -> Result<Loc, Stop>
-        ensures stop { IfErr result MayStop }
-    {
-        if !l.form.is_pointer() || l.form.dims > 0 {
-            return refuse(Code::Mismatch, place);
-        }
-        let form = Form {
-            base: l.form.base,
-            reach: Reach::Direct,
-            vector: l.form.vector,
-            dims: 0,
-        };
-        let base = PlainBase::Follow(Boxed::new(self.alloc, l.left)?);
-        Ok(Loc::new(PlainLeft::new(self.alloc, place, base), form))
-    }
-
     /// `m->name`. Refuses as `dot`.
     pub(crate) fn arrow(
         &mut self,
@@ -206,7 +171,7 @@ impl Walk {
         if let Meant::Address(_) = &m {
             return refuse(Code::Mismatch, place);
         }
-        let l = self.followed(m, place, b)?;
+        let l = m.followed(self.alloc, b.scope, place)?;
         self.dot(Meant::Loc(l), name, own, place, tree, b)
     }
 
@@ -223,9 +188,9 @@ impl Walk {
     ) -> Result<Meant, Stop>
         ensures stop { IfErr result MayStop }
     {
-        match m {
-            Meant::Value(x) => built(Subject::Value(x), name, own),
-            Meant::Loc(l) => {
+        match m.subject() {
+            Some(Subject::Value(x)) => built(Subject::Value(x), name, own),
+            Some(Subject::Loc(l)) => {
                 if !l.form.is_whole() || l.form.base == Base::ModuleName {
                     return refuse(Code::Mismatch, place);
                 }
@@ -234,7 +199,7 @@ impl Walk {
                     _ => built(Subject::Loc(l), name, own),
                 }
             }
-            _ => refuse(Code::Mismatch, place),
+            None => refuse(Code::Mismatch, place),
         }
     }
 

@@ -2,6 +2,7 @@
 //! SystemC's types (C++, [expr], [conv]; IEEE 1666-2011, section 7).
 #![tactic(auto)]
 
+pub mod call;
 pub mod draft;
 pub mod flow;
 pub mod form;

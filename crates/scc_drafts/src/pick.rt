@@ -118,15 +118,15 @@ pub fn indexed(alloc: Global, m: Meant, i: Draft, place: Place) -> Result<Meant,
     if !is_small(i.expr.kind) {
         return refuse(Code::Mismatch, place);
     }
-    match m {
-        Meant::Loc(l) => {
+    match m.subject() {
+        Some(Subject::Loc(l)) => {
             if l.form.dims > 0 || l.form.vector && !l.form.is_pointer() {
                 return Ok(Meant::Loc(element(l, i)?));
             }
             bit(alloc, Subject::Loc(l), i, place)
         }
-        Meant::Value(x) => bit(alloc, Subject::Value(x), i, place),
-        _ => refuse(Code::Mismatch, place),
+        Some(of) => bit(alloc, of, i, place),
+        None => refuse(Code::Mismatch, place),
     }
 }
 

@@ -3,12 +3,10 @@ ghost use Rattle.std.specs.Prelude.{IfErr};
 ghost use Rattle.scc_drafts.specs.Refusals.{MayStop};
 
 use crate::form::{Form, Loc};
-use crate::meant::Meant;
 use crate::refusal::refuse;
-use scc_base::{Code, Place, Stop};
+use scc_base::{Boxed, Code, Place, Stop};
 use scc_bits::Kind;
 use scc_plaintree::{Base, PlainBase, PlainLeft, PlainTarget, Reach};
-use scc_templates::InstanceId;
 use scc_tree::{Expr, ExprNode};
 use std::alloc::Global;
 
@@ -25,43 +23,25 @@ pub fn is_zero(e: &Expr) -> bool {
     }
 }
 
-/// What a pointer or reference of a form is given by what is named; `own` is the instance whose body it is. E304 where it is of
-/// another type.
-pub fn aimed(
-    alloc: Global,
-    m: Meant,
-    form: Form,
-    own: Option<InstanceId>,
-    place: Place,
-) -> Result<PlainTarget, Stop>
+/// What a variable leads to. Refuses by E304.
+pub(crate) fn behind(alloc: Global, l: Loc, place: Place) -> Result<Loc, Stop>
     ensures stop { IfErr result MayStop }
 {
-    if let Meant::Loc(l) = m {
-        return at_location(l, form, place);
-    }
-    if form.reach != Reach::Pointer {
+    if !l.form.is_pointer() || l.form.dims > 0 {
         return refuse(Code::Mismatch, place);
     }
-    match m {
-        Meant::Null => Ok(PlainTarget::Null),
-        Meant::This => match own {
-            Some(i) if form.is_like(Form::direct(Base::Class(i.0))) => {
-                Ok(PlainTarget::Address(PlainLeft::new(alloc, place, PlainBase::This)))
-            }
-            _ => refuse(Code::Mismatch, place),
-        },
-        Meant::Address(l) => {
-            if l.form.is_pointer() || !l.form.is_like(form) {
-                return refuse(Code::Mismatch, place);
-            }
-            Ok(PlainTarget::Address(l.left))
-        }
-        _ => refuse(Code::Mismatch, place),
-    }
+    let form = Form {
+        base: l.form.base,
+        reach: Reach::Direct,
+        vector: l.form.vector,
+        dims: 0,
+    };
+    let base = PlainBase::Follow(Boxed::new(alloc, l.left)?);
+    Ok(Loc::new(PlainLeft::new(alloc, place, base), form))
 }
 
-// A reference leads to the thing itself, a pointer where another one leads.
-fn at_location(l: Loc, form: Form, place: Place) -> Result<PlainTarget, Stop>
+/// A reference leads to the thing itself, a pointer where another one leads. Refuses by E304.
+pub(crate) fn at_location(l: Loc, form: Form, place: Place) -> Result<PlainTarget, Stop>
     ensures stop { IfErr result MayStop }
 {
     if l.form.dims > 0 || l.pick.is_some() || !l.form.is_like(form) {

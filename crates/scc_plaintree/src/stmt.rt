@@ -80,7 +80,6 @@ pub enum PlainNode {
 }
 
 /// How a counted loop counts.
-#[derive(Drop)]
 pub struct PlainCount {
     /// The counter's local.
     pub counter: u32,
@@ -92,7 +91,6 @@ pub struct PlainCount {
 }
 
 /// What a pointer or reference is given.
-#[derive(Drop)]
 pub enum PlainTarget {
     Null,
     Address(PlainLeft),
@@ -100,7 +98,6 @@ pub enum PlainTarget {
     Copy(PlainLeft),
 }
 
-#[derive(Drop)]
 pub enum PlainArg {
     Value(PlainExpr),
     Target(PlainTarget),
@@ -108,13 +105,54 @@ pub enum PlainArg {
 }
 
 /// An entry of a sensitivity list (IEEE 1666-2011, 5.2.10).
-#[derive(Drop)]
 pub struct PlainSense {
     pub place: Place,
     /// None where the source names no location there.
     pub signal: Option<PlainLeft>,
     /// None for a level.
     pub rising: Option<bool>,
+}
+
+impl Drop for PlainCount {
+    fn drop(self) {
+        let PlainCount {
+            counter: _counter,
+            start: _start,
+            compare: _compare,
+            bound: _bound,
+            step_op: _step_op,
+            step: _step,
+        } = self;
+    }
+}
+
+impl Drop for PlainTarget {
+    fn drop(self) {
+        match self {
+            PlainTarget::Null => {}
+            PlainTarget::Address(_left) | PlainTarget::Copy(_left) => {}
+        }
+    }
+}
+
+impl Drop for PlainArg {
+    fn drop(self) {
+        match self {
+            PlainArg::Value(_value) => {}
+            PlainArg::Target(_target) => {}
+            PlainArg::ModuleName => {}
+        }
+    }
+}
+
+impl Drop for PlainSense {
+    fn drop(self) {
+        let PlainSense {
+            place: _place,
+            signal: _signal,
+            rising: _rising,
+        } = self;
+    }
 }
 
 impl Drop for PlainStmt {

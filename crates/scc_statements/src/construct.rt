@@ -2,9 +2,9 @@
 ghost use Rattle.std.specs.Prelude.{IfErr};
 ghost use Rattle.scc_drafts.specs.Refusals.{MayStop};
 
-use crate::stmts::put;
+use crate::stmts::finish;
 use scc_base::{Code, List, Name, Place, Stop};
-use scc_bodies::{Body, Flow, FunctionId, Meant, PortCall, Subject, Walk, last_args, refuse};
+use scc_bodies::{Body, Flow, FunctionId, PortCall, Subject, Walk, last_args, refuse};
 use scc_plaintree::{PlainNode, PlainSense, PlainStmt};
 use scc_templates::{Entry, FunctionKey};
 use scc_tree::{Expr, FileTree};
@@ -56,15 +56,13 @@ pub(crate) fn process(
         Some(e) => Some(sense(e, tree, flow, w, b)?),
         None => None,
     };
-    b.flush(out)?;
     let function = w.number_of(f)?;
     let node = PlainNode::Process {
         thread,
         function,
         edge,
     };
-    put(out, place, node)?;
-    Ok(())
+    finish(b, out, place, node)
 }
 
 // An entry of a sensitivity list.
@@ -78,13 +76,13 @@ fn sense(
     ensures stop { IfErr result MayStop }
 {
     let place = e.place;
-    match w.meant(e, tree, flow, b)? {
-        Meant::Done { call, of } => {
+    match w.meant(e, tree, flow, b)?.done() {
+        Ok((call, of)) => {
             let args = last_args(e);
             w.any_of(args, tree, flow, b)?;
             edge_sense(call, of, args.is_empty(), place)
         }
-        m => Ok(PlainSense {
+        Err(m) => Ok(PlainSense {
             place,
             signal: m.location(),
             rising: None,
@@ -126,9 +124,7 @@ pub(crate) fn sensitive(
     for e in list {
         senses.push(sense(e, tree, flow, w, b)?)?;
     }
-    b.flush(out)?;
-    put(out, place, PlainNode::Sense(senses))?;
-    Ok(())
+    finish(b, out, place, PlainNode::Sense(senses))
 }
 
 /// `reset_signal_is` and `async_reset_signal_is`.
@@ -147,12 +143,10 @@ pub(crate) fn reset(
 {
     let signal = w.meant(signal, tree, flow, b)?.location();
     let level = w.test(level, tree, flow, b)?.expr;
-    b.flush(out)?;
     let node = PlainNode::Reset {
         signal,
         level,
         asynchronous,
     };
-    put(out, place, node)?;
-    Ok(())
+    finish(b, out, place, node)
 }

@@ -4,7 +4,7 @@ ghost use Rattle.scc_drafts.specs.Refusals.{MayStop};
 
 use crate::make::{MadeAt, made, make_args};
 use crate::port::{is_plain, only_value};
-use crate::stmts::put;
+use crate::stmts::finish;
 use scc_base::{Code, List, Place, Stop, lost};
 use scc_bodies::{Body, Flow, Form, Walk, convert, refuse};
 use scc_plaintree::{
@@ -29,8 +29,7 @@ pub(crate) fn init(
         if args.len() != 1 {
             return refuse(Code::Mismatch, i.place);
         }
-        b.flush(out)?;
-        return Ok(());
+        return Ok(b.flush(out)?);
     };
     let scope = b.scope.ok_or(lost())?;
     let Some(found) = w.templates.member(scope, name) else {
@@ -61,11 +60,10 @@ fn begin_member(
     let member = u32::try_from(k).map_err(|_| lost())?;
     left.parts.push(PlainPart::Member(member))?;
     let node = begun(args, form, left, place, tree, w, b)?;
-    b.flush(out)?;
-    if let Some(node) = node {
-        put(out, place, node)?;
+    match node {
+        Some(node) => finish(b, out, place, node),
+        None => Ok(b.flush(out)?),
     }
-    Ok(())
 }
 
 // Names of modules, which have no effect.

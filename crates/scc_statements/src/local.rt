@@ -2,7 +2,7 @@
 ghost use Rattle.std.specs.Prelude.{IfErr};
 ghost use Rattle.scc_drafts.specs.Refusals.{MayStop};
 
-use crate::stmts::put;
+use crate::stmts::finish;
 use scc_base::{Code, List, Place, Stop};
 use scc_bodies::{Body, Flow, Form, Walk, convert, refuse};
 use scc_plaintree::{Base, PlainBase, PlainLeft, PlainNode, PlainStmt, Reach};
@@ -59,9 +59,7 @@ fn local(
         Some(e) => initial(e, n, form, place, tree, flow, w, b)?,
         None => PlainNode::Declare(n),
     };
-    b.flush(out)?;
-    put(out, place, node)?;
-    Ok(())
+    finish(b, out, place, node)
 }
 
 // A variable begins with a value; an array doesn't.

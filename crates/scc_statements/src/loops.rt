@@ -7,7 +7,7 @@ use crate::count::counted;
 use crate::local::locals;
 use crate::simple::simple;
 use crate::stmts::put;
-use scc_base::{List, NoMemory, Place, Stop, lost};
+use scc_base::{List, Place, Stop, lost};
 use scc_bodies::{Body, Flow, Walk};
 use scc_plaintree::{PlainCount, PlainNode, PlainStmt};
 use scc_tree::{Expr, FileTree, ForFirst, LocalTree, SimpleTree};
@@ -37,15 +37,23 @@ pub(crate) fn loop_test(
     Ok(PlainStmt { place, node })
 }
 
-/// A loop in its block.
+/// Appends a loop of two statements, in its block.
 pub(crate) fn looped(
     alloc: Global,
     place: Place,
-    body: List<PlainStmt>,
-) -> Result<PlainNode, NoMemory> {
+    first: PlainStmt,
+    second: PlainStmt,
+    out: &mut List<PlainStmt>,
+) -> Result<(), Stop>
+    ensures stop { IfErr result MayStop }
+{
+    let mut body = List::new(alloc);
+    body.push(first)?;
+    body.push(second)?;
     let mut list = List::new(alloc);
     put(&mut list, place, PlainNode::Loop { count: None, body })?;
-    Ok(PlainNode::Block(list))
+    put(out, place, PlainNode::Block(list))?;
+    Ok(())
 }
 
 /// The head of a `for`: what stands before the loop, the test, and what stands behind a turn.
@@ -58,8 +66,15 @@ pub(crate) struct Head {
 }
 
 impl Head {
-    /// The loop of a turn, in its block.
-    pub fn looped(self, place: Place, turn: PlainStmt) -> Result<PlainNode, NoMemory> {
+    /// Appends the loop of a turn, in its block.
+    pub fn looped(
+        self,
+        place: Place,
+        turn: PlainStmt,
+        out: &mut List<PlainStmt>,
+    ) -> Result<(), Stop>
+        ensures stop { IfErr result MayStop }
+    {
         let Head {
             before,
             test,
@@ -71,7 +86,8 @@ impl Head {
         body.append(step)?;
         let mut list = before;
         put(&mut list, place, PlainNode::Loop { count, body })?;
-        Ok(PlainNode::Block(list))
+        put(out, place, PlainNode::Block(list))?;
+        Ok(())
     }
 }
 

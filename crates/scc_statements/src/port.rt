@@ -2,7 +2,7 @@
 ghost use Rattle.std.specs.Prelude.{IfErr};
 ghost use Rattle.scc_drafts.specs.Refusals.{MayStop};
 
-use crate::stmts::put;
+use crate::stmts::finish;
 use scc_base::{Code, List, Place, Stop};
 use scc_bodies::{Body, Draft, Flow, Loc, Subject, Walk, convert, refuse};
 use scc_plaintree::{Base, PlainNode, PlainStmt};
@@ -84,10 +84,8 @@ pub(crate) fn write(
         return refuse(Code::Mismatch, place);
     };
     let value = convert(w.alloc, x, kind)?.expr;
-    b.flush(out)?;
     let to = port.left;
-    put(out, place, PlainNode::Write { to, value })?;
-    Ok(())
+    finish(b, out, place, PlainNode::Write { to, value })
 }
 
 /// `port.bind(to)` or `port(to)`; what is bound has to be found at construction.
@@ -122,8 +120,6 @@ pub(crate) fn bind(
     if !is_one || is_signal {
         return refuse(Code::Mismatch, place);
     }
-    b.flush(out)?;
     let port = port.left;
-    put(out, place, PlainNode::Bind { port, to })?;
-    Ok(())
+    finish(b, out, place, PlainNode::Bind { port, to })
 }

@@ -4,12 +4,12 @@ ghost use Rattle.scc_drafts.specs.Refusals.{MayStop};
 
 use crate::make::made;
 use crate::port::{bind, port_of, write};
-use crate::stmts::put;
+use crate::stmts::finish;
 use scc_base::{Code, List, Place, Stop, lost};
 use scc_bits::{Kind, Op, Value, Word};
 use scc_bodies::{
     Body, Draft, Flow, Form, Loc, Meant, PortCall, Subject, Walk, convert, last_args, literal,
-    operate, refuse, taken,
+    operate, refuse,
 };
 use scc_plaintree::{Base, PlainNode, PlainStmt, Reach};
 use scc_tree::{Expr, ExprNode, FileTree, SimpleNode, SimpleTree};
@@ -71,14 +71,14 @@ fn assigned(
 ) -> Result<Loc, Stop>
     ensures stop { IfErr result MayStop }
 {
-    match w.meant(e, tree, flow, b)? {
-        Meant::Loc(l) => {
+    match w.meant(e, tree, flow, b)?.loc() {
+        Some(l) => {
             if l.form.dims != 0 || l.form.vector && !l.form.is_pointer() {
                 return refuse(Code::Mismatch, place);
             }
             Ok(l)
         }
-        _ => refuse(Code::Mismatch, place),
+        None => refuse(Code::Mismatch, place),
     }
 }
 
@@ -124,7 +124,7 @@ fn combined(l: &Loc, op: Op, at: Place, left: Place, x: Draft, w: &Walk) -> Resu
         form: l.form,
         pick: l.pick,
     };
-    let old = taken(w.alloc, Meant::Loc(old), left)?;
+    let old = Subject::Loc(old).value(w.alloc, left)?;
     operate(w.alloc, left, at, op, old, x)
 }
 
@@ -140,14 +140,12 @@ fn store(
     ensures stop { IfErr result MayStop }
 {
     let value = convert(w.alloc, x, kind)?.expr;
-    b.flush(out)?;
     let Loc { left, form, .. } = l;
     let node = match form.base {
         Base::Number(_) => PlainNode::Assign { left, value },
         _ => PlainNode::Write { to: left, value },
     };
-    put(out, place, node)?;
-    Ok(())
+    finish(b, out, place, node)
 }
 
 // A pointer is given what it leads to, or a new object.
@@ -178,9 +176,7 @@ fn point(
         let target = w.target(e, form, tree, flow, b)?;
         PlainNode::Point { left, target }
     };
-    b.flush(out)?;
-    put(out, place, node)?;
-    Ok(())
+    finish(b, out, place, node)
 }
 
 // A call as a statement: of a function, or of a port.
@@ -195,9 +191,9 @@ fn call(
 ) -> Result<(), Stop>
     ensures stop { IfErr result MayStop }
 {
-    match w.meant(e, tree, flow, b)? {
-        Meant::Done { call, of } => port_call(e, call, of, place, tree, flow, w, b, out),
-        other => called(other, place, b, out),
+    match w.meant(e, tree, flow, b)?.done() {
+        Ok((call, of)) => port_call(e, call, of, place, tree, flow, w, b, out),
+        Err(other) => called(other, place, b, out),
     }
 }
 

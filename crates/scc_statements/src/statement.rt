@@ -6,7 +6,7 @@ use crate::construct::{process, reset, sensitive};
 use crate::local::locals;
 use crate::loops::{for_head, loop_test, looped, turn_flow};
 use crate::simple::simple;
-use crate::stmts::put;
+use crate::stmts::{finish, put};
 use crate::switch::{Cases, hide, is_label, labels_of, selector};
 use scc_base::{Code, List, Place, Stop};
 use scc_bodies::{Body, Flow, Walk, convert, refuse};
@@ -97,18 +97,14 @@ fn stmt(
             switch(items.as_slice(), of, place, tree, flow, w, b, out)
         }
         StmtNode::While { test, body } => {
-            let mut list = List::new(w.alloc);
-            list.push(loop_test(test, tree, flow, w, b)?)?;
-            list.push(turn(body, place, tree, flow, w, b)?)?;
-            put(out, place, looped(w.alloc, place, list)?)?;
-            Ok(())
+            let test = loop_test(test, tree, flow, w, b)?;
+            let turn = turn(body, place, tree, flow, w, b)?;
+            looped(w.alloc, place, test, turn, out)
         }
         StmtNode::Do { body, test } => {
-            let mut list = List::new(w.alloc);
-            list.push(turn(body, place, tree, flow, w, b)?)?;
-            list.push(loop_test(test, tree, flow, w, b)?)?;
-            put(out, place, looped(w.alloc, place, list)?)?;
-            Ok(())
+            let turn = turn(body, place, tree, flow, w, b)?;
+            let test = loop_test(test, tree, flow, w, b)?;
+            looped(w.alloc, place, turn, test, out)
         }
         StmtNode::For {
             first,
@@ -120,8 +116,7 @@ fn stmt(
             let head = for_head(first, test, step, tree, flow, w, b)?;
             let turn = turn(body, place, tree, flow, w, b)?;
             b.names.close(mark);
-            put(out, place, head.looped(place, turn)?)?;
-            Ok(())
+            head.looped(place, turn, out)
         }
         _ => single(s, tree, flow, w, b, out),
     }
@@ -251,9 +246,7 @@ fn give(
         (None, None) => None,
         _ => return refuse(Code::Mismatch, place),
     };
-    b.flush(out)?;
-    put(out, place, PlainNode::Return(value))?;
-    Ok(())
+    finish(b, out, place, PlainNode::Return(value))
 }
 
 // `wait`, for 1 to 65,535 edges (IEEE 1666-2011, 5.2.18).

@@ -1,4 +1,9 @@
-use scc_base::{List, NoMemory, Place};
+//! Lists of statements.
+ghost use Rattle.std.specs.Prelude.{IfErr};
+ghost use Rattle.scc_drafts.specs.Refusals.{MayStop};
+
+use scc_base::{List, NoMemory, Place, Stop};
+use scc_bodies::Body;
 use scc_plaintree::{PlainNode, PlainStmt};
 
 /// Appends a statement.
@@ -8,4 +13,18 @@ pub(crate) fn put(
     node: PlainNode,
 ) -> Result<(), NoMemory> {
     out.push(PlainStmt { place, node })
+}
+
+/// Appends a statement behind the calls that it makes.
+pub(crate) fn finish(
+    b: &mut Body,
+    out: &mut List<PlainStmt>,
+    place: Place,
+    node: PlainNode,
+) -> Result<(), Stop>
+    ensures stop { IfErr result MayStop }
+{
+    b.flush(out)?;
+    put(out, place, node)?;
+    Ok(())
 }
