@@ -4,13 +4,13 @@ ghost use Rattle.scc_drafts.specs.Refusals.{MayStop};
 
 use crate::body::Body;
 use crate::walk::{Note, Walk};
-use scc_base::{Boxed, Code, Name, NoMemory, Place, Stop, lost};
+use scc_base::{Code, Name, NoMemory, Place, Stop, lost};
 use scc_drafts::draft::literal;
-use scc_drafts::form::{Form, Loc};
+use scc_drafts::form::Loc;
 use scc_drafts::meant::{Meant, Subject};
 use scc_drafts::pick::method_of;
-use scc_drafts::refusal::{gone, refuse};
-use scc_plaintree::{Base, PlainBase, PlainLeft, PlainPart, Reach};
+use scc_drafts::refusal::refuse;
+use scc_plaintree::{Base, PlainBase, PlainLeft, PlainPart};
 use scc_templates as templates;
 use scc_templates::{Entry, Found, InstanceId};
 use scc_tree::{FileTree, Ty};

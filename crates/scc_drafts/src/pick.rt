@@ -7,7 +7,7 @@ use crate::draft::{Draft, bits, convert, operate_one};
 use crate::form::{Form, Loc};
 use crate::meant::{Meant, Method, Subject};
 use crate::refusal::refuse;
-use scc_base::{Code, Name, Place, Stop, lost};
+use scc_base::{Code, Name, Place, Stop};
 use scc_bits::{Kind, Op, has_bits, is_small, range_kind, valid, width};
 use scc_plaintree::{Base, PlainExprNode, PlainPart, PlainPick};
 use std::alloc::Global;

@@ -6,7 +6,7 @@ use crate::form::{Form, Loc};
 use crate::refusal::refuse;
 use scc_base::{Boxed, Code, Place, Stop};
 use scc_bits::Kind;
-use scc_plaintree::{Base, PlainBase, PlainLeft, PlainTarget, Reach};
+use scc_plaintree::{PlainBase, PlainLeft, PlainTarget, Reach};
 use scc_tree::{Expr, ExprNode};
 use std::alloc::Global;
 

@@ -7,7 +7,7 @@ use crate::local::locals;
 use crate::loops::{for_head, loop_test, looped, turn_flow};
 use crate::simple::simple;
 use crate::stmts::{finish, put};
-use crate::switch::{Cases, hide, is_label, labels_of, selector};
+use crate::switch::{Cases, hide, labels_of, selector};
 use scc_base::{Code, List, Place, Stop};
 use scc_bodies::{Body, Flow, Walk, convert, refuse};
 use scc_plaintree::{PlainNode, PlainStmt};
