@@ -5,10 +5,18 @@ use crate::NoMemory;
 use std::alloc::Global;
 
 /// A name with the bytes that it holds.
-#[derive(Drop)]
 pub struct Entry {
     name: String,
     bytes: Vec<u8>,
+}
+
+impl Drop for Entry {
+    fn drop(self) {
+        let Entry {
+            name: _name,
+            bytes: _bytes,
+        } = self;
+    }
 }
 
 /// The bytes of a name, from its first entry.

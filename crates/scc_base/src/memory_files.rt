@@ -7,13 +7,24 @@ use std::alloc::Global;
 
 /// Files in memory. The reads whose numbers were named fail, and no others; in every other read a name that was not
 /// added is missing.
-#[derive(Drop)]
 pub struct MemFiles {
     alloc: Global,
     entries: Vec<Entry>,
     plan: Plan,
     misses: u64,
     faults: u64,
+}
+
+impl Drop for MemFiles {
+    fn drop(self) {
+        let MemFiles {
+            alloc: _alloc,
+            entries: _entries,
+            plan: _plan,
+            misses: _misses,
+            faults: _faults,
+        } = self;
+    }
 }
 
 impl MemFiles {
@@ -101,11 +112,20 @@ impl Files for MemFiles {
 }
 
 /// Files in memory, whose reads never fail: a name that was not added is missing.
-#[derive(Drop)]
 pub struct CalmFiles {
     alloc: Global,
     entries: Vec<Entry>,
     misses: u64,
+}
+
+impl Drop for CalmFiles {
+    fn drop(self) {
+        let CalmFiles {
+            alloc: _alloc,
+            entries: _entries,
+            misses: _misses,
+        } = self;
+    }
 }
 
 impl CalmFiles {

@@ -8,13 +8,23 @@ use crate::{NoMemory, Sink, SinkFault};
 use std::alloc::Global;
 
 /// An output in memory that takes a part of each piece. The writes whose numbers were named fail, and no others.
-#[derive(Drop)]
 pub struct MemSink {
     most: usize,
     bytes: Vec<u8>,
     plan: Plan,
     faults: u64,
     ghost takes_some: { 0 < most },
+}
+
+impl Drop for MemSink {
+    fn drop(self) {
+        let MemSink {
+            most: _most,
+            bytes: _bytes,
+            plan: _plan,
+            faults: _faults,
+        } = self;
+    }
 }
 
 impl MemSink {
@@ -91,9 +101,14 @@ impl Sink for MemSink {
 }
 
 /// An output in memory that takes each piece whole, and whose writes never fail.
-#[derive(Drop)]
 pub struct CalmSink {
     bytes: Vec<u8>,
+}
+
+impl Drop for CalmSink {
+    fn drop(self) {
+        let CalmSink { bytes: _bytes } = self;
+    }
 }
 
 impl CalmSink {

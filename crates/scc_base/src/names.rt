@@ -12,10 +12,18 @@ use std::marker::Model;
 pub struct Name(pub u32);
 
 /// Texts by number, from 0, in the order in which they were first seen.
-#[derive(Drop)]
 pub struct Names {
     alloc: Global,
     texts: IndexSet<String>,
+}
+
+impl Drop for Names {
+    fn drop(self) {
+        let Names {
+            alloc: _alloc,
+            texts: _texts,
+        } = self;
+    }
 }
 
 impl Model for Names {

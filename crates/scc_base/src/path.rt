@@ -21,9 +21,14 @@ impl Default for PathPart {
 }
 
 /// Where an object stands in the hierarchy, from the top down; the top has the empty path. Contracts see its parts.
-#[derive(Drop)]
 pub struct Path {
     parts: SmallVec<PathPart, 4>,
+}
+
+impl Drop for Path {
+    fn drop(self) {
+        let Path { parts: _parts } = self;
+    }
 }
 
 impl Model for Path {

@@ -5,11 +5,19 @@ use crate::NoMemory;
 use std::alloc::Global;
 
 /// How many calls were made, and which are to fail.
-#[derive(Drop)]
 pub struct Plan {
     calls: u64,
     /// The numbers of the calls that are to fail, counted from 1.
     failing: Vec<u64>,
+}
+
+impl Drop for Plan {
+    fn drop(self) {
+        let Plan {
+            calls: _calls,
+            failing: _failing,
+        } = self;
+    }
 }
 
 impl Plan {

@@ -5,9 +5,14 @@ use std::alloc::Global;
 use std::marker::Model;
 
 /// Bytes that grow at their end. Contracts see the bytes alone.
-#[derive(Drop)]
 pub struct Text {
     bytes: Vec<u8>,
+}
+
+impl Drop for Text {
+    fn drop(self) {
+        let Text { bytes: _bytes } = self;
+    }
 }
 
 impl Model for Text {
