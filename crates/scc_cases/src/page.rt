@@ -149,20 +149,27 @@ impl Page {
     // Blocks of lines, each the source of a case.
     fn cases(&mut self, body: &str) -> Result<(), NoMemory> {
         for block in body.split("\n\n") {
-            let source = filled(self.alloc, self.frame.as_str(), block)?;
-            let source = expanded(self.alloc, source.as_str())?;
-            self.files.add("a.cpp", source.as_bytes())?;
-            let answer = self.ask(" compile T a.cpp")?;
-            let says = lines_of(self.alloc, block, "says")?;
-            let is_told = if says.as_str() == "accepted" {
-                answer.is_text()
-            } else {
-                let wanted = format!(in self.alloc; "a.cpp:{says}\n")?;
-                answer.is_told(wanted.as_str())
-            };
-            self.compare(block, &answer, is_told)?;
+            self.case(block)?;
         }
         Ok(())
+    }
+
+    fn case(&mut self, block: &str) -> Result<(), NoMemory> {
+        self.put_source(block)?;
+        let says = lines_of(self.alloc, block, "says")?;
+        let answer = self.ask(" compile T a.cpp")?;
+        if says.as_str() == "accepted" {
+            return self.compare(block, &answer, answer.is_text());
+        }
+        let wanted = format!(in self.alloc; "a.cpp:{says}\n")?;
+        self.compare(block, &answer, answer.is_told(wanted.as_str()))
+    }
+
+    // The frame with a block's lines becomes the file that is asked about.
+    fn put_source(&mut self, block: &str) -> Result<(), NoMemory> {
+        let source = filled(self.alloc, self.frame.as_str(), block)?;
+        let source = expanded(self.alloc, source.as_str())?;
+        self.files.add("a.cpp", source.as_bytes())
     }
 
     // What the command answers to words that have one blank before each.

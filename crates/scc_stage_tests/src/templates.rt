@@ -1,6 +1,6 @@
 //! Values of constants and instances of templates, asked for one by one.
 use crate::trees::{Parsed, tree_of};
-use scc_base::{List, Place, Refusal, Stop};
+use scc_base::{List, NoMemory, Place, Refusal, Stop};
 use scc_bits::{Kind, Value, Word};
 use scc_templates::{Arg, Args, ClassId, Instances};
 use scc_tree::{Expr, FileTree, ItemNode};
@@ -44,17 +44,21 @@ fn show_stop(alloc: Global, text: &[u8], stop: &Stop) -> Result<String, AllocErr
 
 fn show_value(alloc: Global, value: Value) -> Result<String, AllocError> {
     let bits = value.word().bits;
-    match value.kind() {
-        Kind::Bool => format!(in alloc; "{bits} bool"),
+    let (name, width) = match value.kind() {
+        Kind::Bool => ("bool", None),
         Kind::Native {
             bits: w,
             signed: true,
-        } => format!(in alloc; "{bits} signed {w}"),
-        Kind::Native { bits: w, .. } => format!(in alloc; "{bits} unsigned {w}"),
-        Kind::Uint(w) => format!(in alloc; "{bits} sc_uint {w}"),
-        Kind::Big(w) => format!(in alloc; "{bits} sc_biguint {w}"),
-        Kind::Wide { bits: w, .. } => format!(in alloc; "{bits} wide {w}"),
-        _ => format!(in alloc; "{bits}"),
+        } => ("signed", Some(w)),
+        Kind::Native { bits: w, .. } => ("unsigned", Some(w)),
+        Kind::Uint(w) => ("sc_uint", Some(w)),
+        Kind::Big(w) => ("sc_biguint", Some(w)),
+        Kind::Wide { bits: w, .. } => ("wide", Some(w)),
+        _ => ("of another kind", None),
+    };
+    match width {
+        Some(w) => format!(in alloc; "{bits} {name} {w}"),
+        None => format!(in alloc; "{bits} {name}"),
     }
 }
 
@@ -72,16 +76,25 @@ fn value_said(alloc: Global, source: &str) -> Result<String, Fail> {
     let Some(Parsed { tree, .. }) = tree_of(alloc, "T", source)? else {
         return Ok(String::from_str(alloc, "no tree")?);
     };
-    let Some(e) = last_constant(&tree) else {
-        return Ok(String::from_str(alloc, "no constant")?);
-    };
     let mut table = Instances::new(alloc);
-    let said = match table.const_value(&tree, None, e) {
+    Ok(constant_said(alloc, source, &tree, &mut table)?)
+}
+
+fn constant_said(
+    alloc: Global,
+    source: &str,
+    tree: &FileTree,
+    table: &mut Instances,
+) -> Result<String, AllocError> {
+    let Some(e) = last_constant(tree) else {
+        return String::from_str(alloc, "no constant");
+    };
+    let said = match table.const_value(tree, None, e) {
         Ok(value) => show_value(alloc, value)?,
         Err(stop) => show_stop(alloc, source.as_bytes(), &stop)?,
     };
     let count = table.len();
-    Ok(format!(in alloc; "{said}, {count}")?)
+    format!(in alloc; "{said}, {count}")
 }
 
 // The number of instances stands behind the value, or behind the refusal.
@@ -142,7 +155,7 @@ fn works_out_constants(rt: HostRuntime) -> Result<(), Fail> {
 }
 
 // The arguments of a template with a number and a type.
-fn arguments(alloc: Global, number: u128, kind: Kind) -> Result<Args, Fail> {
+fn arguments(alloc: Global, number: u128, kind: Kind) -> Result<Args, NoMemory> {
     let int = Kind::Native {
         bits: 32,
         signed: true,
@@ -162,18 +175,41 @@ fn instances_said(alloc: Global, source: &str, asked: &[(u128, Kind)]) -> Result
         return Ok(String::from_str(alloc, "no tree")?);
     };
     let mut table = Instances::new(alloc);
+    Ok(each_said(alloc, source, &tree, asked, &mut table)?)
+}
+
+fn each_said(
+    alloc: Global,
+    source: &str,
+    tree: &FileTree,
+    asked: &[(u128, Kind)],
+    table: &mut Instances,
+) -> Result<String, NoMemory> {
     let mut said = String::new(alloc);
     for (number, kind) in asked {
-        let args = arguments(alloc, *number, *kind)?;
-        let shown = match table.instantiate(&tree, ClassId(0), &args, Place { file: 0, at: 0 }) {
-            Ok(instance) => format!(in alloc; "{}", instance.0)?,
-            Err(stop) => show_stop(alloc, source.as_bytes(), &stop)?,
-        };
-        said.push_str(shown.as_str())?;
-        said.push_str(", ")?;
+        push_said(alloc, &mut said, source, tree, (*number, *kind), table)?;
     }
     let count = table.len();
     Ok(format!(in alloc; "{said}{count}")?)
+}
+
+fn push_said(
+    alloc: Global,
+    said: &mut String,
+    source: &str,
+    tree: &FileTree,
+    asked: (u128, Kind),
+    table: &mut Instances,
+) -> Result<(), NoMemory> {
+    let (number, kind) = asked;
+    let args = arguments(alloc, number, kind)?;
+    let shown = match table.instantiate(tree, ClassId(0), &args, Place { file: 0, at: 0 }) {
+        Ok(instance) => format!(in alloc; "{}", instance.0)?,
+        Err(stop) => show_stop(alloc, source.as_bytes(), &stop)?,
+    };
+    said.push_str(shown.as_str())?;
+    said.push_str(", ")?;
+    Ok(())
 }
 
 /// An instance has one number, whoever asks for it; other arguments make another; too few, or those of another sort or past their kind, make

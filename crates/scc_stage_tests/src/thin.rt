@@ -1,5 +1,5 @@
 //! Thin texts have a path of their own in `run`, which carries the main theorem: the stages give the same bytes for them.
-use crate::trees::{Parsed, tree_of};
+use crate::trees::{Parsed, tree_of, words_of};
 use scc_base::{CalmFiles, CalmSink, Text};
 use scc_drive::run;
 use scc_stages::compile;
@@ -33,14 +33,11 @@ SC_CTOR(And){SC_METHOD(write);sensitive<<b<<read;}};
 
 /// What `compile And a.cpp` writes.
 fn by_run(alloc: Global, source: &str) -> Result<CalmSink, Fail> {
+    let words = words_of(alloc, &["compile", "And", "a.cpp"])?;
     let mut files = CalmFiles::new(alloc);
     files.add("a.cpp", source.as_bytes())?;
     let mut out = CalmSink::new(alloc);
     let mut err = CalmSink::new(alloc);
-    let mut words = Vec::new(alloc);
-    for word in ["compile", "And", "a.cpp"] {
-        words.push(String::from_str(alloc, word)?)?;
-    }
     let _status = run(alloc, words.as_slice(), &mut files, &mut out, &mut err);
     Ok(out)
 }
