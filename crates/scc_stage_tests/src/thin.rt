@@ -1,9 +1,9 @@
 //! Thin texts have a path of their own in `run`, which carries the main theorem: the stages give the same bytes for them.
-use crate::trees::{Parsed, tree_of, words_of};
+use crate::trees::{Parsed, tree_of};
 use scc_base::{CalmFiles, CalmSink, Text};
 use scc_drive::run;
 use scc_stages::compile;
-use std::alloc::Global;
+use std::alloc::{AllocError, Global};
 use std::test::Fail;
 
 const EIGHT: &str = "#include <systemc.h>
@@ -30,6 +30,15 @@ sc_in<sc_uint<12> >b;sc_out<sc_uint<3>>less;
 void write(){less.write(b.read());wide.write(read.read()|b.read());same.write(b.read()^b.read());}
 SC_CTOR(And){SC_METHOD(write);sensitive<<b<<read;}};
 ";
+
+// Words as the program takes them.
+fn words_of(alloc: Global, words: &[&str]) -> Result<Vec<String>, AllocError> {
+    let mut all = Vec::new(alloc);
+    for word in words {
+        all.push(String::from_str(alloc, word)?)?;
+    }
+    Ok(all)
+}
 
 /// What `compile And a.cpp` writes.
 fn by_run(alloc: Global, source: &str) -> Result<CalmSink, Fail> {

@@ -3,7 +3,7 @@ use scc_base::{CalmFiles, List, Name, Names};
 use scc_grammar::parse;
 use scc_tokens::join;
 use scc_tree::FileTree;
-use std::alloc::{AllocError, Global};
+use std::alloc::Global;
 use std::test::Fail;
 
 /// A tree with its names, one of which is a top's.
@@ -14,18 +14,10 @@ pub struct Parsed {
     pub tree: FileTree,
 }
 
-/// Words as the program takes them.
-pub fn words_of(alloc: Global, words: &[&str]) -> Result<Vec<String>, AllocError> {
-    let mut all = Vec::new(alloc);
-    for word in words {
-        all.push(String::from_str(alloc, word)?)?;
-    }
-    Ok(all)
-}
-
 /// The tree of a file `a.cpp` with this text; None where an earlier stage refuses it.
 pub fn tree_of(alloc: Global, top: &str, source: &str) -> Result<Option<Parsed>, Fail> {
-    let roots = words_of(alloc, &["a.cpp"])?;
+    let mut roots = Vec::new(alloc);
+    roots.push(String::from_str(alloc, "a.cpp")?)?;
     let mut files = CalmFiles::new(alloc);
     files.add("a.cpp", source.as_bytes())?;
     let mut names = Names::new(alloc)?;
