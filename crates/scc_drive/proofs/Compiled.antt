@@ -2,7 +2,7 @@
 use Rattle.std.proofs.Common.{◌≡◌, ℕ, List, Option, Some, None, Result, Ok, Err, ap, sym, subst}
 use Rattle.std.specs.Prelude.{IfErr, IfOk, false}
 use Rattle.scc_svtext.specs.ModuleText.{module_text}
-use Rattle.scc_syntax.specs.Claim.{IsReadFile}
+use Rattle.scc_grammar.specs.Claim.{IsReadFile}
 use Rattle.scc_forms.specs.declared.form.TextForm.{TextForm}
 use Rattle.scc_forms.specs.Formed.{IsFormed, has_clocks}
 use Rattle.scc_stages.specs.Emitted.{IsEmitted}

@@ -13,7 +13,7 @@ use Rattle.scc_tokens.specs.declared.joining.JoinFault.TheVariants as fault
 use Rattle.scc_tokens.specs.Files.{HoldsAll, ToldAll, first_part}
 use Rattle.scc_tokens.specs.Join.{join_of, JoinSays, Somewhere}
 use Rattle.scc_directives.specs.Steps as join
-use Rattle.scc_syntax.specs.Claim.{IsReadFile}
+use Rattle.scc_grammar.specs.Claim.{IsReadFile}
 use Rattle.scc_thinmodule.proofs.Known.{joined_names}
 use Rattle.scc_drive.specs.declared.joining.Read.{Read}
 use Rattle.scc_stopped.specs.declared.stopped.Stopped.{Stopped}

@@ -7,7 +7,8 @@ use Rattle.scc_tokens.specs.declared.joining.Joined.{Joined}
 use Rattle.scc_tree.specs.declared.item.FileTree.{FileTree}
 use Rattle.scc_reading.specs.Claim.{IsUnexpected, IsTooDeep}
 use Rattle.scc_reading.proofs.OneFault.{read_not_unexpected, read_not_deep, one_unexpected, one_deep, unexpected_not_deep}
-use Rattle.scc_syntax.specs.Claim.{IsReadFile, IsFault, depth, text_of, place_at}
+use Rattle.scc_grammar.specs.Claim.{IsReadFile, IsFault, text_of, place_at}
+use Rattle.scc_syntax.specs.LevelsOfItems.{depth}
 use Rattle.scc_syntax.specs.Items.{Reads}
 use Rattle.scc_terminals.specs.Text.{Text}
 

@@ -18,7 +18,7 @@ use Rattle.scc_joined.specs.Joined.{JoinsTo}
 use Rattle.scc_joined.specs.Faulted.{StopsAt}
 use Rattle.scc_directives.specs.Steps as join
 use Rattle.scc_tree.specs.declared.item.FileTree.{FileTree}
-use Rattle.scc_syntax.specs.Claim.{IsReadFile, IsFault}
+use Rattle.scc_grammar.specs.Claim.{IsReadFile, IsFault}
 use Rattle.scc_thin.specs.declared.design.Design.{Design}
 use Rattle.scc_thin.specs.Thin.{thin_of}
 use Rattle.scc_trace.specs.Source.{source_of}

@@ -16,7 +16,7 @@ use Rattle.scc_tokens.specs.declared.joining.Joined.{Joined}
 use Rattle.scc_tokens.specs.Files.{first_part}
 use Rattle.scc_joined.specs.Joined.{JoinsTo}
 use Rattle.scc_tree.specs.declared.item.FileTree.{FileTree}
-use Rattle.scc_syntax.specs.Claim.{IsReadFile}
+use Rattle.scc_grammar.specs.Claim.{IsReadFile}
 use Rattle.scc_thin.specs.declared.design.Design.{Design}
 use Rattle.scc_thin.specs.Thin.{thin_of}
 use Rattle.scc_thinmodule.specs.Source.{source_of, text_of}

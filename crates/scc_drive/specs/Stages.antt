@@ -6,7 +6,7 @@ use Rattle.scc_base.specs.declared.code.Code.TheVariants.{FileTooLong}
 use Rattle.scc_directives.specs.declared.file.Source.{Source}
 use Rattle.scc_tokens.specs.Files.{HoldsAll, ToldAll, first_part}
 use Rattle.scc_tokens.specs.Join.{join_of}
-use Rattle.scc_syntax.specs.Claim.{IsReadFile}
+use Rattle.scc_grammar.specs.Claim.{IsReadFile}
 use Rattle.scc_thinmodule.specs.Identifiers.{AreIdentifiers}
 use Rattle.scc_drive.specs.declared.joining.Read.{Read}
 use Rattle.scc_stopped.specs.declared.stopped.Stopped.{Stopped}

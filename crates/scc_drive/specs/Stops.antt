@@ -5,7 +5,7 @@ use Rattle.scc_base.specs.declared.code.Code.{Code}
 use Rattle.scc_base.specs.declared.refusal.Place.{Place}
 use Rattle.scc_directives.specs.declared.file.Source.{Source}
 use Rattle.scc_tokens.specs.declared.joining.Joined.{Joined}
-use Rattle.scc_syntax.specs.Claim.{IsFault}
+use Rattle.scc_grammar.specs.Claim.{IsFault}
 use Rattle.scc_stages.specs.Refusals.{is_later}
 use Rattle.scc_formsim.specs.Forms.{is_of_text}
 use Rattle.scc_stopped.specs.declared.spots.Spot.{Spot}

@@ -2,7 +2,7 @@
 ghost use Rattle.std.specs.Prelude.{◌≡◌, ◌≤◌, ◌<◌, ◌+◌, length, false, IfOk, IfErr};
 ghost use Rattle.scc_stages.specs.Emitted.{IsEmitted};
 ghost use Rattle.scc_thinmodule.specs.Identifiers.{AreIdentifiers};
-ghost use Rattle.scc_syntax.specs.Claim.{IsReadFile};
+ghost use Rattle.scc_grammar.specs.Claim.{IsReadFile};
 ghost use Rattle.scc_drive.specs.Answer.{AnswersBy};
 ghost use Rattle.scc_drive.specs.CommandOutcome as outcome;
 ghost use Rattle.scc_drive.specs.CommandOutcome.{RootsOutcome, task_of};

@@ -1,6 +1,6 @@
 //! Files that are joined and read by the grammar.
 ghost use Rattle.std.specs.Prelude.{◌≡◌, ◌≤◌, ◌<◌, ◌+◌, length, IfOk, IfErr};
-ghost use Rattle.scc_syntax.specs.Claim.{IsReadFile, IsFault};
+ghost use Rattle.scc_grammar.specs.Claim.{IsReadFile, IsFault};
 ghost use Rattle.scc_drive.specs.CommandOutcome.{JoinedOutcome};
 ghost use Rattle.scc_drive.specs.Stages.{IsJoined, IsUnjoined};
 ghost use Rattle.scc_drive.specs.Stops.{IsFaulty};

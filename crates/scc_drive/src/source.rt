@@ -1,6 +1,6 @@
 //! `list` and `sim`: the commands that look at a design.
 ghost use Rattle.std.specs.Prelude.{◌≡◌, ◌≤◌, ◌<◌, ◌+◌, length, IfErr};
-ghost use Rattle.scc_syntax.specs.Claim.{IsReadFile};
+ghost use Rattle.scc_grammar.specs.Claim.{IsReadFile};
 ghost use Rattle.scc_drive.specs.Answer.{AnswersBy};
 ghost use Rattle.scc_drive.specs.CommandOutcome as outcome;
 ghost use Rattle.scc_drive.specs.CommandOutcome.{RootsOutcome};

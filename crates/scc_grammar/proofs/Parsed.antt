@@ -13,7 +13,8 @@ use Rattle.scc_reading.proofs.OneFault.{read_not_unexpected, read_not_deep}
 use Rattle.scc_terminals.specs.declared.halt.Halt.{Halt}
 use Rattle.scc_terminals.specs.declared.halt.Halt.TheVariants as halt
 use Rattle.scc_terminals.specs.Answer.{Fails, head_place}
-use Rattle.scc_syntax.specs.Claim.{depth, text_of, IsReadFile, place_at, FaultAt, ReadsOnly, stop_of}
+use Rattle.scc_syntax.specs.LevelsOfItems.{depth}
+use Rattle.scc_grammar.specs.Claim.{text_of, IsReadFile, place_at, FaultAt, ReadsOnly, stop_of}
 use Rattle.scc_syntax.specs.Items.{Reads}
 use Rattle.scc_syntax.specs.ParseFile.{program}
 use Rattle.scc_terminals.specs.Text.{Text}

@@ -2,7 +2,8 @@
 ghost use Rattle.std.specs.Prelude.{◌≡◌, IfOk, IfErr, List, Ok, Err};
 ghost use Rattle.scc_reading.specs.Claim.{IsRead};
 ghost use Rattle.scc_tree.specs.declared.item.Item.{Item};
-ghost use Rattle.scc_syntax.specs.Claim.{IsReadFile, FaultAt, ReadsOnly, depth, stop_of, text_of};
+ghost use Rattle.scc_grammar.specs.Claim.{IsReadFile, FaultAt, ReadsOnly, stop_of, text_of};
+ghost use Rattle.scc_syntax.specs.LevelsOfItems.{depth};
 ghost use Rattle.scc_syntax.specs.Items.{Reads};
 ghost use Rattle.scc_base.specs.declared.refusal.Stop.TheVariants as stop;
 

@@ -1,7 +1,7 @@
 -- The verdict on the tokens of a file.
 use Rattle.scc_reading.specs.Claim.{Verdict}
 use Rattle.scc_reading.proofs.Whole.{verdict_at}
-use Rattle.scc_syntax.specs.Claim.{depth}
+use Rattle.scc_syntax.specs.LevelsOfItems.{depth}
 use Rattle.scc_syntax.specs.Items.{Reads}
 use Rattle.scc_syntax.specs.ParseFile as p
 use Rattle.scc_terminals.specs.Text.{Text}

@@ -16,7 +16,7 @@ use Rattle.scc_joined.proofs.Deriving.{joins_whole}
 use Rattle.scc_joined.proofs.Faulting.{stops_first}
 use Rattle.scc_tree.specs.declared.item.FileTree.{FileTree}
 use Rattle.scc_tree.specs.declared.item.Item.{Item}
-use Rattle.scc_syntax.specs.Claim.{IsReadFile, IsFault, text_of}
+use Rattle.scc_grammar.specs.Claim.{IsReadFile, IsFault, text_of}
 use Rattle.scc_grammarcomplete.proofs.Unique.{one_tree}
 use Rattle.scc_drive.proofs.OneVerdict.{not_both, one_fault}
 use Rattle.scc_meaning_core.specs.First.{refused}

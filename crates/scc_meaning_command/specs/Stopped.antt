@@ -14,7 +14,7 @@ use Rattle.scc_tokens.specs.Files.{first_part, number_in}
 use Rattle.scc_joined.specs.Joined.{JoinsTo}
 use Rattle.scc_joined.specs.Faulted.{StopsAt}
 use Rattle.scc_tree.specs.declared.item.FileTree.{FileTree}
-use Rattle.scc_syntax.specs.Claim.{IsReadFile, IsFault}
+use Rattle.scc_grammar.specs.Claim.{IsReadFile, IsFault}
 use Rattle.scc_meaning.specs.Location.{Location}
 use Rattle.scc_running.specs.Design.{Design, clocks}
 use Rattle.scc_meaning_core.specs.First.{refused}

@@ -150,3 +150,7 @@ deep_file n (ReadsParts.parts d ds) = deep_part n d then deep_file n ds
 -- the first token of a file that opens one more than `n` levels
 unfoldable pub deep : {ts : Text} {of : List Item} → ℕ → Reads ts of → Option Text
 deep n (Reads.file d) = deep_file n d
+
+-- the first token of a file at which it is nested deeper than 128 levels
+abbrev pub depth : (ts : Text) (items : List Item) → Reads ts items → Option Text
+depth ts items d = deep 128 d

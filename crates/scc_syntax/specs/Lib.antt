@@ -11,4 +11,3 @@ pub mod ParseItems
 pub mod ParseFile
 pub mod Fields
 pub mod Laws
-pub mod Claim

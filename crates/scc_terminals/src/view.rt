@@ -5,7 +5,7 @@ ghost use Rattle.scc_terminals.specs.View.{or_other, word_of, mark_of, terminal_
 use crate::terminal::{Holder, Seen, Terminal};
 use scc_base::{List, NoMemory};
 use scc_bits::Op;
-use scc_tokens::{Token, TokenKind};
+use scc_lexer::{Token, TokenKind};
 use scc_tree::{Family, UnaryOp};
 use std::alloc::Global;
 

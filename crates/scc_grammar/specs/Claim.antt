@@ -12,13 +12,9 @@ use Rattle.scc_reading.specs.Claim.{IsRead, IsUnexpected, IsTooDeep}
 use Rattle.scc_terminals.specs.declared.halt.Halt.{Halt}
 use Rattle.scc_terminals.specs.declared.halt.Halt.TheVariants as halt
 use Rattle.scc_syntax.specs.Items.{Reads}
-use Rattle.scc_syntax.specs.LevelsOfItems.{deep}
+use Rattle.scc_syntax.specs.LevelsOfItems.{depth}
 use Rattle.scc_terminals.specs.Text.{Text}
 use Rattle.scc_terminals.specs.View.{seen_all}
-
--- the first token of a file at which it is nested deeper than 128 levels
-abbrev pub depth : (ts : Text) (items : List Item) → Reads ts items → Option Text
-depth ts items d = deep 128 d
 
 abbrev pub text_of : Joined → Text
 text_of j = seen_all j.tokens
