@@ -17,7 +17,7 @@ use crate::first::{
 };
 use crate::opening::{open_bracketed, open_expr, open_unary};
 use crate::postfix::{after_open, cargs, postfix_after};
-use crate::primary::{after_base, primary, up_to_bracket};
+use crate::primary::{after_base, operand_of, primary, up_to_bracket};
 use crate::types::{base_at, is_constant, type_at};
 use scc_base::{List, Place};
 use scc_terminals::marks::{colon, paren_open, question};
@@ -38,8 +38,7 @@ pub fn unary<'a>(c: Reader, ts: &'a [Seen]) -> Read<'a, Placed>
     if begins_operated(ts) {
         let ((op, place), rest) = unary_operator_at(ts)?;
         let (of, rest) = open_unary(c, rest)?;
-        let of = Expr::new(c.alloc, place, ExprNode::Unary { op, of })?;
-        return Ok((Placed { place, of }, rest));
+        return operand_of(c.alloc, place, ExprNode::Unary { op, of }, rest);
     }
     if begins_paren_open(ts) {
         let (place, rest) = paren_open(ts)?;

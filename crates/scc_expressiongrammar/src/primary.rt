@@ -169,6 +169,14 @@ pub fn truth_of(alloc: Global, place: Place, b: bool) -> Result<Expr, NoMemory>
     Expr::new(alloc, place, ExprNode::Number(Kind::Bool, Word { bits }))
 }
 
+/// An operand of this node, which is read.
+pub fn operand_of(alloc: Global, place: Place, node: ExprNode, ts: &[Seen]) -> Read<'_, Placed>
+    ensures { Gives (λ x. (x.0, x.1.now)) result (pure (e.placed place (expr_of place node)) ts.now) }
+{
+    let of = Expr::new(alloc, place, node)?;
+    Ok((Placed { place, of }, ts))
+}
+
 /// A primary that does not begin with a type or a bracket.
 #[tactic(auto, unfolding(scc_syntax::specs::ParseExpressions::plain, scc_syntax::specs::ParseExpressions::primary_by))]
 #[cycle(expression)]
@@ -179,22 +187,33 @@ pub fn plain<'a>(c: Reader, ts: &'a [Seen]) -> Read<'a, Placed>
         return Err(Halt::Unexpected(None));
     };
     let place = t.place;
-    let (of, rest) = match t.terminal {
-        Terminal::Number(kind, word) => {
-            (
-                Expr::new(c.alloc, place, ExprNode::Number(kind, word))?,
-                rest,
-            )
+    match t.terminal {
+        Terminal::Number(kind, word) => operand_of(
+            c.alloc,
+            place,
+            ExprNode::Number(kind, word),
+            rest,
+        ),
+        Terminal::Truth(b) => {
+            let of = truth_of(c.alloc, place, b)?;
+            Ok((Placed { place, of }, rest))
         }
-        Terminal::Truth(b) => (truth_of(c.alloc, place, b)?, rest),
-        Terminal::This => (Expr::new(c.alloc, place, ExprNode::This)?, rest),
-        Terminal::Null => (Expr::new(c.alloc, place, ExprNode::Null)?, rest),
-        Terminal::StaticCast => cast_rest(c, place, rest)?,
-        Terminal::Concat => concat_rest(c, place, rest)?,
-        Terminal::Ident(x) if !c.names.is_type(x) => name_rest(c, x, place, rest)?,
-        _ => return Err(Halt::Unexpected(place_of(ts))),
-    };
-    Ok((Placed { place, of }, rest))
+        Terminal::This => operand_of(c.alloc, place, ExprNode::This, rest),
+        Terminal::Null => operand_of(c.alloc, place, ExprNode::Null, rest),
+        Terminal::StaticCast => {
+            let (of, rest) = cast_rest(c, place, rest)?;
+            Ok((Placed { place, of }, rest))
+        }
+        Terminal::Concat => {
+            let (of, rest) = concat_rest(c, place, rest)?;
+            Ok((Placed { place, of }, rest))
+        }
+        Terminal::Ident(x) if !c.names.is_type(x) => {
+            let (of, rest) = name_rest(c, x, place, rest)?;
+            Ok((Placed { place, of }, rest))
+        }
+        _ => Err(Halt::Unexpected(place_of(ts))),
+    }
 }
 
 #[tactic(auto, unfolding(scc_syntax::specs::ParseExpressions::primary))]

@@ -6,6 +6,7 @@ ghost use Rattle.scc_terminals.specs.Marks as m;
 ghost use Rattle.scc_terminals.specs.Nodes as nodes;
 ghost use Rattle.scc_terminals.specs.Operators as o;
 ghost use Rattle.scc_syntax.specs.ParseExpressions as e;
+ghost use Rattle.scc_syntax.specs.ParseStatements as s;
 ghost use Rattle.scc_syntax.specs.ParseStatements.{inner};
 ghost use Rattle.scc_terminals.specs.Text.{next_says};
 ghost use Rattle.scc_reading.specs.Reading.{and_then, pure, is_next};
@@ -16,14 +17,17 @@ use crate::opening::{open_additive, open_ty_arg, open_type};
 use scc_base::{List, Name, NoMemory, Place};
 use scc_bits::{Kind, Word};
 use scc_terminals::halt::{Halt, place_of};
-use scc_terminals::marks::{comma, less};
-use scc_terminals::next::{begins_char, begins_constant, begins_int, begins_less, begins_short};
+use scc_terminals::marks::{and_mark, comma, less, star_mark};
+use scc_terminals::next::{
+    begins_and_mark, begins_char, begins_constant, begins_int, begins_less, begins_short,
+    begins_star_mark,
+};
 use scc_terminals::nodes::{base_of, constant_of, held, one};
 use scc_terminals::part::{Sort, TypeRead};
 use scc_terminals::reader::{Read, Reader};
 use scc_terminals::terminal::{Holder, Seen, Terminal};
 use scc_terminals::words::{char, constant, int, short};
-use scc_tree::{Family, TyArg, TyNode};
+use scc_tree::{Family, Hold, TyArg, TyNode};
 use std::alloc::Global;
 
 // An `int` that may stand there.
@@ -339,4 +343,20 @@ pub fn ty_arg<'a>(c: Reader, ts: &'a [Seen]) -> Read<'a, (TyArg, bool)>
     }
     let (of, rest) = additive(c, ts)?;
     Ok(((TyArg::Value(of), false), rest))
+}
+
+/// What may stand before a declared name.
+#[tactic(auto, unfolding(scc_syntax::specs::ParseStatements::hold_at))]
+pub fn hold_at(ts: &[Seen]) -> Read<'_, Hold>
+    ensures { Gives (λ x. (x.0, x.1.now)) result (s.hold_at ts.now) }
+{
+    if begins_star_mark(ts) {
+        let (_, rest) = star_mark(ts)?;
+        return Ok((Hold::Pointer, rest));
+    }
+    if begins_and_mark(ts) {
+        let (_, rest) = and_mark(ts)?;
+        return Ok((Hold::Reference, rest));
+    }
+    Ok((Hold::Direct, ts))
 }

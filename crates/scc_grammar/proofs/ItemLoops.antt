@@ -1,8 +1,6 @@
--- The loops of the code of declarations.
+-- The loops of the code that reads members and files.
 use Rattle.std.specs.Prelude.{◌≡◌, ℕ, Bool, true, false, not, [], ◌∷◌, length, ◌<◌, Ok, refl}
 use Rattle.scc_terminals.specs.Marks as m
-use Rattle.scc_terminals.specs.Names.{Names}
-use Rattle.scc_syntax.specs.ParseItems as i
 use Rattle.scc_syntax.specs.ParseFile as p
 use Rattle.scc_syntax.specs.ParseFile.{is_member, is_part}
 use Rattle.scc_terminals.specs.Answer.{Fails}
@@ -11,28 +9,11 @@ use Rattle.scc_terminals.specs.declared.terminal.Seen.{Seen}
 use Rattle.scc_terminals.specs.declared.terminal.Terminal.{Terminal}
 use Rattle.scc_terminals.specs.declared.terminal.Terminal.TheVariants as t
 use Rattle.scc_syntax.specs.Bodies.{Body}
-use Rattle.scc_terminals.specs.Text.{Text, Parser, Outcome, next_is, next_says}
+use Rattle.scc_terminals.specs.Text.{Text, Parser, Outcome, next_is}
 use Rattle.scc_reading.specs.Reading.{is_next, repeat_on}
-use Rattle.scc_reading.proofs.Loop.{turns_of, turns_in_of, TurnsOn, turns_on_of}
-use Rattle.scc_grammarsound.proofs.Loops.{fails_through, Loop, loop_of, LoopIn, loop_in_of}
-use Rattle.scc_grammarsound.proofs.SoundItems.{sound_front, sound_one_enumerator, sound_one_prm, sound_one_init}
-use Rattle.scc_grammarsound.proofs.SoundFile.{sound_one_param, RMember, sound_member, RPart, sound_part}
-
-pub loop_fronts : Loop (next_says i.front) i.one_front
-loop_fronts = loop_of (turns_of _ 0 _ _ sound_front)
-
-module _ (names : Names) (n : ℕ) where
-  pub loop_enumerators : Loop (next_is m.comma) (i.one_enumerator n names)
-  loop_enumerators = loop_of (turns_of _ 0 _ _ (sound_one_enumerator n names))
-
-  pub loop_prms : Loop (next_is m.comma) (i.one_prm n names)
-  loop_prms = loop_of (turns_of _ 0 _ _ (sound_one_prm n names))
-
-  pub loop_inits : Loop (next_is m.comma) (i.one_init n names)
-  loop_inits = loop_of (turns_of _ 0 _ _ (sound_one_init n names))
-
-pub loop_params : (n : ℕ) → LoopIn (p.next_param n) (p.one_param n)
-loop_params n = loop_in_of (turns_in_of _ 0 _ _ (sound_one_param n))
+use Rattle.scc_reading.proofs.Loop.{TurnsOn, turns_on_of}
+use Rattle.scc_grammarsound.proofs.Loops.{fails_through}
+use Rattle.scc_grammarsound.proofs.SoundFile.{RMember, sound_member, RPart, sound_part}
 
 -- a loop that keeps the parts in its state
 pub record LoopOn {S : Type 0} (test : S → Seen → Bool) (q : S → Parser S) : Type 0 where

@@ -2,5 +2,4 @@ pub mod ItemLoops
 pub mod Parsed
 pub mod FieldLoops
 pub mod TypeAgain
-pub mod TemplateLoop
 pub mod FileEnd

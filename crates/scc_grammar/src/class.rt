@@ -1,91 +1,22 @@
 //! Classes and modules (C++, [class]; IEEE 1666-2011, section 5.2).
-ghost use Rattle.std.specs.Prelude.{◌≡◌, [], Some, None, OnOk, true, false};
+ghost use Rattle.std.specs.Prelude.{◌≡◌};
 ghost use Rattle.scc_terminals.specs.Answer.{Gives};
 ghost use Rattle.scc_syntax.specs.Bodies as b;
-ghost use Rattle.scc_syntax.specs.Items as grammar;
 ghost use Rattle.scc_terminals.specs.Names.{no_names};
 ghost use Rattle.scc_syntax.specs.ParseFile as p;
-ghost use Rattle.scc_syntax.specs.ParseItems as i;
-ghost use Rattle.scc_terminals.specs.Text.{mark, next_is};
-ghost use Rattle.scc_reading.specs.Reading.{is_next};
 
 use crate::member::{Members, all_members};
-use scc_base::{List, Name, NoMemory, Place};
+use scc_base::{List, Name, Place};
+use scc_declarationgrammar::class_head::{bases, class_word, declare, special};
 use scc_expressiongrammar::first::name_at;
-use scc_expressiongrammar::types::ty_args;
-use scc_terminals::halt::{Halt, place_of};
-use scc_terminals::marks::{
-    brace_close, brace_open, colon, less, paren_close, paren_open, semicolon,
-};
-use scc_terminals::next::{begins_colon, begins_less, begins_module_word, begins_public_word};
+use scc_terminals::marks::{brace_close, brace_open, paren_close, paren_open, semicolon};
+use scc_terminals::next::begins_module_word;
 use scc_terminals::reader::{Read, Reader};
 use scc_terminals::table::Table;
-use scc_terminals::terminal::{Seen, Terminal};
-use scc_terminals::words::{module_base, module_word, public_word};
+use scc_terminals::terminal::Seen;
+use scc_terminals::words::module_word;
 use scc_tree::{ClassTree, Item, ItemNode, Param, TyArg};
 use std::alloc::Global;
-
-// Whether a class is a module, by what stands behind a `:`.
-#[tactic(auto, unfolding(scc_syntax::specs::ParseItems::bases))]
-fn bases(ts: &[Seen]) -> Read<'_, bool>
-    ensures { Gives (λ x. (x.0, x.1.now)) result (i.bases ts.now) }
-{
-    if begins_colon(ts) {
-        let (_, rest) = colon(ts)?;
-        if begins_public_word(rest) {
-            let (_, rest) = public_word(rest)?;
-            let (_, rest) = module_base(rest)?;
-            return Ok((true, rest));
-        }
-        let (_, rest) = module_base(rest)?;
-        return Ok((true, rest));
-    }
-    Ok((false, ts))
-}
-
-// Whether what follows is the head of a class behind `template<>`.
-fn may_specialise(params: &Option<List<Param>>) -> bool
-    ensures { result ≡ p.may_specialise params.now }
-{
-    match params {
-        Some(list) => list.len() == 0,
-        None => false,
-    }
-}
-
-// The arguments of a specialisation.
-#[tactic(auto, unfolding(scc_syntax::specs::ParseFile::special))]
-fn special<'a>(
-    c: Reader,
-    params: &Option<List<Param>>,
-    x: Name,
-    ts: &'a [Seen],
-) -> Read<'a, Option<List<TyArg>>>
-    ensures { Gives (λ y. (y.0, y.1.now)) result (p.special c.entry.levels c.entry.names.now params.now x ts.now) }
-{
-    if may_specialise(params) && c.names.is_template(x) && begins_less(ts) {
-        let (_, rest) = less(ts)?;
-        let ((args, _), rest) = ty_args(c, false, rest)?;
-        return Ok((Some(args), rest));
-    }
-    Ok((None, ts))
-}
-
-// Declares a class, or a class template where it has parameters.
-fn declare(names: &mut Table, params: &Option<List<Param>>, x: Name) -> Result<(), NoMemory>
-    ensures { OnOk result (names.new ≡ b.declared names.old params.now x) }
-{
-    match params {
-        Some(list) => {
-            if list.len() > 0 {
-                names.add_template(x)
-            } else {
-                names.add_type(x)
-            }
-        }
-        None => names.add_type(x),
-    }
-}
 
 // The members of a class, in braces.
 #[tactic(auto, unfolding(scc_syntax::specs::ParseFile::class_body))]
@@ -174,44 +105,6 @@ fn plain_class<'a>(
     let (is_module, rest) = bases(rest)?;
     let (found, rest) = class_body(alloc, names, levels, rest)?;
     Ok((class_item(x, params, args, is_module, found, alloc), rest))
-}
-
-fn class_word(ts: &[Seen]) -> Read<'_, Place>
-    ensures { Gives (λ x. (x.0, x.1.now)) result (mark grammar.class_word ts.now) }
-{
-    match ts {
-        [
-            Seen {
-                terminal: Terminal::Class,
-                place,
-            },
-            rest @ ..,
-        ] => Ok((*place, rest)),
-        [
-            Seen {
-                terminal: Terminal::Struct,
-                place,
-            },
-            rest @ ..,
-        ] => Ok((*place, rest)),
-        _ => Err(Halt::Unexpected(place_of(ts))),
-    }
-}
-
-/// Whether a class or a module comes next.
-pub fn begins_class(ts: &[Seen]) -> bool
-    ensures { result ≡ is_next (next_is i.begins_class) ts.now }
-{
-    matches!(
-        ts,
-        [
-            Seen {
-                terminal: Terminal::Module | Terminal::Class | Terminal::Struct,
-                ..
-            },
-            ..
-        ]
-    )
 }
 
 /// A class or a module, behind the parameters of a template where it has some.

@@ -1,5 +1,5 @@
 //! Files.
-ghost use Rattle.std.specs.Prelude.{◌≡◌, [], Some, None, true};
+ghost use Rattle.std.specs.Prelude.{◌≡◌, [], Some, true};
 ghost use Rattle.scc_terminals.specs.Answer.{Gives};
 ghost use Rattle.scc_syntax.specs.Bodies as b;
 ghost use Rattle.scc_syntax.specs.ParseFile as p;
@@ -7,12 +7,14 @@ ghost use Rattle.scc_syntax.specs.ParseItems as i;
 ghost use Rattle.scc_terminals.specs.Text.{next_is, next_says, pick};
 ghost use Rattle.scc_reading.specs.Reading.{and_then, choose, is_next, pure, repeat_on, token};
 
-use crate::class::{begins_class, class_at};
-use crate::enumeration::{alias, enumeration};
+use crate::class::class_at;
 use crate::member::Members;
-use crate::outside::{fronted, fronts, outside};
-use crate::template::template;
+use crate::outside::{fronted, outside};
 use scc_base::List;
+use scc_declarationgrammar::class_head::begins_class;
+use scc_declarationgrammar::enumeration::{alias, enumeration};
+use scc_declarationgrammar::front::fronts;
+use scc_declarationgrammar::template::template;
 use scc_terminals::halt::{Halt, place_of};
 use scc_terminals::marks::semicolon;
 use scc_terminals::reader::{Read, Reader};

@@ -2,14 +2,12 @@
 #![tactic(auto)]
 
 mod class;
-mod enumeration;
 mod file;
 mod function;
 mod laws;
 mod member;
 mod outside;
 mod parsing;
-mod template;
 
 pub use laws::one_tree;
 pub use parsing::parse;

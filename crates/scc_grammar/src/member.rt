@@ -1,5 +1,5 @@
 //! Members of classes (C++, [class.mem]).
-ghost use Rattle.std.specs.Prelude.{◌≡◌, ◌∷◌, ◌++◌, [], Ok, Some, None, IfOk, true};
+ghost use Rattle.std.specs.Prelude.{◌≡◌, ◌∷◌, ◌++◌, [], Ok, IfOk, true};
 ghost use Rattle.scc_terminals.specs.Answer.{Gives};
 ghost use Rattle.scc_syntax.specs.Bodies as b;
 ghost use Rattle.scc_syntax.specs.Fields.{Again, fields_onto};
@@ -7,18 +7,18 @@ ghost use Rattle.scc_terminals.specs.Marks as m;
 ghost use Rattle.scc_syntax.specs.ParseFile as p;
 ghost use Rattle.scc_syntax.specs.ParseItems as i;
 ghost use Rattle.scc_syntax.specs.ParseItems.{MemberStart as start};
-ghost use Rattle.scc_syntax.specs.ParseStatements as s;
-ghost use Rattle.scc_terminals.specs.Text.{mark, next_is, next_says, pick};
+ghost use Rattle.scc_terminals.specs.Text.{mark, next_is};
 ghost use Rattle.scc_tree.specs.declared.ty.Ty as typing;
-ghost use Rattle.scc_reading.specs.Reading.{is_next, repeat, token};
+ghost use Rattle.scc_reading.specs.Reading.{is_next, repeat};
 
-use crate::enumeration::{alias, enumeration};
-use crate::function::{
-    body, constant_rest, constructor_of, constructor_rest, function_item, function_rest, inits,
-    named_args,
-};
-use crate::outside::{before_constant, constant_twice, fronts, is_first_name, named_of};
+use crate::function::{body, constructor_rest, function_rest};
 use scc_base::{List, Name, NoMemory, Place};
+use scc_declarationgrammar::enumeration::{alias, enumeration};
+use scc_declarationgrammar::front::{before_constant, fronts, is_first_name};
+use scc_declarationgrammar::function::{
+    constant_rest, constant_twice, constructor_of, function_item, named_args, named_of,
+};
+use scc_declarationgrammar::initialisers::inits;
 use scc_expressiongrammar::first::name_at;
 use scc_expressiongrammar::types::{base_at, constant_type, is_constant, type_at};
 use scc_statementgrammar::local::{decl, sizes};

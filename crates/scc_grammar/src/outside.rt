@@ -1,18 +1,19 @@
 //! Functions, constants and bodies outside their class, in files.
-ghost use Rattle.std.specs.Prelude.{◌≡◌, [], IfOk};
-ghost use Rattle.scc_terminals.specs.Answer.{Gives, onto};
-ghost use Rattle.scc_syntax.specs.Bodies as b;
+ghost use Rattle.scc_terminals.specs.Answer.{Gives};
 ghost use Rattle.scc_syntax.specs.ParseItems as p;
-ghost use Rattle.scc_terminals.specs.Text.{next_says, pick};
-ghost use Rattle.scc_reading.specs.Reading.{is_next, pure, repeat, token};
 
-use crate::enumeration::begins_name;
-use crate::function::{
-    constant_rest, constructor_of, function_of, function_rest, inits, named_args, prms, qualifier,
+use crate::function::function_rest;
+use scc_base::{List, Name, Place};
+use scc_declarationgrammar::enumeration::begins_name;
+use scc_declarationgrammar::front::{before_constant, before_outside, is_first_name};
+use scc_declarationgrammar::function::{
+    constant_rest, constant_twice, constructor_of, function_of, named_args, named_of, or_none,
+    outside_item,
 };
-use scc_base::{List, Name, NoMemory, Place};
+use scc_declarationgrammar::initialisers::inits;
+use scc_declarationgrammar::parameters::{prms, qualifier};
 use scc_expressiongrammar::first::name_at;
-use scc_expressiongrammar::types::{base_at, constant_type, is_constant, named_type, type_at};
+use scc_expressiongrammar::types::{base_at, constant_type, is_constant, type_at};
 use scc_statementgrammar::stmt::block_of;
 use scc_terminals::halt::{Halt, place_of};
 use scc_terminals::marks::{paren_close, paren_open, scope};
@@ -20,139 +21,11 @@ use scc_terminals::next::{
     begins_assign, begins_constant, begins_inline_word, begins_paren_open, begins_scope,
     begins_void_word,
 };
-use scc_terminals::nodes::constant_of;
 use scc_terminals::part::TypeRead;
 use scc_terminals::reader::{Read, Reader};
-use scc_terminals::terminal::{Seen, Terminal};
+use scc_terminals::terminal::Seen;
 use scc_terminals::words::{constant, inline_word, void_word};
-use scc_tree::{FunctionTree, Item, ItemNode, Param, Ty, TyArg, TyNode};
-use std::alloc::Global;
-
-// `static` (true) or `inline` (false).
-fn front(ts: &[Seen]) -> Read<'_, bool>
-    ensures { Gives (λ x. (x.0, x.1.now)) result (p.one_front ts.now) }
-{
-    match ts {
-        [
-            Seen {
-                terminal: Terminal::Static,
-                ..
-            },
-            rest @ ..,
-        ] => Ok((true, rest)),
-        [
-            Seen {
-                terminal: Terminal::Inline,
-                ..
-            },
-            rest @ ..,
-        ] => Ok((false, rest)),
-        _ => Err(Halt::Unexpected(place_of(ts))),
-    }
-}
-
-fn begins_front(ts: &[Seen]) -> bool
-    ensures { result ≡ is_next (next_says p.front) ts.now }
-{
-    matches!(
-        ts,
-        [
-            Seen {
-                terminal: Terminal::Static | Terminal::Inline,
-                ..
-            },
-            ..
-        ]
-    )
-}
-
-fn more_fronts<'a>(found: List<bool>, ts: &'a [Seen]) -> Read<'a, List<bool>>
-    ensures { Gives (λ x. (x.0, x.1.now)) result (onto found (repeat (next_says p.front) p.one_front) ts.now) }
-{
-    let mut found = found;
-    let mut rest = ts;
-    while begins_front(rest) {
-        let (next, after) = front(rest)?;
-        found.push(next)?;
-        rest = after;
-    }
-    Ok((found, rest))
-}
-
-/// `static` and `inline`, each any number of times.
-#[tactic(auto, unfolding(scc_syntax::specs::ParseItems::fronts))]
-pub fn fronts<'a>(alloc: Global, ts: &'a [Seen]) -> Read<'a, List<bool>>
-    ensures { Gives (λ x. (x.0, x.1.now)) result (p.fronts ts.now) }
-{
-    more_fronts(List::new(alloc), ts)
-}
-
-/// Whether a constant may stand behind these.
-pub fn before_constant(found: &[bool]) -> bool
-    ensures { result ≡ p.before_constant found.now }
-{
-    matches!(found, [] | [true])
-}
-
-/// Whether a body outside its class may stand behind these.
-pub fn before_outside(found: &[bool]) -> bool
-    ensures { result ≡ p.before_outside found.now }
-{
-    matches!(found, [] | [false])
-}
-
-/// Whether a name comes next, with nothing before it.
-pub fn is_first_name(found: &[bool], ts: &[Seen]) -> bool
-    ensures { result ≡ is_next (p.is_first_name found.now) ts.now }
-{
-    match found {
-        [] => begins_name(ts),
-        [_, ..] => false,
-    }
-}
-
-/// A class's name and its arguments, as a type.
-pub fn named_of(
-    alloc: Global,
-    x: (Name, Place),
-    args: Option<List<TyArg>>,
-) -> Result<TypeRead, NoMemory>
-    ensures { IfOk result (λ t. t ≡ p.named_of x args) }
-{
-    named_type(alloc, x.1, TyNode::Named { name: x.0, args }, false)
-}
-
-fn or_none(alloc: Global, args: Option<List<TyArg>>) -> List<TyArg>
-    ensures { result ≡ p.or_none args }
-{
-    match args {
-        Some(args) => args,
-        None => List::new(alloc),
-    }
-}
-
-/// A body outside its class, whose name stands at the place.
-fn outside_item(
-    place: Place,
-    params: List<Param>,
-    class: Name,
-    args: List<TyArg>,
-    function: FunctionTree,
-) -> Item
-    ensures { result ≡ b.outside_item place params class args function }
-{
-    let name = function.name;
-    Item {
-        place,
-        name: Some(name),
-        node: ItemNode::Outside {
-            params,
-            class,
-            args,
-            function,
-        },
-    }
-}
+use scc_tree::{Item, Param, Ty, TyArg};
 
 /// The rest of a function outside its class, behind the class's name.
 #[tactic(auto, unfolding(scc_syntax::specs::ParseItems::outside_function))]
@@ -234,16 +107,6 @@ fn typed<'a>(c: Reader, found: &[bool], of: TypeRead, ts: &'a [Seen]) -> Read<'a
         return named_function(c, found, Some(of.ty), x, rest);
     }
     named_function(c, found, Some(of.ty), x, rest)
-}
-
-/// A constant behind its second `const`; the first one stands at the place.
-#[tactic(auto, unfolding(scc_syntax::specs::ParseItems::constant_twice))]
-pub fn constant_twice<'a>(c: Reader, q: Place, ts: &'a [Seen]) -> Read<'a, Item>
-    ensures { Gives (λ x. (x.0, x.1.now)) result (p.constant_twice c.entry.levels c.entry.names.now q ts.now) }
-{
-    let (of, rest) = base_at(c, false, ts)?;
-    let (x, rest) = name_at(rest)?;
-    constant_rest(c, constant_of(q, of.ty), x, rest)
 }
 
 // Behind a `const`, which stands at the place.

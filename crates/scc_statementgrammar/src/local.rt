@@ -1,23 +1,19 @@
 //! Declared names and local variables.
-ghost use Rattle.std.specs.Prelude.{◌≡◌, IfOk, false, true};
+ghost use Rattle.std.specs.Prelude.{◌≡◌};
 ghost use Rattle.scc_terminals.specs.Answer.{Gives, onto};
-ghost use Rattle.scc_terminals.specs.Marks as m;
 ghost use Rattle.scc_terminals.specs.Names as names;
 ghost use Rattle.scc_syntax.specs.ParseStatements as s;
 ghost use Rattle.scc_syntax.specs.ParseStatements.{inner};
 ghost use Rattle.scc_terminals.specs.StatementNodes as nodes;
-ghost use Rattle.scc_syntax.specs.Statements as statements;
-ghost use Rattle.scc_terminals.specs.Text.{next_is, next_says, pick};
-ghost use Rattle.scc_reading.specs.Reading.{is_next, token};
-ghost use Rattle.scc_tree.specs.Node.{stmt_of};
+ghost use Rattle.scc_terminals.specs.Text.{next_is};
+ghost use Rattle.scc_reading.specs.Reading.{is_next};
 
 use scc_base::{List, Name, Place};
 use scc_expressiongrammar::chain::expr;
 use scc_expressiongrammar::first::name_at;
 use scc_expressiongrammar::opening::open_expr;
-use scc_terminals::marks::{
-    and_mark, assign, bracket_close, bracket_open, comma, paren_close, paren_open, star_mark,
-};
+use scc_expressiongrammar::types::hold_at;
+use scc_terminals::marks::{assign, bracket_close, bracket_open, comma, paren_close, paren_open};
 use scc_terminals::next::{
     begins_and_mark, begins_assign, begins_bracket_open, begins_comma, begins_paren_open,
     begins_star_mark,
@@ -26,22 +22,6 @@ use scc_terminals::nodes::one;
 use scc_terminals::reader::{Read, Reader};
 use scc_terminals::terminal::Seen;
 use scc_tree::{Decl, Expr, Hold, LocalDecl, LocalTree, Ty};
-
-/// What may stand before a declared name.
-#[tactic(auto, unfolding(scc_syntax::specs::ParseStatements::hold_at))]
-pub fn hold_at(ts: &[Seen]) -> Read<'_, Hold>
-    ensures { Gives (λ x. (x.0, x.1.now)) result (s.hold_at ts.now) }
-{
-    if begins_star_mark(ts) {
-        let (_, rest) = star_mark(ts)?;
-        return Ok((Hold::Pointer, rest));
-    }
-    if begins_and_mark(ts) {
-        let (_, rest) = and_mark(ts)?;
-        return Ok((Hold::Reference, rest));
-    }
-    Ok((Hold::Direct, ts))
-}
 
 pub fn begins_hold(ts: &[Seen]) -> bool
     ensures { result ≡ is_next (next_is s.begins_hold) ts.now }

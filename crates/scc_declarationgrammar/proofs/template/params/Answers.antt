@@ -3,8 +3,8 @@ use Rattle.scc_reading.specs.Reading.{and_then, pure}
 use Rattle.scc_syntax.specs.ParseExpressions as e
 use Rattle.scc_syntax.specs.ParseItems.{params_by}
 use Rattle.scc_grammarsound.proofs.Loops.{fails_through}
-use Rattle.scc_grammar.proofs.TemplateLoop.{params_from}
-use Rattle.scc_grammar.proofs.template.params.Goals as goal
+use Rattle.scc_declarationgrammar.proofs.TemplateLoop.{params_from}
+use Rattle.scc_declarationgrammar.proofs.template.params.Goals as goal
 use Rattle.std.proofs.lemmas.Result.{err_from_is_err_and}
 
 pub returns-in_err-rest : goal.returns-in_err-rest

@@ -1,8 +1,8 @@
 use Rattle.std.proofs.Common.{sym, ◌∙◌}
 use Rattle.std.proofs.lemmas.Result.{err_from_is_err_and}
 use Rattle.scc_syntax.specs.ParseItems.{params_by}
-use Rattle.scc_grammar.proofs.ItemLoops.{loop_params}
-use Rattle.scc_grammar.proofs.template.more_params.Goals as goal
+use Rattle.scc_declarationgrammar.proofs.ListLoops.{loop_params}
+use Rattle.scc_declarationgrammar.proofs.template.more_params.Goals as goal
 
 pub returns-in_err-next : goal.returns-in_err-next
 returns-in_err-next c =

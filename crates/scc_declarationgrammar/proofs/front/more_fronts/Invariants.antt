@@ -3,7 +3,7 @@ use Rattle.scc_terminals.specs.Answer.{onto}
 use Rattle.scc_syntax.specs.ParseItems as p
 use Rattle.scc_terminals.specs.Text.{next_says}
 use Rattle.scc_reading.specs.Reading.{repeat}
-use Rattle.scc_grammar.proofs.outside.more_fronts.Given as goal
+use Rattle.scc_declarationgrammar.proofs.front.more_fronts.Given as goal
 
 abbrev pub invariant-loop-rest : goal.invariant-loop-rest
 invariant-loop-rest l = onto l.found (repeat (next_says p.front) p.one_front) l.rest ≡ onto l.fn.found (repeat (next_says p.front) p.one_front) l.fn.ts

@@ -1,7 +1,7 @@
 use Rattle.std.proofs.Common.{sym, ◌∙◌}
 use Rattle.std.proofs.lemmas.Result.{err_from_is_err_and}
-use Rattle.scc_grammar.proofs.ItemLoops.{loop_prms}
-use Rattle.scc_grammar.proofs.function.more_prms.Goals as goal
+use Rattle.scc_declarationgrammar.proofs.ListLoops.{loop_prms}
+use Rattle.scc_declarationgrammar.proofs.parameters.more_prms.Goals as goal
 
 pub returns-in_err-next : goal.returns-in_err-next
 returns-in_err-next c =

@@ -3,7 +3,7 @@ use Rattle.scc_terminals.specs.Answer.{onto_in}
 use Rattle.scc_syntax.specs.ParseFile as p
 use Rattle.scc_syntax.specs.ParseItems as i
 use Rattle.scc_reading.specs.Reading.{repeat_in}
-use Rattle.scc_grammar.proofs.template.more_params.Given as goal
+use Rattle.scc_declarationgrammar.proofs.template.more_params.Given as goal
 
 abbrev pub invariant-loop-alloc : goal.invariant-loop-alloc
 invariant-loop-alloc l = onto_in l.found (repeat_in (p.next_param l.levels) (p.one_param l.levels) (i.params_by l.names l.closed)) l.rest ≡ onto_in l.fn.found (repeat_in (p.next_param l.levels) (p.one_param l.levels) (i.params_by l.fn.names l.fn.closed)) l.fn.ts

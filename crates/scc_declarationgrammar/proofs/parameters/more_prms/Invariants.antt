@@ -4,7 +4,7 @@ use Rattle.scc_terminals.specs.Marks as m
 use Rattle.scc_syntax.specs.ParseItems as p
 use Rattle.scc_terminals.specs.Text.{next_is}
 use Rattle.scc_reading.specs.Reading.{repeat}
-use Rattle.scc_grammar.proofs.function.more_prms.Given as goal
+use Rattle.scc_declarationgrammar.proofs.parameters.more_prms.Given as goal
 
 abbrev pub invariant-loop-c : goal.invariant-loop-c
 invariant-loop-c l = onto l.found (repeat (next_is m.comma) (p.one_prm l.c.levels l.c.names.now)) l.rest ≡ onto l.fn.found (repeat (next_is m.comma) (p.one_prm l.c.levels l.c.names.now)) l.fn.ts

@@ -1,7 +1,7 @@
 use Rattle.std.proofs.Common.{sym, ◌∙◌}
 use Rattle.std.proofs.lemmas.Result.{err_from_is_err_and}
-use Rattle.scc_grammar.proofs.ItemLoops.{loop_fronts}
-use Rattle.scc_grammar.proofs.outside.more_fronts.Goals as goal
+use Rattle.scc_declarationgrammar.proofs.ListLoops.{loop_fronts}
+use Rattle.scc_declarationgrammar.proofs.front.more_fronts.Goals as goal
 
 pub returns-in_err-next : goal.returns-in_err-next
 returns-in_err-next c =

@@ -1,0 +1,2 @@
+pub mod ListLoops
+pub mod TemplateLoop
