@@ -146,18 +146,39 @@ fn read_row(
     read(alloc, &mut MemFiles::new(alloc), text.as_bytes(), view)
 }
 
+// How many items a source has, or the place at which it is refused.
+fn counted(alloc: Global, text: &[u8]) -> Result<String, Fail> {
+    read(alloc, &mut MemFiles::new(alloc), text, &View::Count)
+}
+
+// Whether a line of a table is a row, and not a remark on the rows behind it.
+fn is_row(line: &str) -> bool {
+    !line.is_empty() && !line.starts_with("//")
+}
+
+// A row: a source, and what is wanted of it behind `=>`.
+fn row_of(line: &str) -> (&str, &str) {
+    match line.split_once("=>") {
+        Some((row, want)) => (row.trim_end(), want.trim_start()),
+        None => (line, "no row"),
+    }
+}
+
 #[test]
 fn trees(rt: HostRuntime) -> Result<(), Fail> {
-    let tables: &[(&[(&str, &str)], &str, &str, View)] = &[
-        (&EXPRESSIONS, "void f() {\nreturn ", ";\n}", View::Value),
-        (&TYPES, "void f() {\n", " x;\n}", View::Type),
-        (&STATEMENTS, "void f() {\n", "\n}", View::Statements),
-        (&ITEMS, "", "", View::Items(5)),
+    let tables: &[(&str, &str, &str, View)] = &[
+        (EXPRESSIONS, "void f() {\nreturn ", ";\n}", View::Value),
+        (TYPES, "void f() {\n", " x;\n}", View::Type),
+        (STATEMENTS, "void f() {\n", "\n}", View::Statements),
+        (ITEMS, "", "", View::Items(5)),
     ];
-    for (rows, before, behind, view) in tables {
-        for (row, want) in *rows {
-            let got = read_row(rt.alloc(), before, row, behind, view)?;
-            assert_eq!(rt; got.as_str(), *want, "{row}");
+    for (table, before, behind, view) in tables {
+        for line in table.split('\n') {
+            if is_row(line) {
+                let (row, want) = row_of(line);
+                let got = read_row(rt.alloc(), before, row, behind, view)?;
+                assert_eq!(rt; got.as_str(), want, "{row}");
+            }
         }
     }
     Ok(())
@@ -165,14 +186,17 @@ fn trees(rt: HostRuntime) -> Result<(), Fail> {
 
 #[test]
 fn places_of_faults(rt: HostRuntime) -> Result<(), Fail> {
-    let tables: &[(&[(&str, &str)], &str, &str)] = &[
-        (&WRONG_STATEMENTS, "void f() {\n", "\n}"),
-        (&WRONG_ITEMS, "", ""),
+    let tables = [
+        (WRONG_STATEMENTS, "void f() {\n", "\n}"),
+        (WRONG_ITEMS, "", ""),
     ];
-    for (rows, before, behind) in tables {
-        for (row, want) in *rows {
-            let got = read_row(rt.alloc(), before, row, behind, &View::Count)?;
-            assert_eq!(rt; got.as_str(), *want, "{row}");
+    for (table, before, behind) in &tables {
+        for line in table.split('\n') {
+            if is_row(line) {
+                let (row, want) = row_of(line);
+                let got = read_row(rt.alloc(), before, row, behind, &View::Count)?;
+                assert_eq!(rt; got.as_str(), want, "{row}");
+            }
         }
     }
     Ok(())
@@ -207,12 +231,7 @@ fn whole_sources(rt: HostRuntime) -> Result<(), Fail> {
         assert_eq!(rt; got.as_str(), want, "{text}");
     }
     let text = "#include <systemc.h>\ntemplate<int W> struct S { sc_uint<W";
-    let got = read(
-        rt.alloc(),
-        &mut MemFiles::new(rt.alloc()),
-        text.as_bytes(),
-        &View::Count,
-    )?;
+    let got = counted(rt.alloc(), text.as_bytes())?;
     assert_eq!(rt; got.as_str(), "2:37 E201");
     Ok(())
 }
@@ -233,12 +252,7 @@ fn every_cut_of_a_source(rt: HostRuntime) -> Result<(), Fail> {
     let text = COUNTER.as_bytes();
     for cut in 0..text.len().saturating_sub(1) {
         let part = text.get(..cut).unwrap_or(text);
-        let got = read(
-            rt.alloc(),
-            &mut MemFiles::new(rt.alloc()),
-            part,
-            &View::Count,
-        )?;
+        let got = counted(rt.alloc(), part)?;
         let want = match cut {
             0 | 20 | 21 => String::from_str(rt.alloc(), "0")?,
             1..=19 => String::from_str(rt.alloc(), "1:1 E105")?,
@@ -260,39 +274,46 @@ fn push_copies(text: &mut String, piece: &str, count: u32) -> Result<(), AllocEr
     Ok(())
 }
 
+// A row of nested parts, as one text.
+fn push_nested(
+    text: &mut String,
+    row: &(&str, &str, &str, &str, &str, u32, &str),
+) -> Result<(), AllocError> {
+    let (before, open, middle, close, behind, count, _) = row;
+    text.push_str(before)?;
+    push_copies(text, open, *count)?;
+    text.push_str(middle)?;
+    push_copies(text, close, *count)?;
+    text.push_str(behind)
+}
+
 #[test]
 fn nesting(rt: HostRuntime) -> Result<(), Fail> {
     let rows: &[(&str, &str, &str, &str, &str, u32, &str)] = &LEVELS;
-    for (before, open, middle, close, behind, count, want) in rows {
-        let mut text = String::from_str(rt.alloc(), before)?;
-        push_copies(&mut text, open, *count)?;
-        text.push_str(middle)?;
-        push_copies(&mut text, close, *count)?;
-        text.push_str(behind)?;
-        let got = read(
-            rt.alloc(),
-            &mut MemFiles::new(rt.alloc()),
-            text.as_bytes(),
-            &View::Count,
-        )?;
+    for row in rows {
+        let mut text = String::new(rt.alloc());
+        push_nested(&mut text, row)?;
+        let got = counted(rt.alloc(), text.as_bytes())?;
+        let (before, open, .., count, want) = row;
         assert_eq!(rt; got.as_str(), *want, "{before} {open} {count}");
     }
     Ok(())
+}
+
+// A chain of many links, as one text.
+fn push_chain(text: &mut String, before: &str, link: &str, behind: &str) -> Result<(), AllocError> {
+    text.push_str(before)?;
+    push_copies(text, link, 20_000)?;
+    text.push_str(behind)
 }
 
 #[test]
 fn long_chains(rt: HostRuntime) -> Result<(), Fail> {
     let rows: &[(&str, &str, &str, &str)] = &CHAINS;
     for (before, link, behind, want) in rows {
-        let mut text = String::from_str(rt.alloc(), before)?;
-        push_copies(&mut text, link, 20_000)?;
-        text.push_str(behind)?;
-        let got = read(
-            rt.alloc(),
-            &mut MemFiles::new(rt.alloc()),
-            text.as_bytes(),
-            &View::Count,
-        )?;
+        let mut text = String::new(rt.alloc());
+        push_chain(&mut text, before, link, behind)?;
+        let got = counted(rt.alloc(), text.as_bytes())?;
         assert_eq!(rt; got.as_str(), *want, "{link}");
     }
     Ok(())

@@ -2,173 +2,107 @@
 //! the parameter `T`, the alias `I` and the enumeration `E`.
 
 /// Statements and their trees.
-pub const STATEMENTS: [(&str, &str); 100] = [
-    (";", ";"),
-    ("{}", "{}"),
-    ("{ ; {} }", "{; {}}"),
-    ("int x;", "(local s32 x)"),
-    ("int x = 1;", "(local s32 x=1)"),
-    ("int x(1);", "(local s32 x=1)"),
-    ("int x = a ? b : c, y;", "(local s32 x=(? a b c) y)"),
-    (
-        "int *p, &q = x, a[3][y + 1];",
-        "(local s32 *p &q=x a[3][(y + 1)])",
-    ),
-    ("int a[2] = 1;", "(local s32 a[2]=1)"),
-    ("const V<8> &v = x;", "(local const (V 8) &v=x)"),
-    // behind a type a `*` or a name makes a local
-    ("C *x;", "(local C *x)"),
-    ("C & x = y;", "(local C &x=y)"),
-    ("C C;", "(local C C)"),
-    ("C x(y);", "(local C x=y)"),
-    ("T x;", "(local T x)"),
-    ("I x = 1;", "(local I x=1)"),
-    ("E x = A;", "(local E x=A)"),
-    ("V<8> x;", "(local (V 8) x)"),
-    ("V x;", "(local V x)"),
-    // and a `(` or a `::` an expression
-    ("C(x).f();", "(cast C x).f()"),
-    ("C(x)(y);", "(cast C x)(y)"),
-    ("C(x) = 1;", "(= (cast C x) 1)"),
-    ("int(x)++;", "(++ (cast s32 x))"),
-    ("C::f();", "(:: C f)()"),
-    ("C::x = 1;", "(= (:: C x) 1)"),
-    ("V<8>::f(1);", "(:: (V 8) f)(1)"),
-    ("V<8>(x) = 1;", "(= (cast (V 8) x) 1)"),
-    ("x::f();", "(:: x f)()"),
-    ("A = 1;", "(= A 1)"),
-    ("W = 1;", "(= W 1)"),
-    ("if (a) ;", "(if a ;)"),
-    ("if (a) ; else ;", "(if a ; ;)"),
-    (
-        "if (a) if (b) x = 1; else x = 2;",
-        "(if a (if b (= x 1) (= x 2)))",
-    ),
-    (
-        "if (a) if (b) x = 1; else x = 2; else x = 3;",
-        "(if a (if b (= x 1) (= x 2)) (= x 3))",
-    ),
-    (
-        "if (a) { if (b) x = 1; } else x = 2;",
-        "(if a {(if b (= x 1))} (= x 2))",
-    ),
-    (
-        "if (a) while (b) if (c) ; else x = 1;",
-        "(if a (while b (if c ; (= x 1))))",
-    ),
-    (
-        "if (a) for (;;) if (b) ; else x = 1;",
-        "(if a (for _ _ _ (if b ; (= x 1))))",
-    ),
-    (
-        "if (a) do if (b) ; while (c); else x = 1;",
-        "(if a (do (if b ;) c) (= x 1))",
-    ),
-    (
-        "if (a) switch (b) { if (c) ; } else x = 1;",
-        "(if a (switch b (if c ;)) (= x 1))",
-    ),
-    (
-        "if (a) x = 1; else if (b) x = 2; else x = 3;",
-        "(if a (= x 1) (if b (= x 2) (= x 3)))",
-    ),
-    (
-        "if (a) if (b) ; else if (c) ; else x = 1;",
-        "(if a (if b ; (if c ; (= x 1))))",
-    ),
-    ("if (a) ; if (b) ; else ;", "(if a ;) (if b ; ;)"),
-    ("switch (x) {}", "(switch x)"),
-    (
-        "switch (x) { case 1: case a + 1: ; default: break; }",
-        "(switch x (case 1) (case (a + 1)) ; default break)",
-    ),
-    (
-        "switch (x) { case a ? b : c: int y; y = 1; }",
-        "(switch x (case (? a b c)) (local s32 y) (= y 1))",
-    ),
-    (
-        "switch (x) { ; default: default: }",
-        "(switch x ; default default)",
-    ),
-    (
-        "switch (x) { case C::y: ; }",
-        "(switch x (case (:: C y)) ;)",
-    ),
-    ("while (a) b = c;", "(while a (= b c))"),
-    ("while (C(x)) ;", "(while (cast C x) ;)"),
-    ("do ; while (a);", "(do ; a)"),
-    ("do { x(); } while (a); y();", "(do {x()} a) y()"),
-    ("do do ; while (a); while (b);", "(do (do ; a) b)"),
-    ("for (;;) ;", "(for _ _ _ ;)"),
-    (
-        "for (int i = 0; i < 8; i++) ;",
-        "(for (local s32 i=0) (i < 8) (++ i) ;)",
-    ),
-    (
-        "for (int i = 0, j(1); ; ) ;",
-        "(for (local s32 i=0 j=1) _ _ ;)",
-    ),
-    ("for (i = 0; ; --i) ;", "(for (= i 0) _ (-- i) ;)"),
-    ("for (C(x).f(); a; f()) ;", "(for (cast C x).f() a f() ;)"),
-    (
-        "for (C x; ; x = new C()) ;",
-        "(for (local C x) _ (= x (new C)) ;)",
-    ),
-    (
-        "for (const int i = 0; ; ) {}",
-        "(for (local const s32 i=0) _ _ {})",
-    ),
-    ("break;", "break"),
-    ("continue;", "continue"),
-    ("return;", "return"),
-    ("return x;", "(return x)"),
-    ("return C(x);", "(return (cast C x))"),
-    ("wait();", "wait"),
-    ("wait(3);", "(wait 3)"),
-    ("SC_METHOD(f);", "(method f)"),
-    ("SC_THREAD(C);", "(thread C)"),
-    ("SC_CTHREAD(f, clk.pos());", "(cthread f clk.pos())"),
-    ("sensitive << a;", "(sensitive a)"),
-    (
-        "sensitive << a << b.pos() << c + 1;",
-        "(sensitive a b.pos() (c + 1))",
-    ),
-    ("sensitive << (a << b);", "(sensitive (a << b))"),
-    ("dont_initialize();", "dont_initialize"),
-    ("reset_signal_is(rst, true);", "(reset rst true)"),
-    (
-        "async_reset_signal_is(rst, a ? b : c);",
-        "(async_reset rst (? a b c))",
-    ),
-    ("x = 1;", "(= x 1)"),
-    ("x += 1; x -= 2; x *= 3;", "(+= x 1) (-= x 2) (*= x 3)"),
-    ("x /= 1; x %= 2; x &= 3;", "(/= x 1) (%= x 2) (&= x 3)"),
-    (
-        "x |= 1; x ^= 2; x <<= 3; x >>= 4;",
-        "(|= x 1) (^= x 2) (<<= x 3) (>>= x 4)",
-    ),
-    ("x = a ? b : c;", "(= x (? a b c))"),
-    ("x = new C(\"t\", 1);", "(= x (new C text 1))"),
-    ("x += new V<8>();", "(+= x (new (V 8)))"),
-    ("x = new sc_uint<8>(1);", "(= x (new (sc_uint 8) 1))"),
-    ("1 = 2;", "(= 1 2)"),
-    ("*x = 1;", "(= (* x) 1)"),
-    ("-x = 1;", "(= (- x) 1)"),
-    ("(x) = 1;", "(= x 1)"),
-    ("(a, b) = c;", "(= (concat a b) c)"),
-    ("(a + b) = c;", "(= (a + b) c)"),
-    ("(C) x = 1;", "(= (cast C x) 1)"),
-    ("(C(x)) = 1;", "(= (cast C x) 1)"),
-    ("++x; --x.y;", "(++ x) (-- x.y)"),
-    ("x++; *p--;", "(++ x) (-- (* p))"),
-    ("++*p; ++(C) x;", "(++ (* p)) (++ (cast C x))"),
-    ("f();", "f()"),
-    ("x.f(1)->g(y);", "x.f(1)->g(y)"),
-    ("x[1]();", "x[1]()"),
-    ("(f)();", "f()"),
-    ("(a, b).f();", "(concat a b).f()"),
-    (
-        "this->f(); static_cast<C>(x).f();",
-        "this->f() (cast C x).f()",
-    ),
-];
+pub const STATEMENTS: &str = "
+; => ;
+{} => {}
+{ ; {} } => {; {}}
+int x; => (local s32 x)
+int x = 1; => (local s32 x=1)
+int x(1); => (local s32 x=1)
+int x = a ? b : c, y; => (local s32 x=(? a b c) y)
+int *p, &q = x, a[3][y + 1]; => (local s32 *p &q=x a[3][(y + 1)])
+int a[2] = 1; => (local s32 a[2]=1)
+const V<8> &v = x; => (local const (V 8) &v=x)
+// behind a type a `*` or a name makes a local
+C *x; => (local C *x)
+C & x = y; => (local C &x=y)
+C C; => (local C C)
+C x(y); => (local C x=y)
+T x; => (local T x)
+I x = 1; => (local I x=1)
+E x = A; => (local E x=A)
+V<8> x; => (local (V 8) x)
+V x; => (local V x)
+// and a `(` or a `::` an expression
+C(x).f(); => (cast C x).f()
+C(x)(y); => (cast C x)(y)
+C(x) = 1; => (= (cast C x) 1)
+int(x)++; => (++ (cast s32 x))
+C::f(); => (:: C f)()
+C::x = 1; => (= (:: C x) 1)
+V<8>::f(1); => (:: (V 8) f)(1)
+V<8>(x) = 1; => (= (cast (V 8) x) 1)
+x::f(); => (:: x f)()
+A = 1; => (= A 1)
+W = 1; => (= W 1)
+if (a) ; => (if a ;)
+if (a) ; else ; => (if a ; ;)
+if (a) if (b) x = 1; else x = 2; => (if a (if b (= x 1) (= x 2)))
+if (a) if (b) x = 1; else x = 2; else x = 3; => (if a (if b (= x 1) (= x 2)) (= x 3))
+if (a) { if (b) x = 1; } else x = 2; => (if a {(if b (= x 1))} (= x 2))
+if (a) while (b) if (c) ; else x = 1; => (if a (while b (if c ; (= x 1))))
+if (a) for (;;) if (b) ; else x = 1; => (if a (for _ _ _ (if b ; (= x 1))))
+if (a) do if (b) ; while (c); else x = 1; => (if a (do (if b ;) c) (= x 1))
+if (a) switch (b) { if (c) ; } else x = 1; => (if a (switch b (if c ;)) (= x 1))
+if (a) x = 1; else if (b) x = 2; else x = 3; => (if a (= x 1) (if b (= x 2) (= x 3)))
+if (a) if (b) ; else if (c) ; else x = 1; => (if a (if b ; (if c ; (= x 1))))
+if (a) ; if (b) ; else ; => (if a ;) (if b ; ;)
+switch (x) {} => (switch x)
+switch (x) { case 1: case a + 1: ; default: break; } => (switch x (case 1) (case (a + 1)) ; default break)
+switch (x) { case a ? b : c: int y; y = 1; } => (switch x (case (? a b c)) (local s32 y) (= y 1))
+switch (x) { ; default: default: } => (switch x ; default default)
+switch (x) { case C::y: ; } => (switch x (case (:: C y)) ;)
+while (a) b = c; => (while a (= b c))
+while (C(x)) ; => (while (cast C x) ;)
+do ; while (a); => (do ; a)
+do { x(); } while (a); y(); => (do {x()} a) y()
+do do ; while (a); while (b); => (do (do ; a) b)
+for (;;) ; => (for _ _ _ ;)
+for (int i = 0; i < 8; i++) ; => (for (local s32 i=0) (i < 8) (++ i) ;)
+for (int i = 0, j(1); ; ) ; => (for (local s32 i=0 j=1) _ _ ;)
+for (i = 0; ; --i) ; => (for (= i 0) _ (-- i) ;)
+for (C(x).f(); a; f()) ; => (for (cast C x).f() a f() ;)
+for (C x; ; x = new C()) ; => (for (local C x) _ (= x (new C)) ;)
+for (const int i = 0; ; ) {} => (for (local const s32 i=0) _ _ {})
+break; => break
+continue; => continue
+return; => return
+return x; => (return x)
+return C(x); => (return (cast C x))
+wait(); => wait
+wait(3); => (wait 3)
+SC_METHOD(f); => (method f)
+SC_THREAD(C); => (thread C)
+SC_CTHREAD(f, clk.pos()); => (cthread f clk.pos())
+sensitive << a; => (sensitive a)
+sensitive << a << b.pos() << c + 1; => (sensitive a b.pos() (c + 1))
+sensitive << (a << b); => (sensitive (a << b))
+dont_initialize(); => dont_initialize
+reset_signal_is(rst, true); => (reset rst true)
+async_reset_signal_is(rst, a ? b : c); => (async_reset rst (? a b c))
+x = 1; => (= x 1)
+x += 1; x -= 2; x *= 3; => (+= x 1) (-= x 2) (*= x 3)
+x /= 1; x %= 2; x &= 3; => (/= x 1) (%= x 2) (&= x 3)
+x |= 1; x ^= 2; x <<= 3; x >>= 4; => (|= x 1) (^= x 2) (<<= x 3) (>>= x 4)
+x = a ? b : c; => (= x (? a b c))
+x = new C(\"t\", 1); => (= x (new C text 1))
+x += new V<8>(); => (+= x (new (V 8)))
+x = new sc_uint<8>(1); => (= x (new (sc_uint 8) 1))
+1 = 2; => (= 1 2)
+*x = 1; => (= (* x) 1)
+-x = 1; => (= (- x) 1)
+(x) = 1; => (= x 1)
+(a, b) = c; => (= (concat a b) c)
+(a + b) = c; => (= (a + b) c)
+(C) x = 1; => (= (cast C x) 1)
+(C(x)) = 1; => (= (cast C x) 1)
+++x; --x.y; => (++ x) (-- x.y)
+x++; *p--; => (++ x) (-- (* p))
+++*p; ++(C) x; => (++ (* p)) (++ (cast C x))
+f(); => f()
+x.f(1)->g(y); => x.f(1)->g(y)
+x[1](); => x[1]()
+(f)(); => f()
+(a, b).f(); => (concat a b).f()
+this->f(); static_cast<C>(x).f(); => this->f() (cast C x).f()
+";
