@@ -3,13 +3,13 @@ ghost use Rattle.std.specs.Prelude.{◌≡◌, ◌≤◌};
 ghost use Rattle.scc_svgrammar.specs.Answer.{Gives};
 ghost use Rattle.scc_svgrammar.specs.Reader as reader;
 
-use crate::bytes;
-use crate::bytes::text;
-use crate::expr::open_expr;
-use crate::lexical::{literal, name};
 use crate::stmt::{blanks, stmts};
 use scc_base::{List, Text};
 use scc_svgrammar::{Halt, RawBlock, RawLoad, RawReset, RawSet};
+use scc_svrawexpressions::bytes;
+use scc_svrawexpressions::bytes::text;
+use scc_svrawexpressions::expr::open_expr;
+use scc_svrawexpressions::lexical::{literal, name};
 use std::alloc::Global;
 
 // The end of a line of an edge, from behind its target.

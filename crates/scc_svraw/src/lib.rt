@@ -2,12 +2,7 @@
 #![tactic(auto)]
 
 mod block;
-mod bytes;
-mod expr;
-mod held;
-mod lexical;
 mod module;
-mod operator;
 pub mod parts;
 mod stmt;
 

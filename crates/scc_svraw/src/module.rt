@@ -8,11 +8,11 @@ ghost use Rattle.scc_svgrammar.specs.Reader as reader;
 ghost use Rattle.scc_svgrammar.specs.declared.raw.RawModule.{RawModule};
 
 use crate::block::block;
-use crate::bytes;
-use crate::bytes::text;
-use crate::lexical::{name, range};
 use scc_base::{List, NoMemory, Text};
 use scc_svgrammar::{Halt, RawItem, RawModule, RawVar};
+use scc_svrawexpressions::bytes;
+use scc_svrawexpressions::bytes::text;
+use scc_svrawexpressions::lexical::{name, range};
 use scc_svtree::Dir;
 use std::alloc::Global;
 

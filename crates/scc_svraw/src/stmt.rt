@@ -9,13 +9,13 @@ ghost use Rattle.scc_svgrammar.specs.Reader as reader;
 ghost use Rattle.scc_svgrammar.specs.declared.raw.RawStmt.TheVariants as node;
 ghost use Rattle.scc_svtext.specs.Pieces as pieces;
 
-use crate::bytes;
-use crate::bytes::{begins_name, text};
-use crate::expr::open_node;
-use crate::held::{Node, Nodes};
-use crate::lexical::{left, left_behind, literal, named, plain_word};
 use scc_base::{List, NoMemory, Text};
 use scc_svgrammar::{Halt, RawArm, RawExpr, RawLeft, RawLiteral, RawStmt};
+use scc_svrawexpressions::bytes;
+use scc_svrawexpressions::bytes::{begins_name, text};
+use scc_svrawexpressions::expr::open_node;
+use scc_svrawexpressions::held::{Node, Nodes};
+use scc_svrawexpressions::lexical::{left, left_behind, literal, named, plain_word};
 use std::alloc::Global;
 
 /// So many blanks.
@@ -219,7 +219,7 @@ pub fn stmts(
 }
 
 // The same, as they are held.
-#[tactic(auto, using(crate::proofs::Turns::nothing_onto))]
+#[tactic(auto, using(scc_svrawexpressions::proofs::Turns::nothing_onto))]
 #[cycle(reading_stmt)]
 fn body(alloc: Global, levels: u32, outer: u32, ts: &[u8]) -> Result<(Nodes<RawStmt>, &[u8]), Halt>
     requires room { outer + 2 + 4 * levels < 2 ^ 20 }

@@ -1,7 +1,7 @@
 use Rattle.std.proofs.Common.{◌∙◌, sym}
 use Rattle.std.proofs.lemmas.Result.{err_from_is_err_and}
 use Rattle.scc_svgrammar.specs.Reader.{sets}
-use Rattle.scc_svraw.proofs.Turns.{turns_sets}
+use Rattle.scc_svrawexpressions.proofs.Turns.{turns_sets}
 use Rattle.scc_svraw.proofs.block.sets.Goals as goal
 
 pub returns-in_err-next : goal.returns-in_err-next

@@ -3,7 +3,7 @@ use Rattle.std.proofs.lemmas.Result.{err_from_is_err_and}
 use Rattle.scc_reading.proofs.Complete.{is_deep, is_stuck}
 use Rattle.scc_svgrammar.specs.Reader.{inner, begins_name, onto, stmts, arms}
 use Rattle.scc_svraw.proofs.Blanks.{other_steps}
-use Rattle.scc_svraw.proofs.Turns.{turns_stmts, turns_arms, left_stmt, none_left}
+use Rattle.scc_svrawexpressions.proofs.Turns.{turns_stmts, turns_arms, left_stmt, none_left}
 use Rattle.scc_svraw.proofs.stmt.+reading_stmt.Goals as goal
 
 pub open_stmt-returns-then-levels-gt0 : goal.open_stmt-returns-then-levels-gt0

@@ -1,8 +1,8 @@
 use Rattle.std.proofs.Common.{◌∙◌, sym, refl}
 use Rattle.scc_reading.proofs.Complete.{is_deep, is_stuck}
 use Rattle.scc_svgrammar.specs.Reader.{inner, begins_divisor}
-use Rattle.scc_svraw.proofs.Turns.{left_divisor, none_left}
-use Rattle.scc_svraw.proofs.expr.open_divisor.Goals as goal
+use Rattle.scc_svrawexpressions.proofs.Turns.{left_divisor, none_left}
+use Rattle.scc_svrawexpressions.proofs.expr.open_divisor.Goals as goal
 
 pub returns-then-levels-gt0 : goal.returns-then-levels-gt0
 returns-then-levels-gt0 c = rw (left_divisor c.args.levels c.args.ts.now c.if-levels-gt0.true) c.divisor_at.ensures

@@ -2,8 +2,8 @@ use Rattle.std.proofs.Common.{◌∙◌, sym, refl}
 use Rattle.std.proofs.lemmas.Result.{err_from_is_err_and}
 use Rattle.scc_reading.proofs.Complete.{is_deep, is_stuck}
 use Rattle.scc_svgrammar.specs.Reader.{inner, begins_expr, onto, parts}
-use Rattle.scc_svraw.proofs.Turns.{turns_parts, left_expr, none_left}
-use Rattle.scc_svraw.proofs.expr.+reading.Goals as goal
+use Rattle.scc_svrawexpressions.proofs.Turns.{turns_parts, left_expr, none_left}
+use Rattle.scc_svrawexpressions.proofs.expr.+reading.Goals as goal
 
 pub open_node-returns-then-levels-gt0 : goal.open_node-returns-then-levels-gt0
 open_node-returns-then-levels-gt0 t c = rw (left_expr c.args.levels c.args.ts.now c.if-levels-gt0.true) c.expr.ensures

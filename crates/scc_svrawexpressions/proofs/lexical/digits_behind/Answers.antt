@@ -1,7 +1,7 @@
 use Rattle.std.proofs.Common.{◌∙◌, sym, arith}
 use Rattle.scc_svgrammar.proofs.Lengths.{digits_bound, digits_found, digits_missing, run_bound}
 use Rattle.scc_svgrammar.specs.Lexical.{is_hex_digit}
-use Rattle.scc_svraw.proofs.lexical.digits_behind.Goals as goal
+use Rattle.scc_svrawexpressions.proofs.lexical.digits_behind.Goals as goal
 
 pub split_at-requires : goal.split_at-requires
 split_at-requires c = digits_bound c.bytes.result.now c.args.ts.now c.in-Some.count c.hex_len-run.result c.hex_len-run.ensures c.in-Some.ensures

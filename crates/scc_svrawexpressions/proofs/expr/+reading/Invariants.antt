@@ -2,7 +2,7 @@ use Rattle.std.proofs.Common.{◌≡◌, ◌+◌, ◌*◌, length}
 use Rattle.scc_reading.specs.Reading.{repeat}
 use Rattle.scc_reading.proofs.Loop.{before}
 use Rattle.scc_svgrammar.specs.Reader as p
-use Rattle.scc_svraw.proofs.expr.+reading.Given as goal
+use Rattle.scc_svrawexpressions.proofs.expr.+reading.Given as goal
 
 abbrev pub decreases-open_node : goal.decreases-open_node
 decreases-open_node l = 64 * l.levels + 0

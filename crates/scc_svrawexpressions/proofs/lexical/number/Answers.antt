@@ -1,6 +1,6 @@
 use Rattle.std.proofs.Common.{◌-◌, ◌^◌, arith}
 use Rattle.scc_svgrammar.proofs.Lengths.{number_step, number_end}
-use Rattle.scc_svraw.proofs.lexical.number.Goals as goal
+use Rattle.scc_svrawexpressions.proofs.lexical.number.Goals as goal
 
 pub loop-b-preserved : goal.loop-b-preserved
 loop-b-preserved c =

@@ -1,5 +1,5 @@
 use Rattle.std.proofs.Common.{length}
-use Rattle.scc_svraw.proofs.bytes.+text.Given as goal
+use Rattle.scc_svrawexpressions.proofs.bytes.+text.Given as goal
 
 abbrev pub decreases-text : goal.decreases-text
 decreases-text l = length l.word.now

@@ -2,8 +2,8 @@ use Rattle.std.proofs.Common.{◌∙◌, sym, refl}
 use Rattle.scc_reading.proofs.Complete.{is_deep, is_stuck}
 use Rattle.scc_svgrammar.specs.Reader.{inner}
 use Rattle.scc_svgrammar.specs.Lexical.{is_digit}
-use Rattle.scc_svraw.proofs.Turns.{left_number, none_left}
-use Rattle.scc_svraw.proofs.expr.open_number.Goals as goal
+use Rattle.scc_svrawexpressions.proofs.Turns.{left_number, none_left}
+use Rattle.scc_svrawexpressions.proofs.expr.open_number.Goals as goal
 
 pub returns-then-levels-gt0 : goal.returns-then-levels-gt0
 returns-then-levels-gt0 c = rw (left_number c.args.levels c.args.ts.now c.if-levels-gt0.true) c.number_at.ensures
