@@ -9,8 +9,8 @@ ghost use Rattle.scc_terminals.specs.Marks as m;
 
 use scc_base::{List, Name, Place};
 use scc_expressiongrammar::chain::expr;
-use scc_expressiongrammar::first::name_at;
 use scc_expressiongrammar::types::type_at;
+use scc_leafgrammar::first::name_at;
 use scc_terminals::marks::{assign, brace_close, brace_open, comma, semicolon};
 use scc_terminals::next::{begins_assign, begins_comma};
 use scc_terminals::nodes::one;

@@ -6,8 +6,9 @@ ghost use Rattle.scc_terminals.specs.Text.{next_is};
 ghost use Rattle.scc_reading.specs.Reading.{repeat};
 
 use scc_base::List;
-use scc_expressiongrammar::first::name_at;
-use scc_expressiongrammar::types::{hold_at, type_at};
+use scc_expressiongrammar::types::type_at;
+use scc_leafgrammar::first::name_at;
+use scc_leafgrammar::types::hold_at;
 use scc_terminals::marks::comma;
 use scc_terminals::next::{begins_comma, begins_constant, begins_paren_close, begins_void_word};
 use scc_terminals::nodes::one;

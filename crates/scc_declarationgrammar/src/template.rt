@@ -8,8 +8,9 @@ ghost use Rattle.scc_reading.specs.Reading.{repeat_in, token};
 
 use scc_base::{List, Name, Place};
 use scc_expressiongrammar::chain::additive;
-use scc_expressiongrammar::first::{close_unless, name_at};
-use scc_expressiongrammar::types::{follows, type_at};
+use scc_expressiongrammar::types::type_at;
+use scc_leafgrammar::first::{close_unless, name_at};
+use scc_leafgrammar::types::follows;
 use scc_terminals::halt::{Halt, place_of};
 use scc_terminals::marks::{assign, comma, greater, less};
 use scc_terminals::next::{begins_assign, begins_greater};

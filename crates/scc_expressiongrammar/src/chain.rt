@@ -1,8 +1,6 @@
 //! Expressions.
-ghost use Rattle.std.specs.Prelude.{◌≡◌, ◌∷◌, ◌++◌, ◌≤◌, ◌<◌, [], List, IfOk, is_some, true, false};
-ghost use Rattle.scc_terminals.specs.Answer.{Gives, onto, onto_in};
-ghost use Rattle.scc_terminals.specs.First as f;
-ghost use Rattle.scc_terminals.specs.Nodes as nodes;
+ghost use Rattle.std.specs.Prelude.{◌≤◌, ◌<◌};
+ghost use Rattle.scc_terminals.specs.Answer.{Gives};
 ghost use Rattle.scc_terminals.specs.Operators as o;
 ghost use Rattle.scc_syntax.specs.ParseExpressions as e;
 ghost use Rattle.scc_syntax.specs.ParseStatements.{inner};
@@ -12,14 +10,16 @@ ghost use Rattle.scc_reading.specs.Reading.{and_then, pure, repeat};
 ghost use Rattle.scc_tree.specs.Node.{expr_of};
 ghost use Rattle.scc_tree.specs.declared.expr.ExprNode.TheVariants as variant;
 
-use crate::first::{
-    begins_operated, begins_operator, begins_type, goes_on, operator_at, unary_operator_at,
-};
 use crate::opening::{open_bracketed, open_expr, open_unary};
 use crate::postfix::{after_open, cargs, postfix_after};
-use crate::primary::{after_base, operand_of, primary, up_to_bracket};
-use crate::types::{base_at, is_constant, type_at};
+use crate::primary::{after_base, primary};
+use crate::types::{base_at, type_at};
 use scc_base::{List, Place};
+use scc_leafgrammar::first::{
+    begins_operated, begins_operator, begins_type, goes_on, operator_at, unary_operator_at,
+};
+use scc_leafgrammar::operands::{operand_of, up_to_bracket};
+use scc_leafgrammar::types::is_constant;
 use scc_terminals::marks::{colon, paren_open, question};
 use scc_terminals::next::{begins_new_word, begins_paren_open, begins_question};
 use scc_terminals::nodes::chain_of;

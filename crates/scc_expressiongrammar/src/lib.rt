@@ -2,7 +2,6 @@
 #![tactic(auto)]
 
 pub mod chain;
-pub mod first;
 pub mod opening;
 pub mod postfix;
 pub mod primary;

@@ -1,17 +1,10 @@
 //! What opens a level among types and expressions.
-ghost use Rattle.std.specs.Prelude.{◌≡◌, ◌∷◌, ◌++◌, ◌≤◌, ◌<◌, [], List, IfOk, is_some, true, false};
-ghost use Rattle.scc_terminals.specs.Answer.{Gives, onto, onto_in};
-ghost use Rattle.scc_terminals.specs.First as f;
-ghost use Rattle.scc_terminals.specs.Nodes as nodes;
-ghost use Rattle.scc_terminals.specs.Operators as o;
-ghost use Rattle.scc_syntax.specs.ParseExpressions as e;
+ghost use Rattle.scc_terminals.specs.Answer.{Gives};
 ghost use Rattle.scc_syntax.specs.ParseStatements.{inner};
-ghost use Rattle.scc_terminals.specs.Text.{next_says};
-ghost use Rattle.scc_reading.specs.Reading.{pure, repeat};
 
 use crate::chain::{additive, argument, bracketed, expr, operand};
-use crate::first::{begins_argument, begins_expr, begins_ty_arg, begins_type};
 use crate::types::{ty_arg, type_at};
+use scc_leafgrammar::first::{begins_argument, begins_expr, begins_ty_arg, begins_type};
 use scc_terminals::halt::{Halt, place_of};
 use scc_terminals::part::{Bracketed, TypeRead};
 use scc_terminals::reader::{Read, Reader};

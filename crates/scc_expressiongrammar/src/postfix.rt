@@ -1,19 +1,13 @@
 //! What stands behind an operand, and brackets.
-ghost use Rattle.std.specs.Prelude.{◌≡◌, ◌∷◌, ◌++◌, ◌≤◌, ◌<◌, [], List, IfOk, is_some, true, false};
-ghost use Rattle.scc_terminals.specs.Answer.{Gives, onto, onto_in};
-ghost use Rattle.scc_terminals.specs.First as f;
-ghost use Rattle.scc_terminals.specs.Nodes as nodes;
-ghost use Rattle.scc_terminals.specs.Operators as o;
+ghost use Rattle.std.specs.Prelude.{false};
+ghost use Rattle.scc_terminals.specs.Answer.{Gives, onto};
 ghost use Rattle.scc_syntax.specs.ParseExpressions as e;
 ghost use Rattle.scc_syntax.specs.ParseStatements.{inner};
-ghost use Rattle.scc_terminals.specs.Text.{name_at, next_says};
-ghost use Rattle.scc_reading.specs.Reading.{and_then, pure, repeat};
-ghost use Rattle.scc_tree.specs.declared.expr.PartNode.TheVariants as step;
 
-use crate::first::{begins_part, name_at};
 use crate::opening::{open_argument, open_expr, open_unary};
-use crate::primary::up_to_bracket;
 use scc_base::{List, Place};
+use scc_leafgrammar::first::begins_part;
+use scc_leafgrammar::operands::{arrow, member, up_to_bracket};
 use scc_terminals::halt::{Halt, place_of};
 use scc_terminals::marks::{bracket_close, comma, paren_close};
 use scc_terminals::next::{begins_comma, begins_paren_close, begins_text};
@@ -93,22 +87,6 @@ pub fn cargs<'a>(c: Reader, ts: &'a [Seen]) -> Read<'a, List<Expr>>
     let (first, rest) = carg(c, ts)?;
     let found = one(c.alloc, first)?;
     more_cargs(c, found, rest)
-}
-
-fn member(ts: &[Seen]) -> Read<'_, (Part, bool)>
-    ensures { Gives (λ x. (x.0, x.1.now)) result (and_then (name_at ts.now) (λ x. pure (nodes.part_of x.1 (step.Member x.0), false))) }
-{
-    let ((x, place), rest) = name_at(ts)?;
-    let node = PartNode::Member(x);
-    Ok(((Part { place, node }, false), rest))
-}
-
-fn arrow(ts: &[Seen]) -> Read<'_, (Part, bool)>
-    ensures { Gives (λ x. (x.0, x.1.now)) result (and_then (name_at ts.now) (λ x. pure (nodes.part_of x.1 (step.Arrow x.0), false))) }
-{
-    let ((x, place), rest) = name_at(ts)?;
-    let node = PartNode::Arrow(x);
-    Ok(((Part { place, node }, false), rest))
 }
 
 // One step behind an expression, and whether it is a call.

@@ -8,7 +8,7 @@ ghost use Rattle.scc_syntax.specs.ParseFile as p;
 use crate::member::{Members, all_members};
 use scc_base::{List, Name, Place};
 use scc_declarationgrammar::class_head::{bases, class_word, declare, special};
-use scc_expressiongrammar::first::name_at;
+use scc_leafgrammar::first::name_at;
 use scc_terminals::marks::{brace_close, brace_open, paren_close, paren_open, semicolon};
 use scc_terminals::next::begins_module_word;
 use scc_terminals::reader::{Read, Reader};

@@ -19,8 +19,9 @@ use scc_declarationgrammar::function::{
     constant_rest, constant_twice, constructor_of, function_item, named_args, named_of,
 };
 use scc_declarationgrammar::initialisers::inits;
-use scc_expressiongrammar::first::name_at;
-use scc_expressiongrammar::types::{base_at, constant_type, is_constant, type_at};
+use scc_expressiongrammar::types::{base_at, type_at};
+use scc_leafgrammar::first::name_at;
+use scc_leafgrammar::types::{constant_type, is_constant};
 use scc_statementgrammar::local::{decl, sizes};
 use scc_terminals::halt::{Halt, place_of};
 use scc_terminals::marks::{colon, comma, paren_close, paren_open, semicolon};

@@ -12,8 +12,9 @@ use scc_declarationgrammar::function::{
 };
 use scc_declarationgrammar::initialisers::inits;
 use scc_declarationgrammar::parameters::{prms, qualifier};
-use scc_expressiongrammar::first::name_at;
-use scc_expressiongrammar::types::{base_at, constant_type, is_constant, type_at};
+use scc_expressiongrammar::types::{base_at, type_at};
+use scc_leafgrammar::first::name_at;
+use scc_leafgrammar::types::{constant_type, is_constant};
 use scc_statementgrammar::stmt::block_of;
 use scc_terminals::halt::{Halt, place_of};
 use scc_terminals::marks::{paren_close, paren_open, scope};

@@ -10,9 +10,9 @@ ghost use Rattle.scc_reading.specs.Reading.{is_next};
 
 use scc_base::{List, Name, Place};
 use scc_expressiongrammar::chain::expr;
-use scc_expressiongrammar::first::name_at;
 use scc_expressiongrammar::opening::open_expr;
-use scc_expressiongrammar::types::hold_at;
+use scc_leafgrammar::first::name_at;
+use scc_leafgrammar::types::hold_at;
 use scc_terminals::marks::{assign, bracket_close, bracket_open, comma, paren_close, paren_open};
 use scc_terminals::next::{
     begins_and_mark, begins_assign, begins_bracket_open, begins_comma, begins_paren_open,

@@ -22,7 +22,7 @@ use crate::local::condition;
 use crate::simple::begins_step;
 use scc_base::{List, NoMemory, Place};
 use scc_expressiongrammar::chain::expr;
-use scc_expressiongrammar::first::begins_ty_arg;
+use scc_leafgrammar::first::begins_ty_arg;
 use scc_terminals::halt::{Halt, place_of};
 use scc_terminals::marks::{brace_close, brace_open, colon, paren_close, paren_open, semicolon};
 use scc_terminals::next::{

@@ -1,5 +1,5 @@
 //! What the next token begins.
-ghost use Rattle.std.specs.Prelude.{◌≡◌, is_some, true};
+ghost use Rattle.std.specs.Prelude.{◌≡◌, true};
 ghost use Rattle.scc_terminals.specs.Answer.{Gives};
 ghost use Rattle.scc_terminals.specs.First as f;
 ghost use Rattle.scc_terminals.specs.Operators as o;
@@ -65,6 +65,7 @@ pub fn close_unless(both: bool, inside: bool, ts: &[Seen]) -> Read<'_, bool>
     close(inside, ts)
 }
 
+/// Whether a `>` or `>>` is next.
 pub fn begins_close(ts: &[Seen]) -> bool
     ensures { result ≡ is_next (next_says (f.closing true)) ts.now }
 {
@@ -80,6 +81,7 @@ pub fn begins_close(ts: &[Seen]) -> bool
     )
 }
 
+/// Whether what is next makes an operand of the type before it.
 pub fn goes_on(ts: &[Seen]) -> bool
     ensures { result ≡ is_next (next_is f.goes_on) ts.now }
 {
@@ -95,6 +97,7 @@ pub fn goes_on(ts: &[Seen]) -> bool
     )
 }
 
+/// Whether an index, the arguments of a call or a member is next.
 pub fn begins_part(ts: &[Seen]) -> bool
     ensures { result ≡ is_next (next_is f.begins_part) ts.now }
 {
@@ -127,6 +130,7 @@ pub fn unary_operator(t: Terminal) -> Option<UnaryOp>
     }
 }
 
+/// The operator before an operand, with its place.
 pub fn unary_operator_at(ts: &[Seen]) -> Read<'_, (UnaryOp, Place)>
     ensures { Gives (λ x. (x.0, x.1.now)) result (token (pick o.unary_operator) ts.now) }
 {
@@ -139,6 +143,7 @@ pub fn unary_operator_at(ts: &[Seen]) -> Read<'_, (UnaryOp, Place)>
     }
 }
 
+/// Whether an operator before an operand is next.
 pub fn begins_operated(ts: &[Seen]) -> bool
     ensures { result ≡ is_next (next_is f.begins_operated) ts.now }
 {
@@ -172,6 +177,7 @@ pub fn operator(level: u32, t: Terminal) -> Option<Op>
     }
 }
 
+/// An operator of a level, with its place.
 pub fn operator_at(k: u32, ts: &[Seen]) -> Read<'_, (Op, Place)>
     ensures { Gives (λ x. (x.0, x.1.now)) result (token (pick (o.operator k)) ts.now) }
 {
@@ -184,6 +190,7 @@ pub fn operator_at(k: u32, ts: &[Seen]) -> Read<'_, (Op, Place)>
     }
 }
 
+/// Whether an operator of a level is next.
 pub fn begins_operator(k: u32, ts: &[Seen]) -> bool
     ensures { result ≡ is_next (next_says (o.operator k)) ts.now }
 {
@@ -193,6 +200,7 @@ pub fn begins_operator(k: u32, ts: &[Seen]) -> bool
     }
 }
 
+/// Whether a type without `const` is next.
 pub fn begins_base(names: &Table, ts: &[Seen]) -> bool
     ensures { result ≡ is_next (next_is (f.begins_base names.now)) ts.now }
 {
@@ -215,12 +223,14 @@ pub fn begins_base(names: &Table, ts: &[Seen]) -> bool
     }
 }
 
+/// Whether a type is next.
 pub fn begins_type(names: &Table, ts: &[Seen]) -> bool
     ensures { result ≡ is_next (next_is (f.begins_type names.now)) ts.now }
 {
     begins_constant(ts) || begins_base(names, ts)
 }
 
+/// Whether an operand is next that begins with no type, bracket or operator.
 pub fn begins_primary(names: &Table, ts: &[Seen]) -> bool
     ensures { result ≡ is_next (next_says (f.primary_start names.now)) ts.now }
 {
@@ -239,6 +249,7 @@ pub fn begins_primary(names: &Table, ts: &[Seen]) -> bool
     }
 }
 
+/// Whether an expression is next.
 pub fn begins_expr(names: &Table, ts: &[Seen]) -> bool
     ensures { result ≡ is_next (next_is (f.begins_expr names.now)) ts.now }
 {
@@ -248,12 +259,14 @@ pub fn begins_expr(names: &Table, ts: &[Seen]) -> bool
         || begins_paren_open(ts)
 }
 
+/// Whether an argument of a template is next.
 pub fn begins_ty_arg(names: &Table, ts: &[Seen]) -> bool
     ensures { result ≡ is_next (next_is (f.begins_ty_arg names.now)) ts.now }
 {
     begins_constant(ts) || begins_expr(names, ts)
 }
 
+/// Whether an expression or a `new` is next.
 pub fn begins_argument(names: &Table, ts: &[Seen]) -> bool
     ensures { result ≡ is_next (next_is (f.begins_argument names.now)) ts.now }
 {
