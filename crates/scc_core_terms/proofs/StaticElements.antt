@@ -86,17 +86,15 @@ closed_indices : (i : List ℕ) → is_open (map At i) ≡ false
 closed_indices [] = refl
 closed_indices (x ∷ i) = closed_indices i
 
-closed_own : (o : Option Own) → is_open (own_steps o) ≡ false
-closed_own None = refl
-closed_own (Some o) = refl
+closed_own : (o : Option Own) (i : List ℕ) → is_open (own_steps o i) ≡ false
+closed_own None i = refl
+closed_own (Some o) i = closed_indices i
 
 closed_name : (n : Name_of) → is_open (steps_of n) ≡ false
 closed_name n =
-    open_append (map part_step n.path) (own_steps n.own ++ map At n.indices)
-    ∙ ap (λ b. b || is_open (own_steps n.own ++ map At n.indices)) (closed_parts n.path)
-    ∙ open_append (own_steps n.own) (map At n.indices)
-    ∙ ap (λ b. b || is_open (map At n.indices)) (closed_own n.own)
-    ∙ closed_indices n.indices
+    open_append (map part_step n.path) (own_steps n.own n.indices)
+    ∙ ap (λ b. b || is_open (own_steps n.own n.indices)) (closed_parts n.path)
+    ∙ closed_own n.own n.indices
 
 closed_behind : (name : CellName) (q : List location.Part) → is_open (steps_behind name q) ≡ false
 closed_behind name q = open_append (steps_of (name_of name)) (map part_step q) ∙ ap (λ b. b || is_open (map part_step q)) (closed_name (name_of name)) ∙ closed_parts q

@@ -145,7 +145,7 @@ local_alone n x (y ∷ c) = local_first n x (pathed c ++ []) y
 
 abbrev Same : List PathPart → Option (ℕ × Name) → List ℕ → List PathPart → Option (ℕ × Name) → List ℕ → List Part → Type 0
 Same p l i c m j q =
-    fits ((pathed p ++ (own_steps (own_of l) ++ map At i)) ++ map part_step q) (pathed c ++ (own_steps (own_of m) ++ map At j))
+    fits ((pathed p ++ own_steps (own_of l) i) ++ map part_step q) (pathed c ++ own_steps (own_of m) j)
     ≡ are_rest (codes q) (behind (record { path = c; local = m; indices = j }) (record { path = p; local = l; indices = i }))
 
 two_paths : (p c : List PathPart) (q : List Part) → Same p None [] c None [] q

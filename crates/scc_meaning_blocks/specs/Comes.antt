@@ -1,5 +1,5 @@
 -- What a process comes to in all its resumes, and what may be taken for fixed along them. This project's own.
-use Rattle.std.specs.Prelude.{◌≡◌, ℕ, Bool, true, false, not, [], Option, Some, slice_get}
+use Rattle.std.specs.Prelude.{◌≡◌, ℕ, Bool, true, false, not, [], Option, Some, slice_get, if◌then◌else◌}
 use Rattle.scc_meaning.specs.Location.{Location}
 use Rattle.scc_running.specs.Body as machine
 use Rattle.scc_running.specs.Design as running
@@ -7,6 +7,7 @@ use Rattle.scc_running.specs.Machine.{Frames, Stop, Go, Suspended, Ended, after}
 use Rattle.scc_running.specs.Process.{first_frames}
 use Rattle.scc_running.specs.Value.{Held}
 use Rattle.scc_running.specs.Start.{IsProper}
+use Rattle.scc_running.specs.Same.{is_others}
 
 -- the next statement assigns a pointer, and isn't its declaration; or it is a wait
 abbrev pub next_points : Frames → Bool
@@ -25,7 +26,7 @@ abbrev pub fresh : (Location → ℕ) → (Location → Option Location) → Hel
 fresh words targets = record { store = record { words = words; targets = targets }; requests = [] }
 
 -- What a process comes to, statement by statement, with the signals of its resume. At a wait it goes on with other proper words and signals; there,
--- and at its end, it may also begin again. Pointers keep their targets.
+-- and at its end, it may also begin again. Pointers keep their targets, but for those of other processes, which lead anywhere.
 pub data Comes (d : running.Design) (i : ℕ) (p : running.Process) : (signals : Location → ℕ) → Frames → Held → Type 0 where
   begins : (signals words : Location → ℕ) → IsProper d signals → IsProper d words → Comes d i p signals (first_frames i p) (fresh words d.targets)
   goes_on : {signals : Location → ℕ} {f g : Frames} {h k : Held} → Comes d i p signals f h → next_waits f ≡ false
@@ -36,6 +37,8 @@ pub data Comes (d : running.Design) (i : ℕ) (p : running.Process) : (signals :
       → Comes d i p old f h → next_waits f ≡ true → Comes d i p signals (first_frames i p) (fresh words h.store.targets)
   repeats : {old : Location → ℕ} {f : Frames} {h k : Held} → (signals words : Location → ℕ) → IsProper d signals → IsProper d words
       → Comes d i p old f h → after d.places d.functions old 1 f h ≡ Ended k → Comes d i p signals (first_frames i p) (fresh words k.store.targets)
+  elsewhere : {signals : Location → ℕ} {f : Frames} {h : Held} → (others : Location → Option Location) → Comes d i p signals f h
+      → Comes d i p signals f (record { store = record { words = h.store.words; targets = λ l. if is_others i l.root then others l else h.store.targets l }; requests = h.requests })
 
 -- Along whatever its processes come to, fixed locations keep their words, and no pointer is assigned behind its declaration.
 pub record Keeps (d : running.Design) : Type 0 where

@@ -2,7 +2,7 @@
 use Rattle.std.specs.Prelude.{◌≡◌, ℕ, Bool, true, false, not, List, [], ◌∷◌, ◌++◌, map, filter, flat_map, Option, Some, None, option_map, slice_get}
 use Rattle.scc_base.specs.declared.refusal.Place.{Place}
 use Rattle.scc_meaning.specs.Location.{Location}
-use Rattle.scc_running.specs.Same.{SameDesign}
+use Rattle.scc_running.specs.Same.{is_own, SameDesign}
 use Rattle.scc_meaning_core.specs.Term.{CellName}
 use Rattle.scc_meaning_core.specs.Code.{Code, End, Put, Aim, If, Block, Loop, Exit, Wait, waits_in}
 use Rattle.scc_meaning_core.specs.Program.{Program, Process, Cell, is_pointer, is_combinational, is_root, is_variable}
@@ -51,14 +51,16 @@ pub record SameShape (c m : Program) : Type 0 where
   pub vectors : c.vectors ≡ m.vectors
   pub processes : map (heading c.cells) c.processes ≡ map (heading m.cells) m.processes
 
-abbrev pub IsInjective : Home → Type 0
-IsInjective home = (i j m n : ℕ) → home i m ≡ home j n → (i ≡ j) × (m ≡ n)
+-- each local of each process has a root of its own, which is one of that process
+pub record IsHome (home : Home) : Type 0 where
+  pub injective : (i j m n : ℕ) → home i m ≡ home j n → (i ≡ j) × (m ≡ n)
+  pub own : (i n : ℕ) → is_own i (home i n) ≡ true
 
 -- The law of a pass: what it is given and what it gives mean the same, k statements at most for one.
 pub record Law (k : ℕ) (constant : Location → Option ℕ) (c m : Program) : Type 0 where
   pub shape : SameShape c m
-  pub keeps : (home : Home) → IsInjective home → Keeps (source_of home m constant) → Keeps (source_of home c constant)
-  pub same : (home : Home) → IsInjective home → Keeps (source_of home m constant) → SameDesign k (source_of home c constant) (source_of home m constant)
+  pub keeps : (home : Home) → IsHome home → Keeps (source_of home m constant) → Keeps (source_of home c constant)
+  pub same : (home : Home) → IsHome home → Keeps (source_of home m constant) → SameDesign k (source_of home c constant) (source_of home m constant)
 
 -- the bodies of loops, at every depth
 abbrev pub loops_in : Code → List Code

@@ -1,20 +1,13 @@
 -- A worked value: a variable of 8 bits that a block reads and writes as itself. This project's own.
-use Rattle.std.specs.Prelude.{ℕ, false, List, [], ◌∷◌}
+use Rattle.std.specs.Prelude.{ℕ, false, [], ◌∷◌, None}
 use Rattle.scc_kinds.specs.declared.kind.Kind.TheVariants as kind
 use Rattle.scc_svtree.specs.declared.expr.SvLeft.TheVariants.{Whole}
 use Rattle.scc_svtree.specs.Term as emitted
 use Rattle.scc_svtree.specs.Code as emitted_code
-use Rattle.scc_meaning_core.specs.Program.{Cell, Variable}
+use Rattle.scc_meaning_core.specs.Program.{Program, Process, Variable}
 use Rattle.scc_meaning_core.specs.Code as core
-use Rattle.scc_meaning_core.specs.Worked.{cell, byte, put}
-use Rattle.scc_meaning_blocks.specs.Shown.{View, Plain}
-
--- `sc_uint<8> n;`
-abbrev pub one_variable : List Cell
-one_variable = cell 3 (kind.Uint 8) (Variable 0 false) ∷ []
-
-abbrev pub as_itself : List View
-as_itself = Plain ∷ []
+use Rattle.scc_meaning_core.specs.Worked.{here, named, cell, byte, put}
+use Rattle.scc_meaning_blocks.specs.Shown.{Sight, sight_of}
 
 abbrev pub eight : ℕ → ℕ
 eight v = 8
@@ -29,3 +22,13 @@ gives_three = emitted_code.Assign (Whole (record { 0 = 0 })) (emitted.Literal 8 
 -- `n = 3;`
 abbrev pub three : core.Code
 three = put 0 (byte 3) core.End
+
+-- `sc_uint<8> n;`, and a method
+abbrev pub giving_three : Process
+giving_three = record { is_thread = false; name = named 9; place = here; senses = []; edge = None; reset = None; body = three }
+
+abbrev pub one_variable : Program
+one_variable = record { top = 8; cells = cell 3 (kind.Uint 8) (Variable 0 false) ∷ []; vectors = []; processes = giving_three ∷ [] }
+
+abbrev pub as_itself : Sight
+as_itself = sight_of one_variable 0 giving_three

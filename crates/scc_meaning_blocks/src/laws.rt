@@ -17,16 +17,16 @@ ghost use Rattle.scc_meaning_core.specs.WorkedRules.{at};
 ghost use Rattle.scc_meaning_core.specs.WorkedRun.{counting, counting_process, design, home};
 ghost use Rattle.scc_meaning_blocks.specs.Acting.{Acting};
 ghost use Rattle.scc_meaning_blocks.specs.Effect.{Place, effect, Fell};
-ghost use Rattle.scc_meaning_blocks.specs.Shown.{View, Shows};
+ghost use Rattle.scc_meaning_blocks.specs.Shown.{Sight, Shows};
 ghost use Rattle.scc_meaning_blocks.specs.Lowered.{IsLoweredTerm, IsLoweredCode};
-ghost use Rattle.scc_meaning_blocks.specs.WorkedLowered.{one_variable, as_itself, eight, its_text, gives_three, three};
+ghost use Rattle.scc_meaning_blocks.specs.WorkedLowered.{as_itself, eight, its_text, gives_three, three};
 ghost use Rattle.scc_meaning_core.specs.Worked.{load};
 ghost use Rattle.scc_meaning_blocks.specs.Edged.{own_view};
 ghost use Rattle.scc_meaning_blocks.specs.WorkedEdged.{by_number, clocked_by};
 ghost use Rattle.scc_meaning_blocks.specs.WorkedClocks.{asynchronous, two_clocks};
 ghost use Rattle.scc_meaning_blocks.specs.Turns.{Regs};
 ghost use Rattle.scc_meaning_blocks.specs.Places.{frames_at};
-ghost use Rattle.scc_meaning_blocks.specs.Tied.{Tied, Mirrors, Registers, own_names};
+ghost use Rattle.scc_meaning_blocks.specs.Tied.{Tied, Mirrors, MirrorsRegisters, Registers, own_names};
 ghost use Rattle.scc_meaning_blocks.specs.Passed.{Law, SameShape, TellsAccepted, thread_of};
 ghost use Rattle.scc_meaning_blocks.specs.Names.{registers, is_own, location_text, is_kept_at};
 ghost use Rattle.scc_meaning_blocks.specs.Listed.{process_line};
@@ -66,22 +66,22 @@ pub fn registers_wait_and_are_reset()
 /// The frames of its first suspension are those of its place; the registers are tied to a state, and mirrored by a valuation.
 pub fn waits_have_frames()
     ensures frames { frames_at home count_cells 0 (own_names 0) count_body (record { number = 0; left = 0 }) ≡ first_frames_in design.processes }
-    ensures tied { (h : Home) (p : Program) (s : State) (g : Regs) (i : ℕ) (q : Process) (place : Place) → Tied h p s g → slice_get p.processes i ≡ Some q → g.place i ≡ Some place → frames_at h p.cells i (own_names i) q.body place ≡ Some (s.frames i) }
-    ensures mirrored { (r : Registers) (y : ℕ → ℕ) (g : Regs) → Mirrors r y g → Mirrors r y g }
+    ensures tied { (h : Home) (p : Program) (s : State) (g : Regs) (i : ℕ) (q : Process) (place : Place) → Tied h p s g → slice_get p.processes i ≡ Some q → q.is_thread ≡ true → g.place i ≡ Some place → frames_at h p.cells i (own_names i) q.body place ≡ Some (s.frames i) }
+    ensures mirrored { (p : Program) (r : Registers) (y : ℕ → ℕ) (g : Regs) → Mirrors p r y g → MirrorsRegisters p r y g }
 {}
 
 /// No statements leave what they find, and are no statements of emitted text.
 pub fn valuations_show_stores()
     ensures nothing { (cs : Cells) (a : Acting) → effect cs End a ≡ Fell a }
-    ensures term { (cs : Cells) (views : List View) (width : ℕ → ℕ) (e : Term) (front : emitted_code.Code) (t : emitted.Term) → IsLoweredTerm cs views width e front t → IsLoweredTerm cs views width e front t }
-    ensures code { (cs : Cells) (views : List View) (width : ℕ → ℕ) (c : Code) (code : emitted_code.Code) → IsLoweredCode cs views width c code → IsLoweredCode cs views width c code }
-    ensures leaving { (cs : Cells) (views : List View) (a : Acting) (x : ℕ → ℕ) → Shows cs views a x → Shows cs views a x }
+    ensures term { (s : Sight) (width : ℕ → ℕ) (e : Term) (front : emitted_code.Code) (t : emitted.Term) → IsLoweredTerm s width e front t → IsLoweredTerm s width e front t }
+    ensures code { (s : Sight) (width : ℕ → ℕ) (c : Code) (code : emitted_code.Code) → IsLoweredCode s width c code → IsLoweredCode s width c code }
+    ensures leaving { (s : Sight) (a : Acting) (x : ℕ → ℕ) → Shows s a x → Shows s a x }
 {}
 
 /// A variable that is read and written as itself is lowered by the variable of its cell, and an assignment to it by one to that variable.
 pub fn a_variable_is_lowered_as_itself()
-    ensures term { IsLoweredTerm one_variable as_itself eight (load 0) emitted_code.End its_text }
-    ensures code { IsLoweredCode one_variable as_itself eight three gives_three }
+    ensures term { IsLoweredTerm as_itself eight (load 0) emitted_code.End its_text }
+    ensures code { IsLoweredCode as_itself eight three gives_three }
 {}
 
 /// A pass keeps what its law says; the rules tell what paths do.

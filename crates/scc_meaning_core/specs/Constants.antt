@@ -1,9 +1,9 @@
 -- What no process writes is constant: a variable holds what construction left, a signal or output 0. And the text of a name in emitted text. This
 -- project's own.
-use Rattle.std.specs.Prelude.{ℕ, ◌+◌, Bool, true, false, List, [], ◌∷◌, ◌++◌, flat_map, decimal, Option, Some, None}
+use Rattle.std.specs.Prelude.{ℕ, ◌+◌, Bool, true, false, not, ◌&&◌, List, [], ◌∷◌, ◌++◌, flat_map, decimal, Option, Some, None, if◌then◌else◌}
 use Rattle.scc_meaning.specs.Location.{Location, Part, Member, Element, same}
 use Rattle.scc_meaning_core.specs.Term.{CellName, Own}
-use Rattle.scc_meaning_core.specs.Program.{Program, Process, Sort, Input, Output, Signal, Variable}
+use Rattle.scc_meaning_core.specs.Program.{Program, Process, Sort, Input, Output, Signal, Variable, is_pointer}
 use Rattle.scc_meaning_core.specs.Program as program
 use Rattle.scc_meaning_core.specs.Uses.{among}
 use Rattle.scc_meaning_core.specs.Kept.{written_by}
@@ -23,13 +23,10 @@ abbrev pub constant_if : Bool → Sort → Option ℕ
 constant_if true s = None
 constant_if false s = unwritten_word s
 
+-- a pointer may stand where a number does
 abbrev pub constant_from : Home → Program → ℕ → List program.Cell → Location → Option ℕ
 constant_from home p n [] l = None
-constant_from home p n (c ∷ cs) l = here_or (same (cell_location home p c) l) (constant_if (among n (written p)) c.sort) (constant_from home p (n + 1) cs l)
-  where
-    here_or : Bool → Option ℕ → Option ℕ → Option ℕ
-    here_or true a b = a
-    here_or false a b = b
+constant_from home p n (c ∷ cs) l = if same (cell_location home p c) l && not (is_pointer c.sort) then constant_if (among n (written p)) c.sort else constant_from home p (n + 1) cs l
 
 -- of a resolved core
 abbrev pub constants_of : Home → Program → Location → Option ℕ

@@ -59,6 +59,11 @@ module _ (cs : Cells) (vs : List Vector) where
   abbrev pub element_of : Left → ℕ → Term → Left
   element_of l size e = element_or l (in_range (size_of size l) (static_index e)) (Index l (size_of size l) e)
 
+  -- the cell of a whole name
+  abbrev pub named : Bool → Left → Left
+  named pointer (Prefix p n) = unwrap_or (option_map (Cell p) (cell_at pointer 0 (steps_of n) cs)) (Prefix p n)
+  named pointer l = l
+
   -- the cell of a whole name, a pointer's where it is one
   abbrev pub whole : Bool → Left → Left
   whole pointer (Prefix p n) = unwrap_or (option_map (λ c. Cell p (if pointer then c else root_of cs c)) (cell_at pointer 0 (steps_of n) cs)) (Prefix p n)

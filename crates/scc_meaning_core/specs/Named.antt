@@ -17,13 +17,13 @@ abbrev pub part_step : Part → Step
 part_step (location.Member name) = Named name
 part_step (location.Element i) = At i
 
-abbrev pub own_steps : Option Own → List Step
-own_steps None = []
-own_steps (Some o) = Ours o.number ∷ []
+abbrev pub own_steps : Option Own → List ℕ → List Step
+own_steps None indices = []
+own_steps (Some o) indices = Ours o.number ∷ map At indices
 
 -- the steps of a name
 abbrev pub steps_of : CellName → List Step
-steps_of n = map part_step n.path ++ (own_steps n.own ++ map At n.indices)
+steps_of n = map part_step n.path ++ own_steps n.own n.indices
 
 -- a path from the top
 abbrev pub path_steps : List Part → List Step

@@ -1,5 +1,5 @@
 -- A core: its cells and processes (IEEE 1666-2011, 5.2 processes, 6.4 signals, 5.12, 6.8 and 6.12 ports).
-use Rattle.std.specs.Prelude.{ℕ, Bool, true, false, Option, None, List}
+use Rattle.std.specs.Prelude.{ℕ, Bool, true, false, ◌||◌, Option, None, List}
 use Rattle.scc_base.specs.declared.refusal.Place.{Place}
 use Rattle.scc_kinds.specs.declared.kind.Kind.{Kind}
 use Rattle.scc_meaning.specs.Location.{Part}
@@ -86,6 +86,14 @@ is_variable _ = false
 abbrev pub is_local : Sort → Bool
 is_local (Local i) = true
 is_local _ = false
+
+-- a variable or a local: a number that a process reads and writes at once
+abbrev pub is_number : Sort → Bool
+is_number s = is_variable s || is_local s
+
+-- what holds a word of its own: a root, a variable or a local
+abbrev pub is_held : Sort → Bool
+is_held s = is_root s || is_number s
 
 abbrev pub is_input : Sort → Bool
 is_input Input = true

@@ -101,14 +101,15 @@ reads_of cs a = flat_map (λ u. cells_of cs u.left) a.reads
 abbrev pub writes_of : Cells → Act → List ℕ
 writes_of cs a = unwrap_or (option_map (λ w. cells_of cs w.0) a.writes) []
 
+-- of these cells, those that an assignment gives a whole value
+abbrev pub whole_of : Cells → Left → Pick → List ℕ → List ℕ
+whole_of cs l k [] = []
+whole_of cs l k (n ∷ ns) = if has_sort is_root cs n || (is_single cs l && is_all cs (width_at cs n) k) then n ∷ whole_of cs l k ns else whole_of cs l k ns
+
 -- The cells that an assignment gives a whole value. A part isn't one, nor is an element under an index that isn't static; of a root
 -- every element under such an index counts (such a design is refused).
 abbrev pub whole_writes : Cells → Left → Pick → List ℕ
-whole_writes cs l k = filter_cells cs (cells_of cs l)
-  where
-    filter_cells : Cells → List ℕ → List ℕ
-    filter_cells cs [] = []
-    filter_cells cs (n ∷ ns) = if has_sort is_root cs n || (is_single cs l && is_all cs (width_at cs n) k) then n ∷ filter_cells cs ns else filter_cells cs ns
+whole_writes cs l k = whole_of cs l k (cells_of cs l)
 
 abbrev pub among : ℕ → List ℕ → Bool
 among n ns = list_any (nat_eq n) ns

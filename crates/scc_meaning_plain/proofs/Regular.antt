@@ -17,16 +17,16 @@ use Rattle.scc_meaning_plain.specs.Common.{IsRegular, places_now, pointer_now, n
 use Rattle.scc_meaning_plain.proofs.Chains.{and-first, and-second}
 use Rattle.scc_meaning_plain.proofs.Valued.{valued, located}
 
-nat_eq-is : (m n : ℕ) → nat_eq m n ≡ true → m ≡ n
+pub nat_eq-is : (m n : ℕ) → nat_eq m n ≡ true → m ≡ n
 nat_eq-is m n e = grind arith
 
-same_part-is : (a b : Part) → same_part a b ≡ true → a ≡ b
+pub same_part-is : (a b : Part) → same_part a b ≡ true → a ≡ b
 same_part-is (Member a) (Member b) e = ap Member (nat_eq-is a b e)
 same_part-is (Element a) (Element b) e = ap Element (nat_eq-is a b e)
 same_part-is (Member a) (Element b) e = cc
 same_part-is (Element a) (Member b) e = cc
 
-same_path-is : (p q : List Part) → same_path p q ≡ true → p ≡ q
+pub same_path-is : (p q : List Part) → same_path p q ≡ true → p ≡ q
 same_path-is [] [] e = refl
 same_path-is (a ∷ p) (b ∷ q) e = λ i. same_part-is a b (and-first (same_part a b) (same_path p q) e) i ∷ same_path-is p q (and-second (same_part a b) (same_path p q) e) i
 same_path-is [] (b ∷ q) e = cc
@@ -71,7 +71,7 @@ changed-same l v f e = λ i m. changed-at l v f m (f m) (λ p. sym e ∙ ap f p)
 
 -- what is made, but for its objects, is nothing
 abbrev pub of_objects : List Object → Grown
-of_objects os = record { objects = os; store = nothing.store; bound = []; made = []; vectors = []; declared = []; turns = 0; bits = 0 }
+of_objects os = record { objects = os; store = nothing.store; bound = nothing.bound; made = nothing.made; vectors = []; declared = []; turns = 0; bits = 0 }
 
 abbrev pub standing : Site → List Object → Site
 standing s os = at_now s (of_objects os)

@@ -45,13 +45,13 @@ is_port n = false
 abbrev pub unbound : Grown → Option Refusal
 unbound g = first_numbered (λ n o. when (is_port o.node && (not (is_top (home g o.path)) && not (is_some (bound_of g n)))) (refused reason.Unbound o.place)) 0 g.objects
 
--- The root of a port is the end of its chain of bindings; each step leads to another module, so a chain has at most as many ports as there are objects.
+-- The root of a port is the end of its chain of bindings; each step leads out of a module, so a chain has no more ports than the first one's path has parts.
 abbrev pub root_from : Grown → ℕ → ℕ → ℕ
 root_from g zero n = n
 root_from g (suc left) n = unwrap_or (option_map (λ b. root_from g left b.to) (bound_of g n)) n
 
 abbrev pub root : Grown → ℕ → ℕ
-root g n = root_from g (length g.objects) n
+root g n = root_from g (length (path_of g n)) n
 
 -- an input of the top of kind `bool`
 abbrev pub is_clock_node : Option Node → Bool

@@ -1,5 +1,5 @@
 -- Bindings, processes and sensitivities in a constructor (IEEE 1666-2011, 4.1.3, 5.2.9, 5.2.13: resets, 5.2.14: `sensitive`, 5.2.15: `dont_initialize`, 5.12: ports).
-use Rattle.std.specs.Prelude.{ℕ, zero, suc, Bool, true, false, not, ◌&&◌, ◌||◌, nat_eq, List, [], ◌∷◌, ◌++◌, Option, Some, None, option_map, option_and_then, slice_get, unwrap_or, find, is_some, if◌then◌else◌}
+use Rattle.std.specs.Prelude.{ℕ, zero, suc, Bool, true, false, not, ◌&&◌, ◌||◌, nat_eq, List, [], ◌∷◌, ◌++◌, Option, Some, None, option_map, option_and_then, slice_get, unwrap_or, is_some, if◌then◌else◌}
 use Rattle.std.specs.List.{list_any}
 use Rattle.scc_base.specs.declared.refusal.Place.{Place}
 use Rattle.scc_base.specs.declared.code.Code.TheVariants as reason
@@ -53,7 +53,7 @@ may_bind g at k output n (Some (Port j out root)) = same_kind k j && (same_home 
 may_bind g at k output n _ = false
 
 abbrev pub bound_of : Grown → ℕ → Option Bound
-bound_of g n = find (λ b. nat_eq b.port n) g.bound
+bound_of g n = g.bound n
 
 -- what is bound again names the first binding (E402); else what may not be bound (E403)
 abbrev pub binding : Grown → Place → ℕ → Option ℕ → Option Node → Option Bound → Tried Grown
@@ -62,17 +62,18 @@ binding g p n (Some m) (Some (Port k output root)) None = let at = home g (path_
     if not (is_top at) && may_bind g at k output m (node_of g m) then Made (with_bound g (record { port = n; to = m; place = p })) else Stopped (refused reason.BindKind p)
 binding g p n to _ b = Stopped (refused reason.BindKind p)
 
--- binding what names no object does nothing
-abbrev pub bind : Site → Place → Left → Option Left → Tried Grown
-bind s p port to = and_made (spot s false true port) (λ o. and_made (bound_thing to) (λ m. bind_at (option_and_then (thing_at s.now) o) m))
-  where
-    bound_thing : Option Left → Tried (Option ℕ)
-    bound_thing None = Made None
-    bound_thing (Some l) = made_map (λ o. option_and_then (thing_at s.now) o) (spot s false true l)
+-- what a port is bound to
+abbrev pub bound_thing : Site → Option Left → Tried (Option ℕ)
+bound_thing s None = Made None
+bound_thing s (Some l) = made_map (λ o. option_and_then (thing_at s.now) o) (spot s false true l)
 
-    bind_at : Option ℕ → Option ℕ → Tried Grown
-    bind_at None m = Made s.now
-    bind_at (Some n) m = binding s.now p n m (node_of s.now n) (bound_of s.now n)
+-- binding what names no object does nothing
+abbrev pub bind_at : Grown → Place → Option ℕ → Option ℕ → Tried Grown
+bind_at g p None m = Made g
+bind_at g p (Some n) m = binding g p n m (node_of g n) (bound_of g n)
+
+abbrev pub bind : Site → Place → Left → Option Left → Tried Grown
+bind s p port to = and_made (spot s false true port) (λ o. and_made (bound_thing s to) (bind_at s.now p (option_and_then (thing_at s.now) o)))
 
 -- the port or signal that a location names, None where it names another thing or none
 abbrev pub is_channel : Option Node → Bool

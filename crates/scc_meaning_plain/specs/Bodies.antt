@@ -7,7 +7,7 @@ use Rattle.scc_kinds.specs.declared.kind.Kind.TheVariants as kind
 use Rattle.scc_meaning_core.specs.Term as core
 use Rattle.scc_meaning_core.specs.Term.{CellName}
 use Rattle.scc_meaning_core.specs.Code as stmt
-use Rattle.scc_meaning_core.specs.Fold.{whole}
+use Rattle.scc_meaning_core.specs.Fold.{named}
 use Rattle.scc_meaning_plain.specs.Term.{Left, Local, Argument, Value, Leads, ModuleName}
 use Rattle.scc_meaning_plain.specs.Program.{Base, Number, Code, End, Declare, Assign, Point, Write, Call, If, Loop, Block, Exit, Return, Wait, Make, Bind, Process, Sensitive, Quiet, Reset, Function, Member}
 use Rattle.scc_meaning_plain.specs.Types.{is_direct}
@@ -24,7 +24,11 @@ number_kind (Number k) = k
 number_kind b = kind.Bool
 
 abbrev pub cell_of : Here → Place → Bool → CellName → core.Left
-cell_of h p pointer n = whole h.cells h.vectors pointer (core.Prefix p n)
+cell_of h p pointer n = named h.cells h.vectors pointer (core.Prefix p n)
+
+abbrev pub pointed : Bool → core.Left → stmt.Pointed
+pointed true (core.Cell p n) = stmt.Declared n
+pointed declares l = stmt.Assigned l
 
 -- a declaration: each element takes 0, or is a pointer that leads nowhere yet
 abbrev pub cleared : Here → Place → ℕ → Option Member → List (List ℕ) → stmt.Code → stmt.Code
@@ -32,7 +36,7 @@ cleared h p n None all rest = rest
 cleared h p n (Some m) [] rest = rest
 cleared h p n (Some m) (i ∷ is) rest = if is_direct m.shape.reach
     then stmt.Put p (cell_of h p false (local_name h n i)) core.Whole (core.Literal p (number_kind m.shape.base) 0) (cleared h p n (Some m) is rest)
-    else stmt.Block p stmt.End (cleared h p n (Some m) is rest)
+    else stmt.Aim p (pointed true (cell_of h p true (local_name h n i))) (core.Null p) (cleared h p n (Some m) is rest)
 
 abbrev pub sizes_of : Option Member → List ℕ
 sizes_of m = unwrap_or (option_map (λ m. m.shape.sizes) m) []
@@ -90,10 +94,6 @@ among n ns = list_any (nat_eq n) ns
 abbrev pub is_first : Here → List ℕ → Left → Bool
 is_first h before (Local p n) = nat_le h.function.params n && (not (among n (plain_declared h.function.body)) && not (among n before))
 is_first h before l = false
-
-abbrev pub pointed : Bool → core.Left → stmt.Pointed
-pointed true (core.Cell p n) = stmt.Declared n
-pointed declares l = stmt.Assigned l
 
 -- the object of a call: what lies behind null is null, and null is met where it is used
 abbrev pub soften : core.Left → core.Left

@@ -1,11 +1,10 @@
 -- Statements of a constructor, one after another (IEEE 1666-2011, 4.1.1, 4.1.2; ISO C++ [stmt.stmt], [class.ctor]). This project's own: what a constructor may hold. On the
 -- statements that processes have too it does what their machine does.
 use Rattle.std.specs.Prelude.{ℕ, zero, suc, Bool, true, false, not, nat_le, List, [], ◌∷◌, map, length, Option, Some, None, option_map, slice_get, unwrap_or, is_some, if◌then◌else◌}
-use Rattle.std.specs.List.{list_any}
 use Rattle.scc_base.specs.declared.refusal.Place.{Place}
 use Rattle.scc_base.specs.declared.refusal.Refusal.{Refusal}
 use Rattle.scc_base.specs.declared.code.Code.TheVariants as reason
-use Rattle.scc_meaning.specs.Location.{Location, Part, Element, Root, Top, same_path}
+use Rattle.scc_meaning.specs.Location.{Location, Part, Element, Root, Top}
 use Rattle.scc_meaning_core.specs.First.{refused}
 use Rattle.scc_meaning_core.specs.Resolved.{Tried, Made, Stopped, and_made, made_map}
 use Rattle.scc_meaning_plain.specs.Term.{Left, Index, Argument}
@@ -77,7 +76,7 @@ point_at s p (Some l) t = pointed s p l l.root t
 -- `new`: for a pointer of an object, once (E404); what it makes has the pointer's path, and the pointer leads there
 abbrev pub made_at : Making → Site → Place → Base → Bool → List Argument → Location → Root → Tried Grown
 made_at make s p base vector args l Top = if not (is_some (pointer_at s.now l)) then Made s.now
-    else (if list_any (same_path l.path) s.now.made then Stopped (refused reason.Constructor p)
+    else (if s.now.made l.path then Stopped (refused reason.Constructor p)
     else made_map (λ g. with_target g l (Some l)) (make (with_made s.now l.path) l.path p base vector (λ g. given (at_now s g) args)))
 made_at make s p base vector args l r = Stopped (refused reason.Constructor p)
 

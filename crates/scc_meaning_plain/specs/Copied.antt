@@ -8,7 +8,8 @@ use Rattle.scc_meaning_core.specs.Term as core
 use Rattle.scc_meaning_core.specs.Term.{CellName, Own}
 use Rattle.scc_meaning_core.specs.Code as stmt
 use Rattle.scc_meaning_core.specs.Program as prog
-use Rattle.scc_meaning_core.specs.Fold.{member_of, element_of, whole, unknown}
+use Rattle.scc_meaning_core.specs.Resolved.{placed}
+use Rattle.scc_meaning_core.specs.Fold.{member_of, element_of, named, unknown}
 use Rattle.scc_meaning_plain.specs.Term.{Term, Literal, Load, Read, Convert, Unary, Binary, Choose, Bit, Range, Join, Left, Local, Answer, This, Follow, Index, Pick, Whole, OneBit, Bits, Target, Null, Address, Copy, Argument, Value, Leads, ModuleName}
 use Rattle.scc_meaning_plain.specs.Term as term
 use Rattle.scc_meaning_plain.specs.Program.{Count, Function, Plain, Member}
@@ -45,7 +46,7 @@ answer_name h cs f = own_name h (location.Answer h.process cs) f.name []
 -- a location whose last declaration is a reference leads on, where it is asked to
 abbrev pub refer : Here → Place → Bool → Option Member → core.Left → core.Left
 refer h p follow None l = l
-refer h p follow (Some m) l = if follow && is_reference m.shape.reach then core.Follow p false (whole h.cells h.vectors true l) else l
+refer h p follow (Some m) l = if follow && is_reference m.shape.reach then core.Follow p false (named h.cells h.vectors true l) else l
 
 abbrev pub size_here : List ℕ → ℕ
 size_here [] = unknown
@@ -58,23 +59,15 @@ module _ (h : Here) (result_of : ℕ → CellName) where
     located follow (Local p n) = refer h p follow (slice_get h.function.locals n) (core.Prefix p (local_name h n []))
     located follow (Answer p n) = core.Prefix p (result_of n)
     located follow (This p) = placed p h.this
-      where
-        placed : Place → core.Left → core.Left
-        placed p (core.Cell q n) = core.Cell p n
-        placed p (core.Prefix q n) = core.Prefix p n
-        placed p (core.Null q) = core.Null p
-        placed p (core.Follow q s l) = core.Follow p s l
-        placed p (core.Member l n) = core.Member (placed p l) n
-        placed p (core.Index l size e) = core.Index (placed p l) size e
-    located follow (Follow p l) = core.Follow p false (whole h.cells h.vectors (points_at h.plain h.function l) (located true l))
+    located follow (Follow p l) = core.Follow p false (named h.cells h.vectors (points_at h.plain h.function l) (located true l))
     located follow (term.Member l m) = refer h (term.place_at l) follow (declared_at h.plain h.function (term.Member l m))
         (member_of h.cells h.vectors (located true l) (unwrap_or (option_map (λ k. k.name) (declared_at h.plain h.function (term.Member l m))) 0))
     located follow (Index l e) = element_of h.cells h.vectors (located true l) (size_here (sizes_at h.plain h.function l)) (copied e)
 
     pub copied : Term → core.Term
     copied (Literal p k w) = core.Literal p k w
-    copied (Load p k l) = core.Load p k (whole h.cells h.vectors (points_at h.plain h.function l) (located true l))
-    copied (Read p k l) = core.Read p k (whole h.cells h.vectors (points_at h.plain h.function l) (located true l))
+    copied (Load p k l) = core.Load p k (named h.cells h.vectors (points_at h.plain h.function l) (located true l))
+    copied (Read p k l) = core.Read p k (named h.cells h.vectors (points_at h.plain h.function l) (located true l))
     copied (Convert p k e) = core.Convert p k (copied e)
     copied (Unary p k o a) = core.Unary p k o (copied a)
     copied (Binary p k o a b) = core.Binary p k o (copied a) (copied b)
@@ -85,7 +78,7 @@ module _ (h : Here) (result_of : ℕ → CellName) where
 
   -- a location; a reference that it ends with is followed where it is asked to
   abbrev pub left_of : Bool → Left → core.Left
-  left_of follow l = whole h.cells h.vectors (points_at h.plain h.function l) (located follow l)
+  left_of follow l = named h.cells h.vectors (points_at h.plain h.function l) (located follow l)
 
   abbrev pub pick_of : Pick → core.Pick
   pick_of Whole = core.Whole
@@ -98,7 +91,7 @@ module _ (h : Here) (result_of : ℕ → CellName) where
   target_of p (Copy l) = core.Follow (term.place_at l) false (left_of true l)
 
   abbrev pub count_of : Count → Option stmt.Count
-  count_of c = option_map (λ n. record { cell = n; start = copied c.start; compare = c.compare; bound = copied c.bound; step_op = c.step_op; step = copied c.step }) (cell_in (whole h.cells h.vectors false (core.Prefix (term.place_of c.start) (local_name h c.counter []))))
+  count_of c = option_map (λ n. record { cell = n; start = copied c.start; compare = c.compare; bound = copied c.bound; step_op = c.step_op; step = copied c.step }) (cell_in (named h.cells h.vectors false (core.Prefix (term.place_of c.start) (local_name h c.counter []))))
     where
       cell_in : core.Left → Option ℕ
       cell_in (core.Cell p n) = Some n

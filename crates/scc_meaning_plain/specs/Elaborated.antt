@@ -1,8 +1,10 @@
 -- The design of a program: what the run of its top's constructor leaves, or what is refused first (IEEE 1666-2011, 4.1).
-use Rattle.std.specs.Prelude.{ℕ, zero, suc, min, Bool, true, false, not, ◌&&◌, List, [], ◌∷◌, ◌++◌, map, filter_map, Option, Some, None, option_map, option_and_then, slice_get, unwrap_or, if◌then◌else◌}
+use Rattle.std.specs.Prelude.{ℕ, zero, suc, min, Bool, true, false, not, ◌&&◌, List, [], ◌∷◌, ◌++◌, map, filter_map, Option, Some, None, option_map, option_and_then, slice_get, unwrap_or, if◌then◌else◌, pos}
 use Rattle.scc_base.specs.declared.refusal.Place.{Place}
 use Rattle.scc_base.specs.declared.refusal.Refusal.{Refusal}
 use Rattle.scc_base.specs.declared.code.Code.TheVariants as reason
+use Rattle.scc_kinds.specs.Numbers.{low}
+use Rattle.scc_kinds.specs.Kinds.{width_of}
 use Rattle.scc_meaning.specs.Location.{Location, Part, Element}
 use Rattle.scc_meaning_core.specs.First.{refused}
 use Rattle.scc_meaning_core.specs.Resolved.{Tried, Made, Stopped, and_made}
@@ -20,9 +22,10 @@ is_reached n = is_thing n
 abbrev pub led_to : Grown → List Part → Option Location
 led_to g path = g.store.targets (at_path path)
 
+-- a variable keeps the bits that its kind has; in a program whose values have their targets' kinds there are no others
 abbrev pub left_node : Grown → ℕ → Object → Node → Node
 left_node g n o (Port k output r) = Port k output (root g n)
-left_node g n o (Variable k w) = Variable k (g.store.words (at_path o.path))
+left_node g n o (Variable k w) = Variable k (low (width_of k) (pos (g.store.words (at_path o.path))))
 left_node g n o (Pointer t) = Pointer (option_and_then (λ l. option_and_then (object_at is_reached g) (path_if_top l)) (led_to g o.path))
 left_node g n o node = node
 
@@ -70,12 +73,12 @@ other_param (suc n) named (m ∷ ms) = if is_name m.shape.base && not named then
 abbrev pub bad_top : Plain → Class → Option Refusal
 bad_top p c = let f = function_of p c in option_map (refused reason.Constructor) (other_param f.params false f.locals)
 
+abbrev pub left_unless : Option Refusal → Grown → Tried Design
+left_unless (Some r) g = Stopped r
+left_unless None g = Made (design_left g)
+
 abbrev pub checked : Bool → Plain → Grown → Tried Design
-checked many p g = by_refusal (refused_after many p g)
-  where
-    by_refusal : Option Refusal → Tried Design
-    by_refusal (Some r) = Stopped r
-    by_refusal None = Made (design_left g)
+checked many p g = left_unless (refused_after many p g) g
 
 abbrev pub run_top : Bool → Plain → Class → Option Refusal → Tried Design
 run_top many p c (Some r) = Stopped r

@@ -1,5 +1,5 @@
 -- What construction has made so far (IEEE 1666-2011, 4.1: elaboration), and its limits, which are this project's own.
-use Rattle.std.specs.Prelude.{ℕ, ◌+◌, Bool, true, false, ◌&&◌, ◌||◌, nat_lt, nat_le, List, [], ◌∷◌, ◌++◌, length, Option, Some, None, option_map, option_and_then, slice_get, position, if◌then◌else◌}
+use Rattle.std.specs.Prelude.{ℕ, ◌+◌, Bool, true, false, ◌&&◌, ◌||◌, nat_eq, nat_lt, nat_le, List, [], ◌∷◌, ◌++◌, length, Option, Some, None, option_map, option_and_then, slice_get, position, if◌then◌else◌}
 use Rattle.scc_base.specs.declared.refusal.Place.{Place}
 use Rattle.scc_base.specs.declared.code.Code.TheVariants as reason
 use Rattle.scc_kinds.specs.declared.kind.Kind.{Kind}
@@ -42,16 +42,17 @@ pub record Declared : Type 0 where
 pub record Grown : Type 0 where
   pub objects : List Object
   pub store : Store
-  pub bound : List Bound
-  -- the paths to which `new` was assigned
-  pub made : List (List Part)
+  -- of a port by its number
+  pub bound : ℕ → Option Bound
+  -- whether `new` was assigned to a path
+  pub made : List Part → Bool
   pub vectors : List VectorSize
   pub declared : List Declared
   pub turns : ℕ
   pub bits : ℕ
 
 abbrev pub nothing : Grown
-nothing = record { objects = []; store = record { words = λ l. 0; targets = λ l. None }; bound = []; made = []; vectors = []; declared = []; turns = 0; bits = 0 }
+nothing = record { objects = []; store = record { words = λ l. 0; targets = λ l. None }; bound = λ n. None; made = λ path. false; vectors = []; declared = []; turns = 0; bits = 0 }
 
 abbrev pub at_path : List Part → Location
 at_path path = record { root = Top; path = path }
@@ -106,10 +107,10 @@ abbrev pub with_declared : Grown → List Declared → Grown
 with_declared g ds = record { objects = g.objects; store = g.store; bound = g.bound; made = g.made; vectors = g.vectors; declared = ds; turns = g.turns; bits = g.bits }
 
 abbrev pub with_bound : Grown → Bound → Grown
-with_bound g b = record { objects = g.objects; store = g.store; bound = g.bound ++ b ∷ []; made = g.made; vectors = g.vectors; declared = g.declared; turns = g.turns; bits = g.bits }
+with_bound g b = record { objects = g.objects; store = g.store; bound = λ n. if nat_eq b.port n then Some b else g.bound n; made = g.made; vectors = g.vectors; declared = g.declared; turns = g.turns; bits = g.bits }
 
 abbrev pub with_made : Grown → List Part → Grown
-with_made g path = record { objects = g.objects; store = g.store; bound = g.bound; made = g.made ++ path ∷ []; vectors = g.vectors; declared = g.declared; turns = g.turns; bits = g.bits }
+with_made g path = record { objects = g.objects; store = g.store; bound = g.bound; made = λ q. same_path path q || g.made q; vectors = g.vectors; declared = g.declared; turns = g.turns; bits = g.bits }
 
 abbrev pub with_vector : Grown → List Part → ℕ → Grown
 with_vector g path n = record { objects = g.objects; store = g.store; bound = g.bound; made = g.made; vectors = g.vectors ++ record { path = path; size = n } ∷ []; declared = g.declared; turns = g.turns; bits = g.bits }

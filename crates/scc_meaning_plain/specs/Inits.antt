@@ -66,21 +66,43 @@ inits_of m (Sensitive p items r) = kept_if (belongs m (owner r)) (Sensitive p it
 inits_of m (Quiet p r) = kept_if (belongs m (owner r)) (Quiet p) (inits_of m r)
 inits_of m (Reset p s e a r) = kept_if (belongs m (owner r)) (Reset p s e a) (inits_of m r)
 
--- the arguments of the first `Make` among some initialisers, and the initialisers without any
+-- the arguments of the first `Make` among some initialisers, and the initialisers without any; neither looks into blocks and branches
 abbrev pub first_make : Code → Option (List Argument)
+first_make End = None
 first_make (Make p l base args r) = Some args
+first_make (Declare p n r) = first_make r
 first_make (Assign p l k e r) = first_make r
 first_make (Point p l t r) = first_make r
-first_make (Bind p port to r) = first_make r
-first_make (Declare p n r) = first_make r
+first_make (Write p l e r) = first_make r
 first_make (Call p n f o args r) = first_make r
-first_make c = None
+first_make (If p t a b r) = first_make r
+first_make (Loop p c b r) = first_make r
+first_make (Block p b r) = first_make r
+first_make (Exit p d r) = first_make r
+first_make (Return p v r) = first_make r
+first_make (Wait p n r) = first_make r
+first_make (Bind p port to r) = first_make r
+first_make (Process p t f e r) = first_make r
+first_make (Sensitive p items r) = first_make r
+first_make (Quiet p r) = first_make r
+first_make (Reset p s e a r) = first_make r
 
 abbrev pub without_make : Code → Code
+without_make End = End
 without_make (Make p l base args r) = without_make r
+without_make (Declare p n r) = Declare p n (without_make r)
 without_make (Assign p l k e r) = Assign p l k e (without_make r)
 without_make (Point p l t r) = Point p l t (without_make r)
-without_make (Bind p port to r) = Bind p port to (without_make r)
-without_make (Declare p n r) = Declare p n (without_make r)
+without_make (Write p l e r) = Write p l e (without_make r)
 without_make (Call p n f o args r) = Call p n f o args (without_make r)
-without_make c = c
+without_make (If p t a b r) = If p t a b (without_make r)
+without_make (Loop p c b r) = Loop p c b (without_make r)
+without_make (Block p b r) = Block p b (without_make r)
+without_make (Exit p d r) = Exit p d (without_make r)
+without_make (Return p v r) = Return p v (without_make r)
+without_make (Wait p n r) = Wait p n (without_make r)
+without_make (Bind p port to r) = Bind p port to (without_make r)
+without_make (Process p t f e r) = Process p t f e (without_make r)
+without_make (Sensitive p items r) = Sensitive p items (without_make r)
+without_make (Quiet p r) = Quiet p (without_make r)
+without_make (Reset p s e a r) = Reset p s e a (without_make r)

@@ -16,7 +16,7 @@ use Rattle.scc_meaning_plain.specs.Types.{is_direct}
 use Rattle.scc_meaning_plain.specs.Bodies.{elements}
 use Rattle.scc_meaning_plain.specs.Grown.{Grown, added, at_path, local_of, with_word, with_target, with_vector}
 use Rattle.scc_meaning_plain.specs.Worth.{Site, at_now, Given, Word, Place_given, given}
-use Rattle.scc_meaning_plain.specs.Construct.{Ran, Fell, Left_out, Halted, Making, ran}
+use Rattle.scc_meaning_plain.specs.Construct.{Ran, Fell, Left_out, Halted, Making, then_run, ran}
 
 -- what is made so far after some statements; blocks that they would leave there are none
 abbrev pub grown_by : Ran → Tried Grown
@@ -98,11 +98,7 @@ made_members build s n (m ∷ ms) inits g = and_made (made_member build s m (s.p
 
 -- the last process is the constructor's own: initialisers that belong to no member and the body share it
 abbrev pub run_rest : Making → Site → Code → Code → Grown → Tried Grown
-run_rest make s inits body g = grown_by (then_body (ran make s inits (record { grown = g; last = None })))
-  where
-    then_body : Ran → Ran
-    then_body (Fell n) = ran make s body n
-    then_body r = r
+run_rest make s inits body g = grown_by (then_run (ran make s inits (record { grown = g; last = None })) (ran make s body))
 
 abbrev pub nowhere : Function
 nowhere = record { name = 0; place = record { file = 0; at = 0 }; class = None; params = 0; locals = []; result = None; inits = End; body = End }
@@ -120,13 +116,13 @@ built_in p inner c number g path place n args = and_made (added g path place (de
     and_made (args g) (λ gs. let s = site_of p f object path g in
     and_made (made_members inner s 0 c.members f.inits (params_given object 0 f.params f.locals gs g)) (run_rest (making inner) s (inits_of None f.inits) f.body)))
 
--- A path has at most 64 parts, so objects stand at most so deep in one another.
+-- Each constructor that runs adds an object, and there are at most 65,536 of them.
 abbrev pub built : Plain → ℕ → Building
 built p zero g path place n args = Stopped (refused reason.TooManyObjects place)
 built p (suc levels) g path place n args = unwrap_or (option_map (λ c. built_in p (built p levels) c n g path place n args) (slice_get p.classes n)) (Made g)
 
 abbrev pub object_levels : ℕ
-object_levels = 66
+object_levels = 65537
 
 abbrev pub grown_of : Tried Grown → Option Grown
 grown_of (Made g) = Some g

@@ -67,11 +67,11 @@ module _ (p : Plain) (d : Design) where
   fixed_at Top path = option_and_then (λ o. word_of o o.node) (object_there is_number path)
   fixed_at r path = None
 
+  abbrev pub is_pointer_number : ℕ → Bool
+  is_pointer_number n = unwrap_or (option_map (λ o. is_pointer o.node) (slice_get d.objects n)) false
+
   abbrev pub target_at : Root → List Part → Option Location
   target_at Top path = option_map (λ t. at_path t.path) (find (λ t. same_path (path_of d t.object) path && is_pointer_number t.object) d.targets)
-    where
-      is_pointer_number : ℕ → Bool
-      is_pointer_number n = unwrap_or (option_map (λ o. is_pointer o.node) (slice_get d.objects n)) false
   target_at r path = None
 
   abbrev pub port_of : Object → Node → Option running.TopPort

@@ -8,3 +8,4 @@ pub mod Start
 pub mod Same
 pub mod Schedule
 pub mod Statement
+pub mod Steady

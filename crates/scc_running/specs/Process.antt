@@ -37,7 +37,7 @@ resumed_frames signals i p _ frames = first_frames i p
 abbrev pub framed : ℕ → Frames → (ℕ → Frames) → ℕ → Frames
 framed i f frames j = if nat_eq i j then f else frames j
 
--- It went well, or the resume of a process was neither suspended nor ended within its bound.
+-- It went well, or the resume of a process was neither suspended nor ended within its bound, or that of a method was suspended.
 pub data Went (A : Type 0) : Type 0 where
   Well : A → Went A
   Failed : (process : ℕ) → Went A
@@ -46,11 +46,20 @@ abbrev pub and_then : {A B : Type 0} → Went A → (A → Went B) → Went B
 and_then (Well x) f = f x
 and_then (Failed i) f = Failed i
 
+-- a thread may wait, and a method may not
+abbrev pub is_thread : Sort → Bool
+is_thread (Thread edge reset) = true
+is_thread _ = false
+
+abbrev pub suspended : Bool → ℕ → (ℕ → Frames) → Frames → Held → Went Phase
+suspended true i frames f h = Well (record { held = h; frames = framed i f frames })
+suspended false i frames f h = Failed i
+
 -- what a resume leaves
-abbrev pub left_by : ℕ → (ℕ → Frames) → Outcome → Went Phase
-left_by i frames (Suspended f h) = Well (record { held = h; frames = framed i f frames })
-left_by i frames (Ended h) = Well (record { held = h; frames = framed i Stop frames })
-left_by i frames _ = Failed i
+abbrev pub left_by : Sort → ℕ → (ℕ → Frames) → Outcome → Went Phase
+left_by sort i frames (Suspended f h) = suspended (is_thread sort) i frames f h
+left_by sort i frames (Ended h) = Well (record { held = h; frames = framed i Stop frames })
+left_by sort i frames _ = Failed i
 
 abbrev pub is_levels : Sort → Bool
 is_levels (Combinational senses) = true
@@ -63,7 +72,7 @@ is_combinational p = is_levels p.sort
 -- So many statements are allowed to each process in a resume. A resume runs until the process is suspended or ended.
 module _ (bounds : ℕ → ℕ) (d : Design) where
   abbrev pub resume : (Location → ℕ) → ℕ → Process → Phase → Went Phase
-  resume signals i p s = left_by i s.frames (run d.places d.functions signals (bounds i) (resumed_frames signals i p p.sort s.frames) s.held)
+  resume signals i p s = left_by p.sort i s.frames (run d.places d.functions signals (bounds i) (resumed_frames signals i p p.sort s.frames) s.held)
 
   -- those processes, numbered from i on, in construction order, all on the same signals
   abbrev pub resume_all : (Location → ℕ) → (Process → Bool) → ℕ → List Process → Phase → Went Phase

@@ -1,6 +1,6 @@
 -- What a process shows over a list of resumes, and when two designs mean the same, process by process. This project's own.
-use Rattle.std.specs.Prelude.{◌≡◌, ℕ, ◌+◌, ◌*◌, Bool, List, [], ◌∷◌, map, Option, Some, None, if◌then◌else◌}
-use Rattle.scc_meaning.specs.Location.{Location}
+use Rattle.std.specs.Prelude.{◌≡◌, ℕ, ◌+◌, ◌*◌, nat_eq, Bool, true, false, not, List, [], ◌∷◌, map, Option, Some, None, if◌then◌else◌}
+use Rattle.scc_meaning.specs.Location.{Location, Root, Top, Local, Answer, same}
 use Rattle.scc_meaning.specs.Store.{Request}
 use Rattle.scc_running.specs.Design.{Process, Design}
 use Rattle.scc_running.specs.Value.{Held}
@@ -8,31 +8,54 @@ use Rattle.scc_running.specs.Machine.{Frames, Stop, Outcome, Suspended, Ended, S
 use Rattle.scc_running.specs.Process.{first_frames}
 use Rattle.scc_running.specs.Start.{IsProper}
 
--- what a resume finds: whether it begins at the first statement, and the words of the variables and of the signals
+-- what a resume finds: whether it begins at the first statement, the words of the variables and of the signals, and where pointers of other processes
+-- lead. The pointers of the top and its own are as its last resume left them.
 pub record Turn : Type 0 where
   pub restarts : Bool
   pub words : Location → ℕ
   pub signals : Location → ℕ
+  pub others : Location → Option Location
+
+-- a local or a result of the process, or of another one; the top is no process's
+abbrev pub is_own : ℕ → Root → Bool
+is_own i Top = false
+is_own i (Local j calls n) = nat_eq i j
+is_own i (Answer j calls) = nat_eq i j
+
+abbrev pub is_others : ℕ → Root → Bool
+is_others i Top = false
+is_others i (Local j calls n) = not (nat_eq i j)
+is_others i (Answer j calls) = not (nat_eq i j)
+
+abbrev pub same_target : Option Location → Option Location → Bool
+same_target None None = true
+same_target (Some l) (Some m) = same l m
+same_target _ _ = false
+
+-- a pointer that isn't its own leads elsewhere than before
+abbrev pub moved : ℕ → (before after : Location → Option Location) → Location → Bool
+moved i before after l = if is_own i l.root then false else not (same_target (before l) (after l))
 
 pub data Ending : Type 0 where
   Waits : Ending
   Ends : Ending
   Sticks : Ending
 
--- what a resume comes to: how, the words of the variables, and the requests
+-- what a resume comes to: how, the words of the variables, the requests, and which pointers it moved that aren't its own
 pub record Seen : Type 0 where
   pub ending : Ending
   pub words : Location → ℕ
   pub requests : List Request
+  pub moved : Location → Bool
 
-abbrev pub seen_as : Ending → Held → Seen
-seen_as e h = record { ending = e; words = h.store.words; requests = h.requests }
+abbrev pub seen_as : ℕ → (Location → Option Location) → Ending → Held → Seen
+seen_as i before e h = record { ending = e; words = h.store.words; requests = h.requests; moved = moved i before h.store.targets }
 
-abbrev pub seen_of : Outcome → Option Seen
-seen_of (Suspended f h) = Some (seen_as Waits h)
-seen_of (Ended h) = Some (seen_as Ends h)
-seen_of (Stuck h) = Some (seen_as Sticks h)
-seen_of Unfinished = None
+abbrev pub seen_of : ℕ → (Location → Option Location) → Outcome → Option Seen
+seen_of i before (Suspended f h) = Some (seen_as i before Waits h)
+seen_of i before (Ended h) = Some (seen_as i before Ends h)
+seen_of i before (Stuck h) = Some (seen_as i before Sticks h)
+seen_of i before Unfinished = None
 
 -- a process in the middle: where it goes on, and where the pointers lead
 pub record Middle : Type 0 where
@@ -45,16 +68,20 @@ left_in (Ended h) m = record { frames = Stop; targets = h.store.targets }
 left_in (Stuck h) m = m
 left_in Unfinished m = m
 
+-- where pointers lead that a resume finds
+abbrev pub leading : ℕ → Turn → Middle → Location → Option Location
+leading i t m l = if is_others i l.root then t.others l else m.targets l
+
 -- a resume of process i with so many statements
 abbrev pub resumed : Design → ℕ → Process → ℕ → Turn → Middle → Outcome
 resumed d i p n t m = run d.places d.functions t.signals n (if t.restarts then first_frames i p else m.frames)
-    (record { store = record { words = t.words; targets = m.targets }; requests = [] })
+    (record { store = record { words = t.words; targets = leading i t m }; requests = [] })
 
 -- over these resumes, each with so many statements, the process shows this
 abbrev pub Plays : Design → ℕ → Process → Middle → List ℕ → List Turn → List Seen → Type 0
 Plays d i p m [] [] [] = Unit {0}
 Plays d i p m (n ∷ ns) (t ∷ ts) (o ∷ os) =
-    (seen_of (resumed d i p n t m) ≡ Some o) × Plays d i p (left_in (resumed d i p n t m) m) ns ts os
+    (seen_of i (leading i t m) (resumed d i p n t m) ≡ Some o) × Plays d i p (left_in (resumed d i p n t m) m) ns ts os
 Plays d i p m _ _ _ = ⊥
 
 abbrev pub AllProper : Design → List Turn → Type 0

@@ -4,6 +4,7 @@ use Rattle.std.specs.Prelude.{unwrap_or}
 use Rattle.std.proofs.lemmas.Bool.{cases_lt}
 use Rattle.std.specs.List.{list_any}
 use Rattle.scc_meaning.specs.Location.{Location, same}
+use Rattle.scc_meaning.specs.Design.{Combinational}
 use Rattle.scc_meaning.specs.Store.{updated}
 use Rattle.scc_running.specs.Machine.{Stop}
 use Rattle.scc_running.specs.Body.{End}
@@ -36,7 +37,7 @@ module _ (d : Design) (sound : IsSound d) where
 
   one_round : (n : ℕ) → length d.puts ≤ n → (s : State) → phase (λ _. n) (source_of d) is_combinational s ≡ Well (ran s)
   one_round n enough s =
-      ap (λ o. and_then (and_then (left_by 0 s.frames o) (λ t. Well t)) (λ t. Well (update (λ _. n) (source_of d) t)))
+      ap (λ o. and_then (and_then (left_by (Combinational (map member d.senses)) 0 s.frames o) (λ t. Well t)) (λ t. Well (update (λ _. n) (source_of d) t)))
       (method_runs d.ports (λ n. End) s.store.words n d.puts (record { store = s.store; requests = [] }) sound.within enough)
 
   pub settles : (n : ℕ) → length d.puts ≤ n → (s : State) → settle (λ _. n) (source_of d) s ≡ Well (ran (ran s))
@@ -110,7 +111,7 @@ module _ (d : Design) (sound : IsSound d) where
   -- with fewer statements allowed than the method has, no step is finished
   no_step : (n : ℕ) → n < length d.puts → (x : Step) (s : State) → step (λ _. n) (source_of d) x s ≡ Failed 0
   no_step n few x s =
-      ap (λ o. and_then (and_then (and_then (and_then (left_by 0 (given x s).frames o) (λ t. Well t)) (λ t. Well (update (λ _. n) (source_of d) t)))
+      ap (λ o. and_then (and_then (and_then (and_then (left_by (Combinational (map member d.senses)) 0 (given x s).frames o) (λ t. Well t)) (λ t. Well (update (λ _. n) (source_of d) t)))
       (λ t. and_then (phase (λ _. n) (source_of d) is_combinational t) (λ u. Well u))) (finished (λ _. n) (source_of d) x.edge))
       (method_stops d.ports (λ n. End) (given x s).store.words n d.puts (record { store = (given x s).store; requests = [] }) sound.within few)
 

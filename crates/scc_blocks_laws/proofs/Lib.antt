@@ -1,0 +1,13 @@
+pub mod Proper
+pub mod Placed
+pub mod Settles
+pub mod Edges
+pub mod Stored
+pub mod Begun
+pub mod Follow
+pub mod Worked
+pub mod WorkedThread
+pub mod Shots
+pub mod Ranked
+pub mod WorkedSound
+pub mod WorkedMethod

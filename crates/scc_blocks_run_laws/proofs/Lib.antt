@@ -1,0 +1,9 @@
+pub mod Renaming
+pub mod Firsts
+pub mod Words
+pub mod Segments
+pub mod Threads
+pub mod Blockruns
+pub mod Fitting
+pub mod Acted
+pub mod Among

@@ -1,0 +1,4 @@
+pub mod Pieces
+pub mod Blocks
+pub mod Leaves
+pub mod Follows

@@ -1,0 +1,13 @@
+pub mod Names
+pub mod Same
+pub mod Puts
+pub mod Depends
+pub mod Lateness
+pub mod Parts
+pub mod Moved
+pub mod Unsure
+pub mod Turning
+pub mod Told
+pub mod Framed
+pub mod Latched
+pub mod Counted

@@ -1,0 +1,4 @@
+pub mod Sound
+pub mod Alike
+pub mod Follows
+pub mod Ordering

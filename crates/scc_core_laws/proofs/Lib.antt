@@ -1,0 +1,12 @@
+pub mod Found
+pub mod Resumes
+pub mod Phases
+pub mod Seeing
+pub mod Settling
+pub mod Stepping
+pub mod Starting
+pub mod Counting
+pub mod Asking
+pub mod Ordered
+pub mod OnlyOne
+pub mod Rules

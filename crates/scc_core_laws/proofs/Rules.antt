@@ -1,0 +1,185 @@
+-- What the rules tell of combinational methods: no root is missed, none feeds itself, and roots are named alone.
+use Rattle.std.proofs.Common.{◌≡◌, ℕ, zero, suc, Bool, true, false, not, ◌&&◌, ◌||◌, nat_eq, List, [], ◌∷◌, ◌++◌, length, Option, Some, None, refl, sym, ap, ◌∙◌, arith, if◌then◌else◌, slice_get, inl, inr}
+use Rattle.std.specs.Prelude.{option_map, unwrap_or}
+use Rattle.std.specs.List.{list_any}
+use Rattle.scc_base.specs.declared.refusal.Place.{Place}
+use Rattle.scc_base.specs.declared.refusal.Refusal.{Refusal}
+use Rattle.scc_base.specs.declared.code.Code.TheVariants as reason
+use Rattle.scc_meaning_core.specs.Term.{Term, Left, Pick, place_at}
+use Rattle.scc_meaning_core.specs.Code.{Code, End, Put, Aim, If, Block, Loop, Exit, Wait, append}
+use Rattle.scc_meaning_core.specs.Program.{Program, Process, is_root, is_combinational}
+use Rattle.scc_meaning_core.specs.Static.{Cells, goes}
+use Rattle.scc_meaning_core.specs.Live.{Alive, alive, live, then_alive, by_test, looped}
+use Rattle.scc_meaning_core.specs.Flow.{flow, every}
+use Rattle.scc_meaning_core.specs.Uses.{Use, loads, inside, picked, writes_of, cells_of, is_single, has_sort, among}
+use Rattle.scc_meaning_core.specs.Clashes.{live_acts, two_writers, shared_variable}
+use Rattle.scc_meaning_core.specs.Feeding.{is_method, methods, feeds, reaches, reaches_in}
+use Rattle.scc_meaning_core.specs.First.{or_else, first_some, first_of, when, refused, refused_beside}
+use Rattle.scc_meaning_core.specs.Kept.{OneOf, written_by}
+use Rattle.scc_meaning_core.specs.Rules.{first_rule, clock_as_data, missing_sensitivity, latch, comb_loop, place_in, comb_state, wait_in_method, loop_may_not_wait, end_reached, chosen_root, own_uses, signal_index}
+use Rattle.scc_core_effect_laws.specs.Sound.{Each, SoundPut, SoundTest}
+use Rattle.scc_core_effect_laws.specs.Ordering.{Alone, AnyTest}
+use Rattle.scc_core_effect_laws.proofs.Names.{and-first, and-both, or-left, none-some, true-false}
+use Rattle.scc_core_effect_laws.proofs.Unsure.{flat-in, is-false, is-true}
+use Rattle.scc_core_effect_laws.proofs.Told.{or-none, first-none, one-at, when-none, any-true}
+use Rattle.scc_core_laws.proofs.Ordered.{in-methods}
+
+module _ (P : Left → Pick → Term → Type 0) where
+  append-each : (c d : Code) → Each P AnyTest c → Each P AnyTest d → Each P AnyTest (append c d)
+  append-each End d h k = k
+  append-each (Put p l n e r) d h k = (h.0, append-each r d h.1 k)
+  append-each (Aim p to t r) d h k = append-each r d h k
+  append-each (If p t a b r) d h k = (tt, h.1, h.2, append-each r d h.3 k)
+  append-each (Block p b r) d h k = (h.0, append-each r d h.1 k)
+  append-each (Loop p n b r) d h k = (h.0, append-each r d h.1 k)
+  append-each (Exit p n r) d h k = append-each r d h k
+  append-each (Wait p l n r) d h k = append-each r d h k
+
+  then-each : (b : Bool) (x y : Alive) → Each P AnyTest x.code → Each P AnyTest y.code → Each P AnyTest (then_alive b x y).code
+  then-each true x y h k = append-each x.code y.code h k
+  then-each false x y h k = h
+
+  test-each : (o : Option Bool) (p : Place) (t : Term) (x y : Alive) → Each P AnyTest x.code → Each P AnyTest y.code → Each P AnyTest (by_test o p t x y).code
+  test-each (Some true) p t x y h k = h
+  test-each (Some false) p t x y h k = k
+  test-each None p t x y h k = (tt, h, k, tt)
+
+  -- the live part has no other assignments
+  pub live-each : (cs : Cells) (c : Code) → Each P AnyTest c → Each P AnyTest (alive cs c).code
+  live-each cs End h = tt
+  live-each cs (Put p l k e r) h = (h.0, live-each cs r h.1)
+  live-each cs (Aim p to t r) h = live-each cs r h
+  live-each cs (If p t a b r) h =
+      then-each (by_test (goes cs t) p t (alive cs a) (alive cs b)).ends (by_test (goes cs t) p t (alive cs a) (alive cs b)) (alive cs r) (test-each (goes cs t) p t (alive cs a) (alive cs b) (live-each cs a h.1) (live-each cs b h.2)) (live-each cs r h.3)
+  live-each cs (Block p b r) h = then-each _ (Rattle.scc_meaning_core.specs.Live.shut p (alive cs b)) (alive cs r) (live-each cs b h.0, tt) (live-each cs r h.1)
+  live-each cs (Loop p n b r) h = by (alive cs b).ends (live-each cs b h.0)
+    where
+      by : (t : Bool) → Each P AnyTest (alive cs b).code → Each P AnyTest (looped t p n (alive cs b)).code
+      by true k = (k, tt)
+      by false k = k
+  live-each cs (Exit p n r) h = tt
+  live-each cs (Wait p l n r) h = live-each cs r h
+
+-- a root is named alone
+abbrev SingleRoots : Cells → Left → Pick → Term → Type 0
+SingleRoots cs l k e = (c : ℕ) → among c (cells_of cs l) ≡ true → has_sort is_root cs c ≡ true → is_single cs l ≡ true
+
+one-right : {A : Type 0} (x : A) (xs ys : List A) → OneOf x ys → OneOf x (xs ++ ys)
+one-right x [] ys o = o
+one-right x (y ∷ xs) ys o = inr (one-right x xs ys o)
+
+one-left : {A : Type 0} (x : A) (xs ys : List A) → OneOf x xs → OneOf x (xs ++ ys)
+one-left x [] ys o = absurd o
+one-left x (y ∷ xs) ys (inl e) = inl e
+one-left x (y ∷ xs) ys (inr o) = inr (one-left x xs ys o)
+
+single-each : (cs : Cells) (c : Code) → ((u : Use) → OneOf u (own_uses c) → chosen_root cs u ≡ None) → Each (SingleRoots cs) AnyTest c
+single-each cs End h = tt
+single-each cs (Put p l k e r) h = (
+  λ c there root. is-true _ (λ n. true-false (sym (and-both _ _ (ap not n) (any-true (has_sort is_root cs) c (cells_of cs l) there root)) ∙ when-none _ _ (h here (one-right here (inside l) _ (one-right here (picked k) _ (inl refl)))))),
+  single-each cs r (λ u o. h u (one-right u (inside l) _ (one-right u (picked k) _ (inr (one-right u (loads e) _ o))))),
+)
+  where
+    here : Use
+    here = record { place = place_at l; left = l }
+single-each cs (Aim p to t r) h = single-each cs r (λ u o. h u (one-right u (inside t) _ o))
+single-each cs (If p t a b r) h = (
+  tt,
+  single-each cs a (λ u o. h u (one-right u (loads t) _ (one-left u (own_uses a) _ o))),
+  single-each cs b (λ u o. h u (one-right u (loads t) _ (one-right u (own_uses a) _ (one-left u (own_uses b) _ o)))),
+  single-each cs r (λ u o. h u (one-right u (loads t) _ (one-right u (own_uses a) _ (one-right u (own_uses b) _ o)))),
+)
+single-each cs (Block p b r) h = (single-each cs b (λ u o. h u (one-left u (own_uses b) _ o)), single-each cs r (λ u o. h u (one-right u (own_uses b) _ o)))
+single-each cs (Loop p n b r) h = (single-each cs b (λ u o. h u (one-left u (own_uses b) _ o)), single-each cs r (λ u o. h u (one-right u (own_uses b) _ o)))
+single-each cs (Exit p n r) h = single-each cs r h
+single-each cs (Wait p l n r) h = single-each cs r h
+
+alone-each : (cs : Cells) (c : Code) → Each (SoundPut cs) (SoundTest cs) c → Each (SingleRoots cs) AnyTest c → Each (Alone cs) AnyTest c
+alone-each cs End s h = tt
+alone-each cs (Put p l k e r) s h = (record { sound = s.0; single = h.0 }, alone-each cs r s.1 h.1)
+alone-each cs (Aim p to t r) s h = alone-each cs r s h
+alone-each cs (If p t a b r) s h = (tt, alone-each cs a s.1 h.1, alone-each cs b s.2 h.2, alone-each cs r s.3 h.3)
+alone-each cs (Block p b r) s h = (alone-each cs b s.0 h.0, alone-each cs r s.1 h.1)
+alone-each cs (Loop p n b r) s h = (alone-each cs b s.0 h.0, alone-each cs r s.1 h.1)
+alone-each cs (Exit p n r) s h = alone-each cs r s h
+alone-each cs (Wait p l n r) s h = alone-each cs r s h
+
+module _ (p : Program) (none : first_rule p ≡ None) where
+  abbrev cs : Cells
+  cs = p.cells
+
+  after-shared : first_some (missing_sensitivity p ∷ latch p ∷ comb_loop p ∷ comb_state p ∷ wait_in_method p ∷ loop_may_not_wait p ∷ end_reached p ∷ signal_index p ∷ []) ≡ None
+  after-shared = (or-none (shared_variable p) _ (or-none (two_writers p) _ (or-none (clock_as_data p) _ none).1).1).1
+
+  after-sensitivity : or_else (latch p) (first_some (comb_loop p ∷ comb_state p ∷ wait_in_method p ∷ loop_may_not_wait p ∷ end_reached p ∷ signal_index p ∷ [])) ≡ None
+  after-sensitivity = (or-none (missing_sensitivity p) _ after-shared).1
+
+  after-latch : or_else (comb_loop p) (first_some (comb_state p ∷ wait_in_method p ∷ loop_may_not_wait p ∷ end_reached p ∷ signal_index p ∷ [])) ≡ None
+  after-latch = (or-none (latch p) _ after-sensitivity).1
+
+  index-none : signal_index p ≡ None
+  index-none =
+      let a = (or-none (comb_loop p) _ after-latch).1 in
+      let b = (or-none (comb_state p) _ a).1 in
+      let c = (or-none (wait_in_method p) _ b).1 in
+      let d = (or-none (loop_may_not_wait p) _ c).1 in
+      let e = (or-none (end_reached p) _ d).1 in
+      (or-none (signal_index p) _ e).0
+
+  pub misses : (i x : ℕ) (q : Process) → slice_get p.processes i ≡ Some q → is_combinational q ≡ true → has_sort is_root cs x ≡ true → among x (written_by cs q) ≡ true → (flow cs (live cs q.body) every).fall x ≡ false
+  misses i x q here comb root w =
+      let said : Process → Option Refusal = λ q. if is_combinational q then first_of (λ a. when (list_any (λ n. has_sort is_root cs n && (flow cs (live cs q.body) every).fall n) (writes_of cs a)) (refused reason.Latch a.place)) (live_acts cs q) else None in
+      let mine = ap (λ b. if b then first_of (λ a. when (list_any (λ n. has_sort is_root cs n && (flow cs (live cs q.body) every).fall n) (writes_of cs a)) (refused reason.Latch a.place)) (live_acts cs q) else None) (sym comb)
+      ∙ first-none said p.processes q (or-none (latch p) _ after-sensitivity).0 (one-at p.processes i q here) in
+      let a = flat-in (writes_of cs) x (live_acts cs q) w in
+      let act = first-none (λ a. when (list_any (λ n. has_sort is_root cs n && (flow cs (live cs q.body) every).fall n) (writes_of cs a)) (refused reason.Latch a.place)) (live_acts cs q) a.1 mine (one-at (live_acts cs q) a.0 a.1 a.2) in
+      is-false _ (λ m. true-false (sym (any-true (λ n. has_sort is_root cs n && (flow cs (live cs q.body) every).fall n) x (writes_of cs a.1) a.3 (and-both _ _ root m)) ∙ when-none _ _ act))
+
+  pub alone : (i : ℕ) (q : Process) → slice_get p.processes i ≡ Some q → Each (SoundPut cs) (SoundTest cs) (live cs q.body) → Each (Alone cs) AnyTest (live cs q.body)
+  alone i q here s =
+      let mine = first-none (λ q. first_of (chosen_root cs) (own_uses q.body)) p.processes q index-none (one-at p.processes i q here) in
+      alone-each cs (live cs q.body) s (live-each (SingleRoots cs) cs q.body (single-each cs q.body (λ u o. first-none (chosen_root cs) (own_uses q.body) u mine o)))
+
+  reaches-self : (n i : ℕ) → feeds p i i ≡ true → reaches (feeds p) n i i ≡ true
+  reaches-self zero i e = e
+  reaches-self (suc n) i e = or-left _ _ (reaches-self n i e)
+
+  one-among : (x : ℕ) (xs : List ℕ) → among x xs ≡ true → OneOf x xs
+  one-among x [] e = true-false (sym e)
+  one-among x (y ∷ xs) e = by (nat_eq x y) refl e (λ h. one-among x xs h)
+    where
+      equal : nat_eq x y ≡ true → x ≡ y
+      equal h = grind arith
+
+      by : (b : Bool) → nat_eq x y ≡ b → (b || among x xs) ≡ true → (among x xs ≡ true → OneOf x xs) → OneOf x (y ∷ xs)
+      by true q e more = inl (equal q)
+      by false q e more = inr (more e)
+
+  method-at : (i : ℕ) → is_method p i ≡ true → (q : Process) × (slice_get p.processes i ≡ Some q) × (is_combinational q ≡ true)
+  method-at i e = by (slice_get p.processes i) refl
+    where
+      by : (o : Option Process) → slice_get p.processes i ≡ o → (q : Process) × (slice_get p.processes i ≡ Some q) × (is_combinational q ≡ true)
+      by None h = true-false (sym e ∙ ap (λ o. unwrap_or (option_map is_combinational o) false) h)
+      by (Some q) h = (q, h, sym (ap (λ o. unwrap_or (option_map is_combinational o) false) h) ∙ e)
+
+  pub no-self : (i : ℕ) → feeds p i i ≡ false
+  no-self i = is-false _ (λ f. fed f (method-at i (and-first (is_method p i) _ f)))
+    where
+      inner : ℕ → Option Refusal
+      inner j = if feeds p i j && (nat_eq j i || reaches_in p j i) then first_of (λ a. first_of (λ b. Some (refused_beside reason.CombLoop a b)) (place_in p j)) (place_in p i) else None
+
+      outer : ℕ → Option Refusal
+      outer i = if reaches_in p i i then first_of (λ j. if feeds p i j && (nat_eq j i || reaches_in p j i) then first_of (λ a. first_of (λ b. Some (refused_beside reason.CombLoop a b)) (place_in p j)) (place_in p i) else None) (methods p) else None
+
+      self : nat_eq i i ≡ true
+      self = grind arith
+
+      fed : feeds p i i ≡ true → ((q : Process) × (slice_get p.processes i ≡ Some q) × (is_combinational q ≡ true)) → ⊥
+      fed f m =
+          let mine = one-among i (methods p) (in-methods p i m.0 m.1 m.2) in
+          let out = first-none outer (methods p) i (or-none (comb_loop p) _ after-latch).0 mine in
+          let all = ap (λ b. if b then first_of inner (methods p) else None) (sym (reaches-self (length p.processes) i f)) ∙ out in
+          let here = first-none inner (methods p) i all mine in
+          let places = ap (λ b. if b then first_of (λ a. first_of (λ b. Some (refused_beside reason.CombLoop a b)) (place_in p i)) (place_in p i) else None) (sym (and-both _ _ f (or-left _ (reaches_in p i i) self))) ∙ here in
+          let at : place_in p i ≡ m.0.place ∷ [] = ap (λ o. unwrap_or (option_map (λ q. q.place ∷ []) o) []) m.1 in
+          none-some (refused_beside reason.CombLoop m.0.place m.0.place) (sym (ap (λ ps. first_of (λ a. first_of (λ b. Some (refused_beside reason.CombLoop a b)) ps) ps) (sym at) ∙ places))

@@ -1,0 +1,137 @@
+-- A design and its copy mean the same.
+use Rattle.std.proofs.Common.{◌≡◌, ℕ, zero, suc, ◌+◌, Bool, true, false, List, [], ◌∷◌, map, Option, Some, None, option_map, option_and_then, unwrap_or, slice_get, refl, sym, ap, ◌∙◌, subst, arith}
+use Rattle.scc_base.specs.declared.refusal.Refusal.{Refusal}
+use Rattle.scc_meaning.specs.Location.{Location, Root}
+use Rattle.scc_running.specs.Design as running
+use Rattle.scc_running.specs.Run.{FitsThing}
+use Rattle.scc_running.specs.Start.{IsProper, HoldsConstant}
+use Rattle.scc_running.specs.Same.{Turn, AllProper, AllTheSame, SameDesign, at_first}
+use Rattle.scc_meaning_core.specs.Program as prog
+use Rattle.scc_meaning_core.specs.First.{or_else, first_of, first_numbered}
+use Rattle.scc_meaning_core.specs.Resolved.{Tried, Made, Stopped}
+use Rattle.scc_meaning_core.specs.Source as source
+use Rattle.scc_meaning_core.specs.Source.{at_top, source_of, processes_from}
+use Rattle.scc_meaning_blocks.specs.Comes.{Keeps}
+use Rattle.scc_meaning_plain.specs.Program.{Plain, Function}
+use Rattle.scc_meaning_plain.specs.Design as design
+use Rattle.scc_meaning_plain.specs.Design.{Design}
+use Rattle.scc_meaning_plain.specs.Meant as meant
+use Rattle.scc_meaning_plain.specs.Meant.{design_of}
+use Rattle.scc_meaning_plain.specs.Numbering.{levels}
+use Rattle.scc_meaning_plain.specs.Inlined.{home_of, here_of, copied_program, copied_process, copied_from, too_large}
+use Rattle.scc_meaning_plain.specs.Static.{inlined, first_copied}
+use Rattle.scc_inline_laws.specs.OrderlyDesign.{IsOrderly, IsOrderlyProcess}
+use Rattle.scc_meaning_plain.specs.Cells.{path_of}
+use Rattle.scc_meaning_plain.specs.Spoken.{function_body}
+use Rattle.scc_inline_process_laws.specs.Standing.{KeepsOver, KeepsAlways}
+use Rattle.scc_inline_process_laws.specs.Whole.{IsReady, own_names, spoken_design, copied_design, spoken_process, copied_as_process}
+use Rattle.scc_inline_process_laws.proofs.Kept.{kept_always}
+use Rattle.scc_inline_laws.proofs.Owned.{own-home}
+use Rattle.scc_inline_laws.proofs.Ordered.{sound-body}
+use Rattle.scc_inline_laws.proofs.Chained.{first-stands}
+use Rattle.scc_inline_laws.proofs.PlacesSame.{places-same, targets-same, fixed-same}
+use Rattle.scc_inline_laws.proofs.Headings.{ports-same, sort-same, core-moves}
+use Rattle.scc_inline_process_laws.proofs.Whole.{process-same}
+use Rattle.scc_inline_laws.proofs.Objects.{objects-chosen}
+
+-- a walk that finds nothing
+none-numbered : {A B : Type 0} (f : ℕ → A → Option B) (n : ℕ) (xs : List A) → first_numbered f n xs ≡ None → (a : ℕ) (x : A) → slice_get xs a ≡ Some x → f (n + a) x ≡ None
+none-numbered f n [] e a x g = cc
+none-numbered f n (y ∷ xs) e a x g = by (f n y) refl e a g (λ e a g. none-numbered f (suc n) xs e a x g)
+  where
+    by : (o : Option _) → f n y ≡ o → or_else o (first_numbered f (suc n) xs) ≡ None → (a : ℕ) → slice_get (y ∷ xs) a ≡ Some x
+        → (first_numbered f (suc n) xs ≡ None → (a : ℕ) → slice_get xs a ≡ Some x → f (suc n + a) x ≡ None) → f (n + a) x ≡ None
+    by (Some r) h e a g ih = cc
+    by None h e zero g ih = let z : y ≡ x = cc in let w : n ≡ n + 0 = omega arith in subst (λ n. f n x ≡ None) w (subst (λ x. f n x ≡ None) z h)
+    by None h e (suc a) g ih = let w : suc n + a ≡ n + suc a = omega arith in subst (λ n. f n x ≡ None) w (ih e a g)
+
+or-first : {A : Type 0} (a b : Option A) → or_else a b ≡ None → a ≡ None
+or-first None b e = refl
+or-first (Some x) b e = cc
+
+-- what is inlined is the copy, and nothing is refused
+pub inlined-is : (p : Plain) (d : Design) (c : prog.Program) → inlined p d ≡ Made c → (copied_program p d ≡ c) × ((i : ℕ) (q : design.Process) → slice_get d.processes i ≡ Some q → first_copied p d i q ≡ None)
+inlined-is p d c e = by (first_numbered (first_copied p d) 0 d.processes) refl
+  where
+    stopped : (r : Refusal) → first_numbered (first_copied p d) 0 d.processes ≡ Some r → inlined p d ≡ Stopped r
+    stopped r h = rw h refl
+
+    made : first_numbered (first_copied p d) 0 d.processes ≡ None → inlined p d ≡ Made (copied_program p d)
+    made h = rw h refl
+
+    by : (o : Option Refusal) → first_numbered (first_copied p d) 0 d.processes ≡ o → (copied_program p d ≡ c) × ((i : ℕ) (q : design.Process) → slice_get d.processes i ≡ Some q → first_copied p d i q ≡ None)
+    by (Some r) h = absurd (let z = stopped r h in cc)
+    by None h = ((let z = made h in cc), λ i q g. let w : 0 + i ≡ i = omega arith in subst (λ n. first_copied p d n q ≡ None) w (none-numbered (first_copied p d) 0 d.processes h i q g))
+
+module _ (p : Plain) (d : Design) (constant : Location → Option ℕ) (ord : IsOrderly p d) (unrefused : (i : ℕ) (q : design.Process) → slice_get d.processes i ≡ Some q → first_copied p d i q ≡ None) (keeps : Keeps (copied_design p d constant)) where
+  small : (i : ℕ) (q : design.Process) → slice_get d.processes i ≡ Some q → too_large p d i q ≡ None
+  small i q there = or-first (too_large p d i q) _ (unrefused i q there)
+
+  abbrev D : running.Design
+  D = spoken_design p d constant
+
+  abbrev E : running.Design
+  E = copied_design p d constant
+
+  process-there : (k : ℕ) (qs : List design.Process) (a : ℕ) (q : design.Process) → slice_get qs a ≡ Some q
+      → slice_get (processes_from (home_of p d) (copied_program p d) k (copied_from p d k qs)) a ≡ Some (copied_as_process p d constant (k + a) q)
+  process-there k [] a q e = cc
+  process-there k (x ∷ qs) zero q e = let z : x ≡ q = cc in let w : k ≡ k + 0 = omega arith in ap (λ k. Some (copied_as_process p d constant k x)) w ∙ ap (λ x. Some (copied_as_process p d constant (k + 0) x)) z
+  process-there k (x ∷ qs) (suc a) q e = let w : suc k + a ≡ k + suc a = omega arith in process-there (suc k) qs a q e ∙ ap (λ k. Some (copied_as_process p d constant k q)) w
+
+  proper : (w : Location → ℕ) → IsProper D w → IsProper E w
+  proper w x = record {
+    fits = λ l. subst (λ z. FitsThing (z.things l) (w l)) (sym (places-same p d constant ord small)) (x.fits l);
+    fixed = λ l. subst (λ z. HoldsConstant z (w l)) (sym (fixed-same p d constant ord small l.root l.path)) (x.fixed l);
+    constants = λ l. x.constants l;
+  }
+
+  all-proper : (ts : List Turn) → AllProper D ts → AllProper E ts
+  all-proper [] x = tt
+  all-proper (t ∷ ts) x = (proper t.words x.0, proper t.signals x.1, all-proper ts x.2)
+
+  pub ready : (i : ℕ) (q : design.Process) → slice_get d.processes i ≡ Some q → IsReady p d constant i q
+  ready i q there = let ok = ord.processes i q there in record {
+    function = ok.function;
+    stands = ok.stands;
+    places = places-same p d constant ord small;
+    targets = targets-same p d constant ord small;
+    sound = sound-body p d constant i q there ok levels [] q.function ok.function (first-stands p d constant i q there ok (small i q there)) (here_of p d i q ok.function).this tt refl (objects-chosen p d i q ok (unrefused i q there));
+    keeps = λ ns ts x. subst (λ z. KeepsOver (home_of p d) z (own_names p d constant i q) (here_of p d i q ok.function) E i (copied_as_process p d constant i q) (at_first E i (copied_as_process p d constant i q)) ns ts) (places-same p d constant ord small)
+        (kept_always (home_of p d) (copied_program p d) constant (own-home p d) (core-moves p d) keeps i (copied_as_process p d constant i q)
+        (let w : 0 + i ≡ i = omega arith in process-there 0 d.processes i q there ∙ ap (λ k. Some (copied_as_process p d constant k q)) w)
+        (own_names p d constant i q) (here_of p d i q ok.function) refl refl ns ts (all-proper ts x));
+  }
+
+  all-same : (k : ℕ) (qs : List design.Process) → ((a : ℕ) (q : design.Process) → slice_get qs a ≡ Some q → slice_get d.processes (k + a) ≡ Some q)
+      → AllTheSame 1 D E k (map (λ q. record { object = meant.at_path p d (path_of d q.object); sort = meant.sort_of p d q q.is_thread q.edge; body = function_body p q.function }) qs) (processes_from (home_of p d) (copied_program p d) k (copied_from p d k qs))
+  all-same k [] f = tt
+  all-same k (q ∷ qs) f = (
+    sort-same p d k q ok.senses ok.edge ok.reset,
+    process-same p d constant k q (ready k q at),
+    (let w : suc k ≡ k + 1 = omega arith in subst (λ n. AllTheSame 1 D E n (map (λ q. record { object = meant.at_path p d (path_of d q.object); sort = meant.sort_of p d q q.is_thread q.edge; body = function_body p q.function }) qs) (processes_from (home_of p d) (copied_program p d) (suc k) (copied_from p d (suc k) qs))) w
+        (all-same (suc k) qs (λ a u e. let z : k + suc a ≡ suc k + a = omega arith in subst (λ n. slice_get d.processes n ≡ Some u) z (f (suc a) u e)))),
+  )
+    where
+      at : slice_get d.processes k ≡ Some q
+      at = let z : k + 0 ≡ k = omega arith in subst (λ n. slice_get d.processes n ≡ Some q) z (f 0 q refl)
+
+      ok : IsOrderlyProcess p d k q
+      ok = ord.processes k q at
+
+  pub same-design : SameDesign 1 D E
+  same-design = record {
+    things = λ l. ap (λ z. z.things l) (sym (places-same p d constant ord small));
+    ports = ports-same p d constant;
+    fixed = λ l. sym (fixed-same p d constant ord small l.root l.path);
+    constants = λ l. refl;
+    processes = all-same 0 d.processes (λ a q e. let z : a ≡ 0 + a = omega arith in subst (λ n. slice_get d.processes n ≡ Some q) z e);
+  }
+
+-- the law of copied bodies
+pub inlined-same : (p : Plain) (d : Design) (c : prog.Program) (constant : Location → Option ℕ) → IsOrderly p d → inlined p d ≡ Made c → Keeps (source_of (home_of p d) c constant)
+    → SameDesign 1 (design_of p d constant) (source_of (home_of p d) c constant)
+inlined-same p d c constant ord e keeps =
+    let m = inlined-is p d c e in
+    subst (λ c. SameDesign 1 (design_of p d constant) (source_of (home_of p d) c constant)) m.0
+    (same-design p d constant ord m.1 (subst (λ c. Keeps (source_of (home_of p d) c constant)) (sym m.0) keeps))

@@ -1,0 +1,29 @@
+-- The method of `m = pick(1) + pick(0)` meets what is asked of it.
+use Rattle.std.proofs.Common.{◌≡◌, ℕ, false, [], Option, Some, None, refl}
+use Rattle.scc_meaning_plain.specs.Worked.{program, made, method, pick, int, here}
+use Rattle.scc_meaning_plain.specs.Design as design
+use Rattle.scc_meaning_plain.specs.Inlined.{here_of, home_of}
+use Rattle.scc_meaning_plain.specs.Numbering.{levels}
+use Rattle.scc_meaning.specs.Location.{Location}
+use Rattle.scc_inline_laws.specs.WorkedProcess.{process}
+use Rattle.scc_inline_process_laws.specs.Relation.{IsSoundAt}
+use Rattle.scc_inline_process_laws.specs.Whole.{spoken_design, own_names}
+
+pub worked_sound : (c : Location → Option ℕ) → IsSoundAt (home_of program made) (spoken_design program made c).places (own_names program made c 0 process) (here_of program made 0 process method) levels (here_of program made 0 process method) 0 method.body
+worked_sound c = (
+  pick,
+  refl,
+  tt,
+  (refl, (int, refl, refl)),
+  (tt, refl, (int, refl, refl), tt),
+  ((refl, refl, (int, refl, refl)), tt),
+  (
+    pick,
+    refl,
+    tt,
+    (refl, (int, refl, refl)),
+    (tt, refl, (int, refl, refl), tt),
+    ((refl, refl, (int, refl, refl)), tt),
+    ((tt, refl), tt, ((pick, refl, refl), (pick, refl, refl)), tt),
+  ),
+)

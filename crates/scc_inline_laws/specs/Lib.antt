@@ -1,0 +1,5 @@
+pub mod WorkedProcess
+pub mod Defect
+pub mod Untyped
+pub mod Orderly
+pub mod OrderlyDesign

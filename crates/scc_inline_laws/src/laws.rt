@@ -1,0 +1,115 @@
+//! Laws of copied bodies.
+ghost use Rattle.std.specs.Prelude.{◌≡◌, ℕ, Bool, true, List, [], length, Option, Some, slice_get};
+ghost use Rattle.std.specs.List.{list_any};
+ghost use Rattle.scc_meaning.specs.Location.{Location, Root, same_root};
+ghost use Rattle.scc_meaning.specs.Design.{Places};
+ghost use Rattle.scc_meaning.specs.Value.{Scene, Names};
+ghost use Rattle.scc_running.specs.Value.{locate};
+ghost use Rattle.scc_running.specs.Same.{MeansTheSame};
+ghost use Rattle.scc_meaning_core.specs.Term as core;
+ghost use Rattle.scc_meaning_core.specs.Program as prog;
+ghost use Rattle.scc_meaning_core.specs.Static.{Cells};
+ghost use Rattle.scc_meaning_core.specs.Fold.{named};
+ghost use Rattle.scc_meaning_core.specs.Source.{Home, left_of};
+ghost use Rattle.scc_meaning_plain.specs.Term.{Left};
+ghost use Rattle.scc_meaning_plain.specs.Program.{Plain};
+ghost use Rattle.scc_meaning_plain.specs.Design as design;
+ghost use Rattle.scc_meaning_plain.specs.Copied.{Here};
+ghost use Rattle.scc_meaning_plain.specs.Copied.{left_of as left_here};
+ghost use Rattle.scc_meaning_plain.specs.Bodies.{result_name};
+ghost use Rattle.scc_meaning_plain.specs.Static.{is_static};
+ghost use Rattle.scc_meaning_plain.specs.Inlined.{here_of, home_of, copied_program};
+ghost use Rattle.scc_meaning_plain.specs.Numbering.{levels, numbered, number_of};
+ghost use Rattle.scc_meaning_plain.specs.Worked.{program, made, method};
+ghost use Rattle.scc_inline_process_laws.specs.Sound.{IsSoundLeft, IsKinded};
+ghost use Rattle.scc_inline_laws.specs.OrderlyDesign.{IsOrderly};
+ghost use Rattle.scc_running.specs.Same.{SameDesign};
+ghost use Rattle.scc_meaning_core.specs.Resolved.{Made};
+ghost use Rattle.scc_meaning_plain.specs.Static.{inlined};
+ghost use Rattle.scc_meaning_plain.specs.Meant.{design_of};
+ghost use Rattle.scc_meaning_blocks.specs.Comes.{Keeps};
+ghost use Rattle.scc_meaning_blocks.specs.Passed.{IsHome};
+ghost use Rattle.scc_inline_process_laws.specs.Own.{OwnMoves};
+ghost use Rattle.scc_inline_laws.specs.Untyped.{untyped};
+ghost use Rattle.scc_inline_process_laws.specs.SoundCode.{core_scene};
+ghost use Rattle.scc_meaning.specs.Store.{Store};
+ghost use Rattle.scc_running.specs.Value.{value};
+ghost use Rattle.scc_running.specs.Same.{is_own};
+ghost use Rattle.scc_meaning_core.specs.Static.{static};
+ghost use Rattle.scc_meaning_core.specs.Source.{expr_of, source_of};
+ghost use Rattle.scc_inline_process_laws.specs.Relation.{IsSoundAt};
+ghost use Rattle.scc_inline_laws.specs.WorkedProcess.{process};
+ghost use Rattle.scc_meaning_core.specs.Counted.{counted_by, turns_of};
+ghost use Rattle.scc_inline_laws.specs.Defect.{cells, count, turning};
+ghost use Rattle.scc_inline_process_laws.specs.SoundCode.{IsFirm};
+ghost use Rattle.scc_inline_process_laws.specs.Chosen.{IsChosenStatically};
+ghost use Rattle.scc_inline_process_laws.specs.Whole.{IsReady, own_names, spoken_design, copied_design, spoken_process, copied_as_process};
+
+/// The cell of a name stands at the name's location.
+pub fn a_cell_stands_at_its_name()
+    ensures { (home : Home) (cs : Cells) (vs : List prog.Vector) (i : ℕ) (s : Scene) (pointer : Bool) (l : core.Left) → locate s (left_of home cs i (named cs vs pointer l)) ≡ locate s (left_of home cs i l) }
+{}
+
+/// An object that static indices choose stays while its function runs.
+pub fn an_object_stays()
+    ensures { (home : Home) (places : Places) (own : Names) (h : Here) (l : Left) → IsChosenStatically home h l → IsFirm home places own h l }
+{}
+
+/// An object that isn't refused as chosen by an index that isn't static stays while its function runs, where no counter stands around the call.
+pub fn an_object_that_is_not_refused_stays()
+    ensures { (home : Home) (places : Places) (own : Names) (h : Here) (l : Left) → IsSoundLeft home h l → is_static h.cells [] (left_here h (result_name h) true l) ≡ true → IsFirm home places own h l }
+{}
+
+/// A method with two calls meets what is asked of its statements.
+pub fn a_worked_method_is_sound()
+    ensures { (c : Location → Option ℕ) → IsSoundAt (home_of program made) (spoken_design program made c).places (own_names program made c 0 process) (here_of program made 0 process method) levels (here_of program made 0 process method) 0 method.body }
+{}
+
+/// The number of a local or result that is numbered leads back to it.
+pub fn a_number_leads_back()
+    ensures { (p : Plain) (d : design.Design) (i : ℕ) (q : design.Process) (r : Root) → slice_get d.processes i ≡ Some q → list_any (same_root r) (numbered p i q.function) ≡ true
+        → home_of p d i (number_of (numbered p i q.function) r) ≡ r }
+{}
+
+/// A loop counts by the definition, with two turns, though its turn writes its counter through a pointer that leads there before: no law of all cores can stand on
+/// the test of the turn alone.
+pub fn a_counter_behind_a_pointer_counts()
+    ensures counts { counted_by cells [] (Some count) turning ≡ Some count }
+    ensures turns { length (turns_of cells [] count turning) ≡ 2 }
+{}
+
+/// The copied body of a process means the same as its function with calls.
+pub fn a_copied_process_means_the_same()
+    ensures { (p : Plain) (d : design.Design) (constant : Location → Option ℕ) (i : ℕ) (q : design.Process) → IsReady p d constant i q
+        → MeansTheSame 1 (spoken_design p d constant) (copied_design p d constant) i (spoken_process p d constant i q) (copied_as_process p d constant i q) }
+{}
+
+/// A static value of a core is the machine's, where fixed locations hold their words.
+pub fn a_static_value_holds()
+    ensures { (home : Home) (p : prog.Program) (constant : Location → Option ℕ) (i : ℕ) → ((i n : ℕ) → is_own i (home i n) ≡ true) → OwnMoves p.cells
+        → (names : Names) (signals : Location → ℕ) (s : Store) → ((l : Location) (w : ℕ) → (source_of home p constant).fixed l ≡ Some w → s.words l ≡ w)
+        → (e : core.Term) (w : ℕ) → IsKinded e → static p.cells e ≡ Some w → value (core_scene home (source_of home p constant).places signals names s) (expr_of home p.cells i e) ≡ Some w }
+{}
+
+/// The core of an orderly program means what the program means, where no process changes what is fixed, nor assigns a pointer but at its declaration.
+pub fn what_is_inlined_means_the_same()
+    ensures { (p : Plain) (d : design.Design) (c : prog.Program) (constant : Location → Option ℕ) → IsOrderly p d → inlined p d ≡ Made c → Keeps (source_of (home_of p d) c constant)
+        → SameDesign 1 (design_of p d constant) (source_of (home_of p d) c constant) }
+{}
+
+/// Each number of each process leads to a root of its own.
+pub fn numbers_lead_home()
+    ensures { (p : Plain) (d : design.Design) → IsOrderly p d → IsHome (home_of p d) }
+{}
+
+/// The worked program is orderly, and what is inlined of it means the same: the law's premises are met.
+pub fn the_worked_program_means_the_same()
+    ensures orderly { IsOrderly program made }
+    ensures same { (constant : Location → Option ℕ) → SameDesign 1 (design_of program made constant) (source_of (home_of program made) (copied_program program made) constant) }
+{}
+
+/// Where parts of an expression say other kinds than their operators give, its static value isn't the machine's.
+pub fn an_untyped_value_differs()
+    ensures static_word { static [] untyped ≡ Some 0 }
+    ensures word { (home : Home) (cs : Cells) (i : ℕ) (s : Scene) → value s (expr_of home cs i untyped) ≡ Some 1 }
+{}

@@ -1,0 +1,83 @@
+-- An object that static indices choose stays while its function runs, whatever pointers lead to it.
+use Rattle.std.proofs.Common.{◌≡◌, ℕ, zero, suc, ◌≤◌, ◌<◌, Bool, true, false, ◌&&◌, List, [], ◌∷◌, length, Option, Some, None, option_map, if◌then◌else◌, slice_get, refl, sym, ap, ◌∙◌, subst, arith}
+use Rattle.std.proofs.lemmas.Bool.{lt-ltb}
+use Rattle.scc_meaning.specs.Location.{Location, Member, Element, within}
+use Rattle.scc_meaning.specs.Location as location
+use Rattle.scc_meaning.specs.Body as body
+use Rattle.scc_meaning.specs.Design.{Places}
+use Rattle.scc_meaning.specs.Store.{Store}
+use Rattle.scc_meaning.specs.Value.{Names, expr_kind, index_of, pointed}
+use Rattle.scc_running.specs.Value.{locate, value, behind}
+use Rattle.scc_meaning_core.specs.Source.{Home}
+use Rattle.scc_meaning_plain.specs.Term.{Term, Left, Local, Answer, This, Follow, Index}
+use Rattle.scc_meaning_plain.specs.Term as term
+use Rattle.scc_meaning_plain.specs.Program as plain
+use Rattle.scc_meaning_plain.specs.Types.{declared_at, is_reference}
+use Rattle.scc_meaning_plain.specs.Worth.{member_name}
+use Rattle.scc_meaning_plain.specs.Spoken as spoken
+use Rattle.scc_meaning_plain.specs.Copied.{Here, local_root, copied}
+use Rattle.scc_meaning_plain.specs.Bodies.{result_name}
+use Rattle.scc_inline_process_laws.specs.SoundCode.{SameOutside, LeadsUp, IsWithin, is_outside, Knows, Stands, plain_scene, IsFirm}
+use Rattle.scc_inline_process_laws.specs.Chosen.{IsChosenStatically}
+use Rattle.scc_inline_process_laws.proofs.Located.{copied-same}
+use Rattle.scc_inline_process_laws.proofs.Kinded.{kinded-copied}
+use Rattle.scc_inline_process_laws.proofs.Moves.{outside-wider, local-outside, answer-outside}
+
+module _ (home : Home) (places : Places) (own : Names) (h : Here) (o : Option Location) (s : Store) (up : LeadsUp h.process s.targets) (inside : IsWithin h.process (length h.calls) o) where
+  -- what a left side names, here and wherever only pointers inside the call differ
+  abbrev Stays : body.Left → Type 0
+  Stays b = (q : Option Location) × IsWithin h.process (length h.calls) q × ((signals : Location → ℕ) (u : Store) → Knows home places own h u → SameOutside h.process (suc (length h.calls)) s.targets u.targets → Stands home places own h u o
+      → locate (plain_scene home places signals own h o u) b ≡ Some q)
+
+  follow-stays : (b : body.Left) → Stays b → Stays (body.Follow b)
+  follow-stays b (None, w, f) = (None, w, λ y u k m t. ap (λ z. behind z (λ l. Some (pointed (places.pointers l) (u.targets l)))) (f y u k m t))
+  follow-stays b (Some l, w, f) = (
+    pointed (places.pointers l) (s.targets l),
+    by (places.pointers l),
+    λ y u k m t. ap (λ z. behind z (λ l. Some (pointed (places.pointers l) (u.targets l)))) (f y u k m t) ∙ ap (λ z. Some (pointed (places.pointers l) z)) (m l (w l refl)),
+  )
+    where
+      by : (c : Bool) → IsWithin h.process (length h.calls) (pointed c (s.targets l))
+      by true x e = up (suc (length h.calls)) l x (w l refl) e
+      by false x e = cc
+
+  field-stays : (n : ℕ) (b : body.Left) → Stays b → Stays (body.Field b n)
+  field-stays n b (None, w, f) = (None, w, λ y u k m t. ap (λ z. behind z (λ l. Some (Some (within l (Member n))))) (f y u k m t))
+  field-stays n b (Some l, w, f) = (
+    Some (within l (Member n)),
+    (λ x e. let i : within l (Member n) ≡ x = cc in subst (λ x. is_outside h.process (suc (length h.calls)) x.root ≡ true) i (w l refl)),
+    λ y u k m t. ap (λ z. behind z (λ l. Some (Some (within l (Member n))))) (f y u k m t),
+  )
+
+  refer-stays : (follow : Bool) (m : Option plain.Member) (b : body.Left) → Stays b → Stays (spoken.refer follow m b)
+  refer-stays follow None b x = x
+  refer-stays follow (Some m) b x = by (follow && is_reference m.shape.reach)
+    where
+      by : (c : Bool) → Stays (if c then body.Follow b else b)
+      by true = follow-stays b x
+      by false = x
+
+  index-stays : (e : body.Expr) (w : ℕ) → ((signals : Location → ℕ) (u : Store) → Knows home places own h u → Stands home places own h u o → value (plain_scene home places signals own h o u) e ≡ Some w)
+      → (b : body.Left) → Stays b → Stays (body.Indexed b e)
+  index-stays e i v b (None, w, f) = (None, w, λ y u k m t. ap (λ z. behind z (λ l. option_map (λ i. Some (within l (Element (index_of (expr_kind e) i)))) (value (plain_scene home places y own h o u) e))) (f y u k m t))
+  index-stays e i v b (Some l, w, f) = (
+    Some (within l (Element (index_of (expr_kind e) i))),
+    (λ x d. let j : within l (Element (index_of (expr_kind e) i)) ≡ x = cc in subst (λ x. is_outside h.process (suc (length h.calls)) x.root ≡ true) j (w l refl)),
+    λ y u k m t. ap (λ z. behind z (λ l. option_map (λ i. Some (within l (Element (index_of (expr_kind e) i)))) (value (plain_scene home places y own h o u) e))) (f y u k m t)
+        ∙ ap (λ z. option_map (λ i. Some (within l (Element (index_of (expr_kind e) i)))) z) (v y u k t),
+  )
+
+  stays : (follow : Bool) (l : Left) → IsChosenStatically home h l → Stays (spoken.left_of h.plain h.function follow l)
+  stays follow (Local p n) c = refer-stays follow (slice_get h.function.locals n) (body.Declared n)
+      (Some (record { root = local_root h n; path = [] }), (λ x e. let i : record { root = local_root h n; path = [] } ≡ x = cc in subst (λ x. is_outside h.process (suc (length h.calls)) x.root ≡ true) i (local-outside h.process h.calls n)), λ y u k m t. refl)
+  stays follow (Answer p n) c = (Some (record { root = location.Answer h.process (n ∷ h.calls); path = [] }), (λ x e. let i : record { root = location.Answer h.process (n ∷ h.calls); path = [] } ≡ x = cc in subst (λ x. is_outside h.process (suc (length h.calls)) x.root ≡ true) i (answer-outside h.process (suc (length h.calls)) (n ∷ h.calls))), λ y u k m t. refl)
+  stays follow (This p) c = (o, inside, λ y u k m t. refl)
+  stays follow (Follow p l) c = follow-stays (spoken.left_of h.plain h.function true l) (stays true l c)
+  stays follow (term.Member l m) c = refer-stays follow (declared_at h.plain h.function (term.Member l m)) (body.Field (spoken.left_of h.plain h.function true l) (member_name (declared_at h.plain h.function (term.Member l m))))
+      (field-stays (member_name (declared_at h.plain h.function (term.Member l m))) (spoken.left_of h.plain h.function true l) (stays true l c))
+  stays follow (Index l e) c = index-stays (spoken.expr_of h.plain h.function e) c.3 (λ y u k t. sym (copied-same home h places y u o own (k y) (t y) e c.1) ∙ k y (copied h (result_name h) e) c.3 (kinded-copied home h e c.1 c.2) c.4)
+      (spoken.left_of h.plain h.function true l) (stays true l c.0)
+
+pub firm : (home : Home) (places : Places) (own : Names) (h : Here) (l : Left) → IsChosenStatically home h l → IsFirm home places own h l
+firm home places own h l c o s knows up inside stands = let x = stays home places own h o s up inside true l c in
+    (x.0, (λ y e. outside-wider h.process (suc (suc (length h.calls))) (suc (length h.calls)) y.root (omega arith) (x.1 y e)), λ y u k m t. x.2 y u k m t)

@@ -1,0 +1,16 @@
+pub mod Named
+pub mod Kinded
+pub mod Located
+pub mod Moves
+pub mod Steps
+pub mod Same
+pub mod Follow
+pub mod Still
+pub mod Longer
+pub mod Law
+pub mod Firm
+pub mod Whole
+pub mod Upward
+pub mod Chosen
+pub mod Known
+pub mod Kept

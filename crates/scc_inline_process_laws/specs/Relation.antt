@@ -1,0 +1,112 @@
+-- Frames of a process against those of its copy: each list of statements has its copy; the block of a call stands for the call.
+use Rattle.std.specs.Prelude.{◌≡◌, ℕ, zero, suc, true, false, List, [], ◌∷◌, length, Option, Some, None}
+use Rattle.scc_base.specs.declared.refusal.Place.{Place}
+use Rattle.scc_kinds.specs.declared.kind.Kind.{Kind}
+use Rattle.scc_meaning.specs.Location.{Location}
+use Rattle.scc_meaning.specs.Design.{Places}
+use Rattle.scc_meaning.specs.Store.{Store}
+use Rattle.scc_meaning.specs.Value.{Names}
+use Rattle.scc_running.specs.Body.{Body}
+use Rattle.scc_running.specs.Body as machine
+use Rattle.scc_running.specs.Value.{Held, locate}
+use Rattle.scc_running.specs.Machine.{Frames, Stop, Go, Mark, Inner, BehindBlock, BehindCall, Outcome, Suspended, Ended, Stuck, Unfinished, after}
+use Rattle.scc_meaning_core.specs.Term as core
+use Rattle.scc_meaning_core.specs.Code as stmt
+use Rattle.scc_meaning_core.specs.Source.{Home, left_of}
+use Rattle.scc_meaning_core.specs.Source as source
+use Rattle.scc_meaning_plain.specs.Term.{Argument}
+use Rattle.scc_meaning_plain.specs.Program.{Code, Function, Member}
+use Rattle.scc_meaning_plain.specs.Types.{is_direct}
+use Rattle.scc_meaning_plain.specs.Copied.{Here, answer_name, local_root}
+use Rattle.scc_meaning_plain.specs.Bodies.{inside, result_name, passed, cell_of, cleared}
+use Rattle.scc_meaning_plain.specs.Inlined.{body_of, call_of}
+use Rattle.scc_meaning_plain.specs.Spoken as spoken
+use Rattle.scc_inline_process_laws.specs.Sound.{names_of, IsHomed}
+use Rattle.scc_inline_process_laws.specs.SoundCode.{Targets, SameOutside, LeadsUp, IsWithin, Knows, core_scene, IsSoundCode, IsSoundCall, AreSoundArguments, IsSoundAnswer, AllPlaced}
+
+-- h: what the copies of a process work with; the names of the copy's frames
+module _ (home : Home) (places : Places) (own : Names) (h : Here) where
+  -- the copy of a function by the calls that lead to it, and its object
+  abbrev pub here : List ℕ → Function → core.Left → Here
+  here cs g this = inside h cs g this
+
+  abbrev pub spoken_body : Function → List ℕ → Code → Body
+  spoken_body g before b = spoken.body_of h.plain g before b
+
+  abbrev pub machine_code : stmt.Code → Body
+  machine_code c = source.body_of home h.cells h.process c
+
+  abbrev pub copied_body : ℕ → Here → ℕ → List ℕ → Code → Body
+  copied_body left to d before b = machine_code (body_of (call_of h left) to d before b)
+
+  -- the object stays, while pointers inside the call alone change
+  abbrev pub IsSteady : List ℕ → core.Left → Option Location → Targets → Type 0
+  IsSteady cs this o t = IsWithin h.process (length cs) o × ((signals : Location → ℕ) (s : Store) → Knows home places own h s → SameOutside h.process (length cs) t s.targets
+      → locate (core_scene home places signals own s) (left_of home h.cells h.process this) ≡ Some o) × LeadsUp h.process t
+
+  abbrev pub IsSoundAt : ℕ → Here → ℕ → Code → Type 0
+  IsSoundAt left to d b = IsSoundCode home places own (IsSoundCall home places own left) to d b
+
+  -- the frames behind the innermost list, which stands so many blocks inside the block of its call
+  pub data Below : List ℕ → ℕ → Targets → Frames → Frames → Type 0 where
+    below_halt : {t : Targets} → LeadsUp h.process t → Below [] 0 t Stop (Go BehindBlock own machine.End Stop)
+    below_inner : {d : ℕ} {cs : List ℕ} {t : Targets} {k k' : Frames} → (left : ℕ) (g : Function) (this : core.Left) (o : Option Location) (before : List ℕ) (b : Code)
+        → IsSoundAt left (here cs g this) d b → IsSteady cs this o t → Below cs d t k k'
+        → Below cs d t (Go Inner (names_of (here cs g this) o) (spoken_body g before b) k) (Go Inner own (copied_body left (here cs g this) d before b) k')
+    below_block : {d : ℕ} {cs : List ℕ} {t : Targets} {k k' : Frames} → (left : ℕ) (g : Function) (this : core.Left) (o : Option Location) (before : List ℕ) (b : Code)
+        → IsSoundAt left (here cs g this) d b → IsSteady cs this o t → Below cs d t k k'
+        → Below cs (suc d) t (Go BehindBlock (names_of (here cs g this) o) (spoken_body g before b) k) (Go BehindBlock own (copied_body left (here cs g this) d before b) k')
+    below_call : {d : ℕ} {cs : List ℕ} {t : Targets} {k k' : Frames} → (n left : ℕ) (g : Function) (this : core.Left) (o : Option Location) (before : List ℕ) (b : Code)
+        → IsSoundAt left (here cs g this) d b → IsSteady cs this o t → Below cs d t k k'
+        → Below (n ∷ cs) 0 t (Go BehindCall (names_of (here cs g this) o) (spoken_body g before b) k) (Go BehindBlock own (copied_body left (here cs g this) d before b) k')
+
+  -- frames that mean the same
+  pub data Alike : Targets → Frames → Frames → Type 0 where
+    alike_stop : {t : Targets} → LeadsUp h.process t → Alike t Stop Stop
+    alike_end : {t : Targets} → LeadsUp h.process t → Alike t Stop (Go Inner own machine.End Stop)
+    alike_on : {d : ℕ} {cs : List ℕ} {t : Targets} {k k' : Frames} → (mark mark' : Mark) (left : ℕ) (g : Function) (this : core.Left) (o : Option Location) (before : List ℕ) (b : Code)
+        → IsSoundAt left (here cs g this) d b → IsSteady cs this o t → Below cs d t k k'
+        → Alike t (Go mark (names_of (here cs g this) o) (spoken_body g before b) k) (Go mark' own (copied_body left (here cs g this) d before b) k')
+    -- elements of a local are still to be cleared
+    alike_clear : {d : ℕ} {cs : List ℕ} {t : Targets} {k k' : Frames} → (mark mark' : Mark) (left : ℕ) (g : Function) (this : core.Left) (o : Option Location) (before : List ℕ) (b : Code) (p : Place) (n : ℕ) (m : Member) (all : List (List ℕ))
+        → IsHomed home (here cs g this) (local_root (here cs g this) n) → AllPlaced home places own (here cs g this) (is_direct m.shape.reach) n all
+        → IsSoundAt left (here cs g this) d b → IsSteady cs this o t → Below cs d t k k'
+        → Alike t (Go mark (names_of (here cs g this) o) (spoken.cleared h.plain g n all (spoken_body g before b)) k)
+        (Go mark' own (machine_code (cleared (here cs g this) p n (Some m) all (body_of (call_of h left) (here cs g this) d before b))) k')
+    -- the arguments from the j-th on are still to be passed to function f; `from` is the caller
+    alike_enter : {t : Targets} {k k' : Frames} → (mark mark' : Mark) (n left : ℕ) (cs : List ℕ) (from f : Function) (this object : core.Left) (o q : Option Location) (p : Place) (j : ℕ) (args : List Argument) (before : List ℕ) (b : Code) (d left' : ℕ)
+        → IsSoundAt left (here (n ∷ cs) f object) 0 f.body → IsSteady (n ∷ cs) object q t
+        → AreSoundArguments home places own (here cs from this) (here (n ∷ cs) f object) j args
+        → IsSoundAt left' (here cs from this) d b → IsSteady cs this o t → Below cs d t k k'
+        → Alike t (Go mark (names_of (here (n ∷ cs) f object) q) (spoken.passed h.plain from j args) (Go Inner (names_of (here (n ∷ cs) f object) q) (spoken_body f [] f.body) (Go BehindCall (names_of (here cs from this) o) (spoken_body from before b) k)))
+        (Go mark' own (machine_code (passed (here cs from this) (result_name (here cs from this)) (here (n ∷ cs) f object) p j args (body_of (call_of h left) (here (n ∷ cs) f object) 0 [] f.body))) (Go BehindBlock own (copied_body left' (here cs from this) d before b) k'))
+    alike_begin : {t : Targets} {k k' : Frames} → (mark mark' : Mark) (n left : ℕ) (cs : List ℕ) (from f : Function) (this object : core.Left) (o q : Option Location) (p : Place) (r : Kind) (args : List Argument) (before : List ℕ) (b : Code) (d left' : ℕ)
+        → IsSoundAt left (here (n ∷ cs) f object) 0 f.body → IsSteady (n ∷ cs) object q t
+        → AreSoundArguments home places own (here cs from this) (here (n ∷ cs) f object) 0 args → IsSoundAnswer home places own (here (n ∷ cs) f object) (Some r)
+        → IsSoundAt left' (here cs from this) d b → IsSteady cs this o t → Below cs d t k k'
+        → Alike t (Go mark (names_of (here (n ∷ cs) f object) q) (machine.Begin (spoken.passed h.plain from 0 args)) (Go Inner (names_of (here (n ∷ cs) f object) q) (spoken_body f [] f.body) (Go BehindCall (names_of (here cs from this) o) (spoken_body from before b) k)))
+        (Go mark' own (machine_code (stmt.Put p (cell_of (here cs from this) p false (answer_name (here cs from this) (n ∷ cs) f)) core.Whole (core.Literal p r 0)
+        (passed (here cs from this) (result_name (here cs from this)) (here (n ∷ cs) f object) p 0 args (body_of (call_of h left) (here (n ∷ cs) f object) 0 [] f.body)))) (Go BehindBlock own (copied_body left' (here cs from this) d before b) k'))
+
+  -- what a run comes to
+  abbrev pub AlikeOutcome : Outcome → Outcome → Type 0
+  AlikeOutcome (Suspended f a) (Suspended f' b) = (a ≡ b) × Alike a.store.targets f f'
+  AlikeOutcome (Ended a) (Ended b) = (a ≡ b) × LeadsUp h.process a.store.targets
+  AlikeOutcome (Stuck a) (Stuck b) = a ≡ b
+  AlikeOutcome Unfinished Unfinished = Unit {0}
+  AlikeOutcome _ _ = ⊥
+
+  -- no pointer is about to be assigned
+  abbrev pub Declares : Frames → Type 0
+  Declares Stop = Unit {0}
+  Declares (Go mark names machine.End k) = Declares k
+  Declares (Go mark names (machine.Point false l t r) k) = ⊥
+  Declares (Go mark names b k) = Unit {0}
+
+  abbrev pub IsKept : Outcome → Type 0
+  IsKept (Suspended f a) = Knows home places own h a.store × Declares f
+  IsKept _ = Unit {0}
+
+  -- from here on what is static holds, and no pointer is assigned but at its declaration
+  abbrev pub KeepsFrom : (Location → ℕ) → Frames → Held → Type 0
+  KeepsFrom signals f a = (j : ℕ) → IsKept (after places (λ f. machine.End) signals j f a)

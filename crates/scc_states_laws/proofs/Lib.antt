@@ -1,0 +1,13 @@
+pub mod Tracking
+pub mod Values
+pub mod Acts
+pub mod Fits
+pub mod Standing
+pub mod Turned
+pub mod Statics
+pub mod Resuming
+pub mod Progress
+pub mod Unstuck
+pub mod Closed
+pub mod Any
+pub mod InTime

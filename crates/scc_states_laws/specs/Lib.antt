@@ -1,0 +1,5 @@
+pub mod Processes
+pub mod Alike
+pub mod Same
+pub mod Turned
+pub mod InTime

@@ -1,0 +1,13 @@
+pub mod Codes
+pub mod Alive
+pub mod Appended
+pub mod Steps
+pub mod Ways
+pub mod Does
+pub mod Tables
+pub mod Reach
+pub mod Waiting
+pub mod Tracked
+pub mod Exits
+pub mod Aside
+pub mod Alone

@@ -1,0 +1,5 @@
+pub mod Moved
+pub mod Within
+pub mod Tracks
+pub mod Exits
+pub mod Aside

@@ -1,0 +1,2 @@
+//! Frames and segments go along one path. Lemmas alone, which other crates cite.
+#![tactic(auto)]
