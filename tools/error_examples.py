@@ -19,7 +19,7 @@ In a file `{{N*text}}` is N times the text, in which `{#}` is the number of the 
 place of each refusal what the program prints; --data prints all examples as JSON, one a line: its code, words, files and
 refusal. CMD is another program in the place of `./scc`, as is the environment's SCC.
 
-The gate runs copies of these pages and of docs/WRITING.md, with the program scc_cases. --copy writes the copies, and --check
+The gate runs copies of these pages and of docs/WRITING.md, with the program scc_drive_cases. --copy writes the copies, and --check
 prints which differ: neither needs a built program.
 """
 import argparse
@@ -38,7 +38,7 @@ PAGES = sorted((REPOSITORY / "docs" / "errors").glob("[0-9]-*.md"))
 FENCE = re.compile(r"^```(\S+)(?: (\S+))?\n(.*?)^```$", re.M | re.S)
 HEADING = re.compile(r"^## E(\d+) (.*)$", re.M)
 REPEAT = re.compile(r"\{\{(\d+)\*(.*?)\}\}", re.S)
-DATA = REPOSITORY / "crates" / "scc_cases" / "data"
+DATA = REPOSITORY / "crates" / "scc_drive_cases" / "data"
 # each page that the gate runs, and its copy
 COPIES = {page: DATA / "errors" / page.name for page in PAGES}
 COPIES[REPOSITORY / "docs" / "WRITING.md"] = DATA / "writing.md"

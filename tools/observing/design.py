@@ -1,5 +1,5 @@
-"""What a thin text denotes (scc_drive: Reading, Resolved, Source; scc_meaning: Location, Design, Body), and what that
-design shows (scc_meaning: Store, Value, Machine, Process, Run)."""
+"""What a thin text denotes (scc_drive: Reading, Resolved, Source; scc_semantics: Location, Design, Body), and what that
+design shows (scc_semantics: Store, Value, Machine, Process, Run)."""
 from typing import NamedTuple
 
 from observing.texts import Cursor, Different, Port

@@ -1,21 +1,21 @@
 -- The kinds in which answers are computed give what the table says.
 use Rattle.std.specs.Prelude.{◌≡◌, ℕ, ◌+◌, ◌^◌, ◌<◌, ◌≤◌, Bool, true, false, not, ◌&&◌, ◌||◌, nat_eq, nat_lt, if◌then◌else◌, ℤ, pos, ◌*ℤ◌, unsigned_abs, Some}
 use Rattle.std.proofs.Common.{refl, sym, ◌∙◌, ap, subst, arith}
-use Rattle.scc_kinds.specs.declared.kind.Kind.{Kind}
-use Rattle.scc_kinds.specs.declared.kind.Kind.TheVariants as kind
-use Rattle.scc_kinds.specs.declared.op.Op.{Op}
-use Rattle.scc_kinds.specs.declared.op.Op.TheVariants as op
-use Rattle.scc_kinds.specs.declared.rule.Rule.{Rule}
-use Rattle.scc_kinds.specs.declared.rule.Rule.TheVariants as rule
-use Rattle.scc_kinds.specs.Numbers.{low, reading, Holds, bit}
-use Rattle.scc_kinds.specs.Operators.{exact, truth}
-use Rattle.scc_kinds.specs.Kinds.{IsValid, Fits, width_of, is_signed, is_bool, number_of, stored, converted}
-use Rattle.scc_kinds.specs.Counts.{promoted, is_long, meeting, common_of, count_of, some_signed, padded, room, quotient_bits, wide}
+use Rattle.scc_bits_kinds.specs.declared.kind.Kind.{Kind}
+use Rattle.scc_bits_kinds.specs.declared.kind.Kind.TheVariants as kind
+use Rattle.scc_bits_kinds.specs.declared.op.Op.{Op}
+use Rattle.scc_bits_kinds.specs.declared.op.Op.TheVariants as op
+use Rattle.scc_bits_kinds.specs.declared.rule.Rule.{Rule}
+use Rattle.scc_bits_kinds.specs.declared.rule.Rule.TheVariants as rule
+use Rattle.scc_bits_kinds.specs.Numbers.{low, reading, Holds, bit}
+use Rattle.scc_bits_kinds.specs.Operators.{exact, truth}
+use Rattle.scc_bits_kinds.specs.Kinds.{IsValid, Fits, width_of, is_signed, is_bool, number_of, stored, converted}
+use Rattle.scc_bits_kinds.specs.Counts.{promoted, is_long, meeting, common_of, count_of, some_signed, padded, room, quotient_bits, wide}
 use Rattle.scc_bits.specs.Values.{answer_of, amount_kind, left_of, right_of, passes}
 use Rattle.scc_bits.specs.Placed.{placed_left, placed_right}
-use Rattle.scc_kinds.proofs.Low.{low_less, low_reading, low_mul, holds_reading, read_low}
-use Rattle.scc_kinds.proofs.Words.{truth_reading}
-use Rattle.scc_kinds.proofs.Alike.{IsLow, low_forms, holds_more}
+use Rattle.scc_bits_kinds.proofs.Low.{low_less, low_reading, low_mul, holds_reading, read_low}
+use Rattle.scc_bits_kinds.proofs.Words.{truth_reading}
+use Rattle.scc_bits_kinds.proofs.Alike.{IsLow, low_forms, holds_more}
 use Rattle.scc_bits.proofs.Validity.{width_valid, width_count, at_answer, at_answer_if}
 
 -- ---- words and numbers of a kind

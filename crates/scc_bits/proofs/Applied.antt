@@ -1,24 +1,24 @@
 -- What is known of the rule by which an operator is applied.
 use Rattle.std.specs.Prelude.{◌≡◌, ℕ, ◌<◌, ◌^◌, Bool, true, false, if◌then◌else◌, ℤ, Option, Some, None, IsSome, option_map, option_and_then}
 use Rattle.std.proofs.Common.{refl, sym, ◌∙◌, ap, subst, arith}
-use Rattle.scc_kinds.specs.declared.op.Op.{Op}
-use Rattle.scc_kinds.specs.declared.op.Op.TheVariants as op
-use Rattle.scc_kinds.specs.declared.kind.Kind.{Kind}
-use Rattle.scc_kinds.specs.declared.rule.Rule.{Rule}
-use Rattle.scc_kinds.specs.declared.rule.Rule.TheVariants as rule
+use Rattle.scc_bits_kinds.specs.declared.op.Op.{Op}
+use Rattle.scc_bits_kinds.specs.declared.op.Op.TheVariants as op
+use Rattle.scc_bits_kinds.specs.declared.kind.Kind.{Kind}
+use Rattle.scc_bits_kinds.specs.declared.rule.Rule.{Rule}
+use Rattle.scc_bits_kinds.specs.declared.rule.Rule.TheVariants as rule
 use Rattle.scc_bits.specs.declared.operands.Operands.{Operands}
 use Rattle.scc_bits.specs.declared.taken.Taken.{Taken}
-use Rattle.scc_kinds.specs.Groups.{group_of}
-use Rattle.scc_kinds.specs.Numbers.{low, reading}
-use Rattle.scc_kinds.specs.Operators.{exact, Divisor, Signs, truth}
-use Rattle.scc_kinds.specs.Kinds.{IsValid, Fits, width_of, is_signed, is_bool, number_of, stored, converted}
+use Rattle.scc_bits_kinds.specs.Groups.{group_of}
+use Rattle.scc_bits_kinds.specs.Numbers.{low, reading}
+use Rattle.scc_bits_kinds.specs.Operators.{exact, Divisor, Signs, truth}
+use Rattle.scc_bits_kinds.specs.Kinds.{IsValid, Fits, width_of, is_signed, is_bool, number_of, stored, converted}
 use Rattle.scc_bits.specs.Values.{rule_at, kind_of, answer_of, is_too_wide, applied}
 use Rattle.scc_bits.specs.Placed.{placed_left, placed_of, operands_of}
 use Rattle.scc_bits.specs.Standing.{Small, Stands}
-use Rattle.scc_kinds.proofs.Low.{low_less}
-use Rattle.scc_kinds.proofs.Operated.{divisor_extended}
+use Rattle.scc_bits_kinds.proofs.Low.{low_less}
+use Rattle.scc_bits_kinds.proofs.Operated.{divisor_extended}
 use Rattle.scc_bits.proofs.Agreement.{bool_form}
-use Rattle.scc_kinds.proofs.Rules.{OnRule, by_groups_all, by_left_all, alone_all, bits_all}
+use Rattle.scc_bits_kinds.proofs.Rules.{OnRule, by_groups_all, by_left_all, alone_all, bits_all}
 use Rattle.scc_bits.proofs.Suited.{on_any}
 use Rattle.scc_bits.proofs.Lowered.{of_answer, row, divisor, signs, keeps}
 

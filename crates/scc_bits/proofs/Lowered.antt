@@ -1,13 +1,13 @@
 -- The kinds to which operands are converted, by operator.
 use Rattle.std.specs.Prelude.{◌≡◌, ℕ, false, Option, Some, None, option_map, option_and_then, unwrap_or}
 use Rattle.std.proofs.Common.{refl, sym, ◌∙◌, ap, subst}
-use Rattle.scc_kinds.specs.declared.op.Op.{Op}
-use Rattle.scc_kinds.specs.declared.kind.Kind.{Kind}
-use Rattle.scc_kinds.specs.declared.rule.Rule.{Rule}
+use Rattle.scc_bits_kinds.specs.declared.op.Op.{Op}
+use Rattle.scc_bits_kinds.specs.declared.kind.Kind.{Kind}
+use Rattle.scc_bits_kinds.specs.declared.rule.Rule.{Rule}
 use Rattle.scc_bits.specs.declared.operands.Operands.{Operands}
-use Rattle.scc_kinds.specs.Numbers.{low}
-use Rattle.scc_kinds.specs.Operators.{exact, Signs, Divisor}
-use Rattle.scc_kinds.specs.Kinds.{IsValid, Fits, width_of, is_signed, number_of, stored, converted}
+use Rattle.scc_bits_kinds.specs.Numbers.{low}
+use Rattle.scc_bits_kinds.specs.Operators.{exact, Signs, Divisor}
+use Rattle.scc_bits_kinds.specs.Kinds.{IsValid, Fits, width_of, is_signed, number_of, stored, converted}
 use Rattle.scc_bits.specs.Values.{rule_at, answer_of, left_of, right_of, passes, computed, kind_of, is_too_wide, applied}
 use Rattle.scc_bits.specs.Placed.{placed_left, placed_right, operands_of}
 use Rattle.scc_bits.proofs.Agreement.{Given}

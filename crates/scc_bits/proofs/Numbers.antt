@@ -1,12 +1,12 @@
 -- Exact numbers, their words and their bits in two's complement.
 use Rattle.std.specs.Prelude.{◌≡◌, ℕ, ◌/◌, ◌%◌, ◌^◌, ◌≤◌, false, nat_eq, ℤ}
 use Rattle.std.proofs.Common.{sym, ◌∙◌, ap, subst, arith}
-use Rattle.scc_kinds.specs.declared.kind.Kind.{Kind}
-use Rattle.scc_kinds.specs.Numbers.{low, reading, Holds}
-use Rattle.scc_kinds.specs.Kinds.{IsValid, Fits, width_of, is_signed, number_of, stored, converted}
-use Rattle.scc_kinds.proofs.Low.{low_less, holds_reading, read_low}
-use Rattle.scc_kinds.proofs.Alike.{holds_more}
-use Rattle.scc_kinds.proofs.Exactly.{far_right}
+use Rattle.scc_bits_kinds.specs.declared.kind.Kind.{Kind}
+use Rattle.scc_bits_kinds.specs.Numbers.{low, reading, Holds}
+use Rattle.scc_bits_kinds.specs.Kinds.{IsValid, Fits, width_of, is_signed, number_of, stored, converted}
+use Rattle.scc_bits_kinds.proofs.Low.{low_less, holds_reading, read_low}
+use Rattle.scc_bits_kinds.proofs.Alike.{holds_more}
+use Rattle.scc_bits_kinds.proofs.Exactly.{far_right}
 use Rattle.scc_bits.specs.Value.{Number, exactly}
 use Rattle.scc_bits.proofs.Validity.{width_valid}
 use Rattle.scc_bits.proofs.Parts.{within_128}

@@ -3,9 +3,9 @@ use Rattle.std.specs.Prelude.{◌≡◌, ℕ, ◌+◌, ◌-◌, ◌*◌, ◌/◌
 use Rattle.std.proofs.Common.{◌∙◌, ap, subst, arith}
 use Rattle.std.proofs.lemmas.Nat.{pow_pos, pow-add, shr_split, mod-pow-add}
 use Rattle.std.proofs.Math.Nat.{mod-lt, mod-eq_of_lt, div-lt_iff_lt-mul, pow-le-pow_right, mul-le-mul_right}
-use Rattle.scc_kinds.specs.declared.kind.Kind.{Kind}
-use Rattle.scc_kinds.specs.Kinds.{IsValid, width_of}
-use Rattle.scc_kinds.specs.Bits.{part, replaced, joined}
+use Rattle.scc_bits_kinds.specs.declared.kind.Kind.{Kind}
+use Rattle.scc_bits_kinds.specs.Kinds.{IsValid, width_of}
+use Rattle.scc_bits_kinds.specs.Bits.{part, replaced, joined}
 use Rattle.scc_bits.proofs.Validity.{width_valid as valid_width}
 
 pub width_valid : (k : Kind) → IsValid k → width_of k ≤ 128

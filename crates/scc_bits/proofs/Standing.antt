@@ -1,23 +1,23 @@
 -- Numbers of 128 bits that stand for operands in the kinds that they are converted to.
 use Rattle.std.specs.Prelude.{◌≡◌, ℕ, ◌+◌, ◌%◌, ◌^◌, ◌<◌, ◌≤◌, min, Bool, true, false, not, ◌&&◌, ◌||◌, nat_eq, nat_le, nat_lt, if◌then◌else◌, ◌⊎◌, ℤ, pos, Option, Some, None, option_map}
 use Rattle.std.proofs.Common.{refl, sym, ◌∙◌, ap, subst, arith, inl, inr}
-use Rattle.scc_kinds.specs.declared.kind.Kind.{Kind}
-use Rattle.scc_kinds.specs.declared.kind.Kind.TheVariants as kind
+use Rattle.scc_bits_kinds.specs.declared.kind.Kind.{Kind}
+use Rattle.scc_bits_kinds.specs.declared.kind.Kind.TheVariants as kind
 use Rattle.scc_bits.specs.declared.form.Form.{Form}
 use Rattle.scc_bits.specs.declared.number.Number.{Number}
 use Rattle.scc_bits.specs.declared.operands.Operands.{Operands}
-use Rattle.scc_kinds.specs.declared.rule.Rule.{Rule}
-use Rattle.scc_kinds.specs.declared.rule.Rule.TheVariants as rule
+use Rattle.scc_bits_kinds.specs.declared.rule.Rule.{Rule}
+use Rattle.scc_bits_kinds.specs.declared.rule.Rule.TheVariants as rule
 use Rattle.scc_bits.specs.declared.taken.Taken.{Taken}
-use Rattle.scc_kinds.specs.Numbers.{low, reading, Holds}
-use Rattle.scc_kinds.specs.Groups.{group_of, is_small}
-use Rattle.scc_kinds.specs.Counts.{promoted, is_long, meeting, common_of, count_of, some_signed, padded, room, wide}
+use Rattle.scc_bits_kinds.specs.Numbers.{low, reading, Holds}
+use Rattle.scc_bits_kinds.specs.Groups.{group_of, is_small}
+use Rattle.scc_bits_kinds.specs.Counts.{promoted, is_long, meeting, common_of, count_of, some_signed, padded, room, wide}
 use Rattle.scc_bits.specs.Values.{amount_kind}
-use Rattle.scc_kinds.specs.Kinds.{IsValid, Fits, width_of, is_signed, is_bool, number_of, converted}
+use Rattle.scc_bits_kinds.specs.Kinds.{IsValid, Fits, width_of, is_signed, is_bool, number_of, converted}
 use Rattle.scc_bits.specs.Placed.{placed_of}
 use Rattle.scc_bits.specs.Standing.{Reads, Stands, IsOther, form_of, room_by}
-use Rattle.scc_kinds.proofs.Low.{low_reading, low_low, holds_reading, read_low}
-use Rattle.scc_kinds.proofs.Alike.{holds_more}
+use Rattle.scc_bits_kinds.proofs.Low.{low_reading, low_low, holds_reading, read_low}
+use Rattle.scc_bits_kinds.proofs.Alike.{holds_more}
 use Rattle.scc_bits.proofs.Validity.{promoted_valid, meeting_valid, wide_valid, width_valid, width_count}
 use Rattle.scc_bits.proofs.Agreement.{stored_low, left_signed, right_signed, same_sign, own, promoted_number, meeting_number}
 use Rattle.scc_bits.proofs.Suited.{promoted_width}

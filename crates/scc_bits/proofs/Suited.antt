@@ -1,21 +1,21 @@
 -- What holds of each operator's rules.
 use Rattle.std.specs.Prelude.{◌≡◌, ℕ, ◌<◌, ◌≤◌, Bool, true, false, not, ◌&&◌, ◌||◌, nat_lt, if◌then◌else◌, ◌⊎◌, Option, Some, None}
 use Rattle.std.proofs.Common.{refl, sym, ◌∙◌, subst, arith, inl, inr}
-use Rattle.scc_kinds.specs.declared.kind.Kind.{Kind}
-use Rattle.scc_kinds.specs.declared.kind.Kind.TheVariants as kind
-use Rattle.scc_kinds.specs.declared.op.Op.{Op}
-use Rattle.scc_kinds.specs.declared.op.Op.TheVariants as op
-use Rattle.scc_kinds.specs.declared.rule.Rule.{Rule}
-use Rattle.scc_kinds.specs.declared.rule.Rule.TheVariants as rule
-use Rattle.scc_kinds.specs.Groups.{group_of, is_small, is_bits}
-use Rattle.scc_kinds.specs.Kinds.{IsValid, Fits, width_of, is_signed, number_of, stored}
-use Rattle.scc_kinds.specs.Counts.{promoted, is_long, meeting, common_of, some_signed, quotient_bits, wide}
-use Rattle.scc_kinds.specs.Operators.{Signs, Divisor}
+use Rattle.scc_bits_kinds.specs.declared.kind.Kind.{Kind}
+use Rattle.scc_bits_kinds.specs.declared.kind.Kind.TheVariants as kind
+use Rattle.scc_bits_kinds.specs.declared.op.Op.{Op}
+use Rattle.scc_bits_kinds.specs.declared.op.Op.TheVariants as op
+use Rattle.scc_bits_kinds.specs.declared.rule.Rule.{Rule}
+use Rattle.scc_bits_kinds.specs.declared.rule.Rule.TheVariants as rule
+use Rattle.scc_bits_kinds.specs.Groups.{group_of, is_small, is_bits}
+use Rattle.scc_bits_kinds.specs.Kinds.{IsValid, Fits, width_of, is_signed, number_of, stored}
+use Rattle.scc_bits_kinds.specs.Counts.{promoted, is_long, meeting, common_of, some_signed, quotient_bits, wide}
+use Rattle.scc_bits_kinds.specs.Operators.{Signs, Divisor}
 use Rattle.scc_bits.specs.Values.{rule_at}
 use Rattle.scc_bits.specs.Placed.{placed_left, placed_right}
-use Rattle.scc_kinds.proofs.Operated.{not_lost}
-use Rattle.scc_kinds.proofs.Alike.{low_only_add, low_only_sub, low_only_mul, low_only_and, low_only_or, low_only_xor, low_only_plus, low_only_neg, low_only_not}
-use Rattle.scc_kinds.proofs.Rules.{OnRule, by_groups_all, by_left_all, alone_all, bits_all}
+use Rattle.scc_bits_kinds.proofs.Operated.{not_lost}
+use Rattle.scc_bits_kinds.proofs.Alike.{low_only_add, low_only_sub, low_only_mul, low_only_and, low_only_or, low_only_xor, low_only_plus, low_only_neg, low_only_not}
+use Rattle.scc_bits_kinds.proofs.Rules.{OnRule, by_groups_all, by_left_all, alone_all, bits_all}
 use Rattle.scc_bits.proofs.Validity.{width_count}
 use Rattle.scc_bits.proofs.Agreement.{Given, Agrees, IsTest, stored_bit, stored_low, meeting_number, common_agrees, promoted_agrees, shift_agrees, test_agrees, logical_agrees, reduction_agrees, bits_both_agrees, bits_test_agrees, bits_shift_agrees, bits_complement_agrees, sum_agrees, difference_agrees, product_agrees, wide_bits_agrees, same_agrees, negation_agrees, complement_agrees, quotient_agrees, wide_test_agrees, wide_left_agrees, wide_right_agrees}
 

@@ -1,12 +1,12 @@
 -- Facts of kinds.
 use Rattle.std.specs.Prelude.{◌≡◌, ℕ, ◌≤◌, min, Bool, true, false, not, ◌&&◌, ◌||◌, nat_eq, nat_lt, if◌then◌else◌, Option, Some, None}
 use Rattle.std.proofs.Common.{refl, subst, arith, inl, inr}
-use Rattle.scc_kinds.specs.declared.kind.Kind.{Kind}
-use Rattle.scc_kinds.specs.declared.kind.Kind.TheVariants as kind
-use Rattle.scc_kinds.specs.declared.rule.Rule.{Rule}
-use Rattle.scc_kinds.specs.declared.rule.Rule.TheVariants as rule
-use Rattle.scc_kinds.specs.Kinds.{IsValid, width_of, is_signed}
-use Rattle.scc_kinds.specs.Counts.{promoted, is_long, meeting, count_of, some_signed, wide}
+use Rattle.scc_bits_kinds.specs.declared.kind.Kind.{Kind}
+use Rattle.scc_bits_kinds.specs.declared.kind.Kind.TheVariants as kind
+use Rattle.scc_bits_kinds.specs.declared.rule.Rule.{Rule}
+use Rattle.scc_bits_kinds.specs.declared.rule.Rule.TheVariants as rule
+use Rattle.scc_bits_kinds.specs.Kinds.{IsValid, width_of, is_signed}
+use Rattle.scc_bits_kinds.specs.Counts.{promoted, is_long, meeting, count_of, some_signed, wide}
 use Rattle.scc_bits.specs.Values.{answer_of, amount_kind}
 use Rattle.scc_bits.specs.Placed.{placed_left, placed_right}
 

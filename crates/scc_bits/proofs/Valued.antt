@@ -1,14 +1,14 @@
 -- Facts of numbers with their kinds.
 use Rattle.std.specs.Prelude.{◌≡◌, ℕ, ◌≤◌, ◌<◌, ◌+◌, ◌-◌, ◌^◌, Bool, true, false, not, ◌&&◌, ◌||◌, nat_le, if◌then◌else◌, Option, Some, None, option_map, option_and_then, unwrap_or}
 use Rattle.std.proofs.Common.{refl, arith, pow_mono}
-use Rattle.scc_kinds.specs.declared.kind.Kind.{Kind}
-use Rattle.scc_kinds.specs.declared.op.Op.{Op}
-use Rattle.scc_kinds.specs.declared.kind.Kind.TheVariants as kind
-use Rattle.scc_kinds.specs.declared.rule.Rule.{Rule}
-use Rattle.scc_kinds.specs.declared.rule.Rule.TheVariants as rule
-use Rattle.scc_kinds.specs.Groups.{group_of, is_large, is_bits}
-use Rattle.scc_kinds.specs.Kinds.{IsValid, Fits, width_of}
-use Rattle.scc_kinds.specs.Bits.{is_part, joined_kind, concat_of}
+use Rattle.scc_bits_kinds.specs.declared.kind.Kind.{Kind}
+use Rattle.scc_bits_kinds.specs.declared.op.Op.{Op}
+use Rattle.scc_bits_kinds.specs.declared.kind.Kind.TheVariants as kind
+use Rattle.scc_bits_kinds.specs.declared.rule.Rule.{Rule}
+use Rattle.scc_bits_kinds.specs.declared.rule.Rule.TheVariants as rule
+use Rattle.scc_bits_kinds.specs.Groups.{group_of, is_large, is_bits}
+use Rattle.scc_bits_kinds.specs.Kinds.{IsValid, Fits, width_of}
+use Rattle.scc_bits_kinds.specs.Bits.{is_part, joined_kind, concat_of}
 use Rattle.scc_bits.specs.Values.{answer_of, kind_of, rule_at, passes, is_too_wide}
 use Rattle.scc_bits.proofs.Validity.{width_valid, answer_valid, at_answer_if}
 

@@ -1,12 +1,12 @@
 -- The kinds in which an operator's answer is computed: those that operands of the emitted text have.
 -- Where a rule takes the exact values of large operands, they are converted to a kind with room enough for the answer.
 use Rattle.std.specs.Prelude.{Option, unwrap_or, option_map, option_and_then}
-use Rattle.scc_kinds.specs.declared.op.Op.{Op}
-use Rattle.scc_kinds.specs.declared.rule.Rule.{Rule}
-use Rattle.scc_kinds.specs.declared.rule.Rule.TheVariants as rule
-use Rattle.scc_kinds.specs.declared.kind.Kind.{Kind}
+use Rattle.scc_bits_kinds.specs.declared.op.Op.{Op}
+use Rattle.scc_bits_kinds.specs.declared.rule.Rule.{Rule}
+use Rattle.scc_bits_kinds.specs.declared.rule.Rule.TheVariants as rule
+use Rattle.scc_bits_kinds.specs.declared.kind.Kind.{Kind}
 use Rattle.scc_bits.specs.declared.operands.Operands.{Operands}
-use Rattle.scc_kinds.specs.Counts.{wide_room}
+use Rattle.scc_bits_kinds.specs.Counts.{wide_room}
 use Rattle.scc_bits.specs.Values.{answer_of, left_of, right_of, rule_at}
 
 -- the answer's own kind

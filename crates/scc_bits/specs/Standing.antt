@@ -1,16 +1,16 @@
 -- What an operator computes with in place of its operands: numbers of 128 bits in two's complement.
 use Rattle.std.specs.Prelude.{◌≡◌, ℕ, ◌+◌, ◌<◌, ◌^◌, max, Bool, true, not, ◌&&◌, ◌||◌, if◌then◌else◌}
 use Rattle.scc_bits.specs.declared.form.Form.{Form}
-use Rattle.scc_kinds.specs.declared.kind.Kind.{Kind}
+use Rattle.scc_bits_kinds.specs.declared.kind.Kind.{Kind}
 use Rattle.scc_bits.specs.declared.number.Number.{Number}
 use Rattle.scc_bits.specs.declared.operands.Operands.{Operands}
-use Rattle.scc_kinds.specs.declared.rule.Rule.{Rule}
-use Rattle.scc_kinds.specs.declared.rule.Rule.TheVariants as rule
+use Rattle.scc_bits_kinds.specs.declared.rule.Rule.{Rule}
+use Rattle.scc_bits_kinds.specs.declared.rule.Rule.TheVariants as rule
 use Rattle.scc_bits.specs.declared.taken.Taken.{Taken}
-use Rattle.scc_kinds.specs.Groups.{group_of, is_small}
-use Rattle.scc_kinds.specs.Numbers.{reading}
-use Rattle.scc_kinds.specs.Kinds.{width_of, is_signed, number_of, converted}
-use Rattle.scc_kinds.specs.Counts.{count_of}
+use Rattle.scc_bits_kinds.specs.Groups.{group_of, is_small}
+use Rattle.scc_bits_kinds.specs.Numbers.{reading}
+use Rattle.scc_bits_kinds.specs.Kinds.{width_of, is_signed, number_of, converted}
+use Rattle.scc_bits_kinds.specs.Counts.{count_of}
 
 -- the number of a kind's word
 pub record Reads (k : Kind) (x : ℕ) (n : Number) : Type 0 where

@@ -1,8 +1,8 @@
 -- A number: a kind and a word of it.
 use Rattle.std.specs.Prelude.{ℕ, ℤ, Bool, ◌&&◌}
-use Rattle.scc_kinds.specs.declared.kind.Kind.{Kind}
-use Rattle.scc_kinds.specs.Kinds.{number_of}
-use Rattle.scc_kinds.specs.Groups.{group_of, is_small, is_large}
+use Rattle.scc_bits_kinds.specs.declared.kind.Kind.{Kind}
+use Rattle.scc_bits_kinds.specs.Kinds.{number_of}
+use Rattle.scc_bits_kinds.specs.Groups.{group_of, is_small, is_large}
 
 pub record Number : Type 0 where
   pub kind : Kind

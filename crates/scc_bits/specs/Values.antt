@@ -1,15 +1,15 @@
 -- What an operator means for words of two kinds: how each rule takes its operands, and what it answers.
 use Rattle.std.specs.Prelude.{ℕ, ◌+◌, Bool, true, false, nat_eq, nat_lt, if◌then◌else◌, Option, Some, None, option_map, option_and_then, unwrap_or}
-use Rattle.scc_kinds.specs.declared.op.Op.{Op}
-use Rattle.scc_kinds.specs.declared.rule.Rule.{Rule}
-use Rattle.scc_kinds.specs.declared.rule.Rule.TheVariants as rule
-use Rattle.scc_kinds.specs.declared.kind.Kind.{Kind}
-use Rattle.scc_kinds.specs.declared.kind.Kind.TheVariants as kind
-use Rattle.scc_kinds.specs.Kinds.{width_of, is_signed, number_of, stored, converted}
-use Rattle.scc_kinds.specs.Counts.{promoted, common_of, count_of, some_signed, room, quotient_bits, wide}
-use Rattle.scc_kinds.specs.Groups.{group_of}
-use Rattle.scc_kinds.specs.Operators.{exact}
-use Rattle.scc_kinds.specs.Table.{rule_of}
+use Rattle.scc_bits_kinds.specs.declared.op.Op.{Op}
+use Rattle.scc_bits_kinds.specs.declared.rule.Rule.{Rule}
+use Rattle.scc_bits_kinds.specs.declared.rule.Rule.TheVariants as rule
+use Rattle.scc_bits_kinds.specs.declared.kind.Kind.{Kind}
+use Rattle.scc_bits_kinds.specs.declared.kind.Kind.TheVariants as kind
+use Rattle.scc_bits_kinds.specs.Kinds.{width_of, is_signed, number_of, stored, converted}
+use Rattle.scc_bits_kinds.specs.Counts.{promoted, common_of, count_of, some_signed, room, quotient_bits, wide}
+use Rattle.scc_bits_kinds.specs.Groups.{group_of}
+use Rattle.scc_bits_kinds.specs.Operators.{exact}
+use Rattle.scc_bits_kinds.specs.Table.{rule_of}
 
 -- the kind of the answer; bit vectors need equal widths
 abbrev pub answer_of : Rule → Kind → Kind → Option Kind

@@ -1,12 +1,12 @@
 //! An operator on words of two kinds.
 ghost use Rattle.std.specs.Prelude.{◌≡◌, Some, false, IsSome, IfSome};
-ghost use Rattle.scc_kinds.specs.Kinds.{IsValid, Fits};
-ghost use Rattle.scc_kinds.specs.Operators.{Divisor};
+ghost use Rattle.scc_bits_kinds.specs.Kinds.{IsValid, Fits};
+ghost use Rattle.scc_bits_kinds.specs.Operators.{Divisor};
 ghost use Rattle.scc_bits.specs.Values.{kind_of, is_too_wide, applied};
 
 use crate::result::rule_at;
 use crate::taken::take;
-use scc_kinds::{Kind, Op, Word, calculate};
+use scc_bits_kinds::{Kind, Op, Word, calculate};
 
 /// The word of the operator's answer for the word x of kind a and the word y of kind b: the operator on the exact
 /// numbers that its row takes, converted to the kind that `result_kind` gives (C++ \[expr\]; IEEE 1666-2011, 7.5, 7.6

@@ -1,9 +1,9 @@
 //! Bits of words.
 ghost use Rattle.std.specs.Prelude.{◌≡◌, ◌<◌, ◌≤◌, ◌+◌, ◌-◌, ◌*◌, ◌^◌, ℕ};
-ghost use Rattle.scc_kinds.specs.Kinds.{IsValid, Fits, width_of};
-ghost use Rattle.scc_kinds.specs.Bits.{part, replaced, joined};
+ghost use Rattle.scc_bits_kinds.specs.Kinds.{IsValid, Fits, width_of};
+ghost use Rattle.scc_bits_kinds.specs.Bits.{part, replaced, joined};
 
-use scc_kinds::{Kind, Word, cut, width};
+use scc_bits_kinds::{Kind, Word, cut, width};
 
 /// Bits h down to l of a word (IEEE 1666-2011, 7.2.5 and 7.2.6: bit-select and part-select).
 #[tactic(auto, using(crate::proofs::Parts::width_valid))]

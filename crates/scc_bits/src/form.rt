@@ -1,11 +1,11 @@
 //! The kinds in which small operands meet, by their widths and signs alone.
 ghost use Rattle.std.specs.Prelude.{◌≡◌, ℕ, ◌≤◌, ◌%◌, ◌^◌, true, false};
-ghost use Rattle.scc_kinds.specs.Kinds.{IsValid, Fits};
-ghost use Rattle.scc_kinds.specs.Counts.{promoted, common_of};
+ghost use Rattle.scc_bits_kinds.specs.Kinds.{IsValid, Fits};
+ghost use Rattle.scc_bits_kinds.specs.Counts.{promoted, common_of};
 ghost use Rattle.scc_bits.specs.Standing.{Reads, form_of};
 
 use crate::number::{Number, plain, read_number};
-use scc_kinds::{Kind, Word, cut_low};
+use scc_bits_kinds::{Kind, Word, cut_low};
 
 /// The width and the sign of a kind.
 #[derive(Clone, Copy)]

@@ -1,11 +1,11 @@
 //! Laws of the operator table.
 ghost use Rattle.std.specs.Prelude.{◌<◌, ◌≤◌, Bool, ◌≡◌, ℕ, false, Some};
-ghost use Rattle.scc_kinds.specs.declared.op.Op.{Op};
-ghost use Rattle.scc_kinds.specs.declared.kind.Kind.{Kind};
+ghost use Rattle.scc_bits_kinds.specs.declared.op.Op.{Op};
+ghost use Rattle.scc_bits_kinds.specs.declared.kind.Kind.{Kind};
 ghost use Rattle.scc_bits.specs.declared.operands.Operands.{Operands};
-ghost use Rattle.scc_kinds.specs.Numbers.{low};
-ghost use Rattle.scc_kinds.specs.Operators.{exact, Signs, Divisor};
-ghost use Rattle.scc_kinds.specs.Kinds.{IsValid, Fits, width_of, is_signed, number_of, stored, converted};
+ghost use Rattle.scc_bits_kinds.specs.Numbers.{low};
+ghost use Rattle.scc_bits_kinds.specs.Operators.{exact, Signs, Divisor};
+ghost use Rattle.scc_bits_kinds.specs.Kinds.{IsValid, Fits, width_of, is_signed, number_of, stored, converted};
 ghost use Rattle.scc_bits.specs.Values.{kind_of, is_too_wide, applied};
 ghost use Rattle.scc_bits.specs.Placed.{operands_of};
 

@@ -17,7 +17,7 @@ pub use bits::{concat, replace, select};
 pub use laws::operands_keep_answer;
 pub use operands::Operands;
 pub use result::{operand_kinds, result_kind, too_wide};
-pub use scc_kinds::{
+pub use scc_bits_kinds::{
     Group, Kind, Op, Row, Rule, Table, Word, bits_are_in_twos_complement, choice_kind, common,
     concat_kind, conv, converts, counted, find_rule, fits, group_of, has_bits, is_bits, is_large,
     is_part, is_small, operate, operators, promoted, range_kind, rule_of, signed, takes_right,

@@ -1,10 +1,10 @@
 //! Words of kinds as numbers of 128 bits in two's complement, with all that an operator looks at of their kinds.
 ghost use Rattle.std.specs.Prelude.{◌≡◌, ◌≤◌, ◌<◌, ◌^◌};
-ghost use Rattle.scc_kinds.specs.Kinds.{IsValid, Fits};
-ghost use Rattle.scc_kinds.specs.Numbers.{reading};
+ghost use Rattle.scc_bits_kinds.specs.Kinds.{IsValid, Fits};
+ghost use Rattle.scc_bits_kinds.specs.Numbers.{reading};
 ghost use Rattle.scc_bits.specs.Standing.{Reads};
 
-use scc_kinds::{Kind, Word, extend_by};
+use scc_bits_kinds::{Kind, Word, extend_by};
 
 /// A number of 128 bits in two's complement, with the count of bits and the sign of its kind.
 #[derive(Clone, Copy)]

@@ -1,10 +1,10 @@
 //! The kinds in which the rules of the operator table take their operands, and those of their answers.
 ghost use Rattle.std.specs.Prelude.{◌≡◌, Some, None, if◌then◌else◌, nat_eq};
-ghost use Rattle.scc_kinds.specs.Kinds.{width_of};
+ghost use Rattle.scc_bits_kinds.specs.Kinds.{width_of};
 ghost use Rattle.scc_bits.specs.Values.{amount_kind, passes};
 ghost use Rattle.scc_bits.specs.Placed.{placed_of};
 
-use scc_kinds::{
+use scc_bits_kinds::{
     Kind, Rule, common, count, promoted, quotient_bits, room, signed, some_signed, wide, wide_room,
     width,
 };

@@ -4,7 +4,7 @@ ghost use Rattle.scc_bits.specs.Values.{kind_of, is_too_wide, rule_at};
 ghost use Rattle.scc_bits.specs.Placed.{operands_of};
 
 use crate::operands::{Operands, passes, placed};
-use scc_kinds::{Kind, Op, Rule, group_of, rule_of};
+use scc_bits_kinds::{Kind, Op, Rule, group_of, rule_of};
 
 /// The rule of an operator for operands of two kinds, None where there is no row.
 #[inline(always)]

@@ -1,16 +1,16 @@
 //! How the rules of the operator table take their operands.
 ghost use Rattle.std.specs.Prelude.{◌≡◌, ◌≤◌, ◌||◌, if◌then◌else◌, min, true, Some};
-ghost use Rattle.scc_kinds.specs.Kinds.{IsValid, Fits, width_of, is_signed, number_of, converted};
-ghost use Rattle.scc_kinds.specs.Groups.{group_of, is_small};
-ghost use Rattle.scc_kinds.specs.Counts.{promoted, common_of};
-ghost use Rattle.scc_kinds.specs.Numbers.{reading};
+ghost use Rattle.scc_bits_kinds.specs.Kinds.{IsValid, Fits, width_of, is_signed, number_of, converted};
+ghost use Rattle.scc_bits_kinds.specs.Groups.{group_of, is_small};
+ghost use Rattle.scc_bits_kinds.specs.Counts.{promoted, common_of};
+ghost use Rattle.scc_bits_kinds.specs.Numbers.{reading};
 ghost use Rattle.scc_bits.specs.Placed.{placed_of};
 ghost use Rattle.scc_bits.specs.Standing.{Stands, Small, IsOther, padded_by, room_by};
 ghost use Rattle.scc_bits.specs.declared.operands.Operands.{Operands};
 
 use crate::form::{common_form, convert, promote_number};
 use crate::number::{Number, read_number};
-use scc_kinds::{Kind, Rule, Word, conv};
+use scc_bits_kinds::{Kind, Rule, Word, conv};
 
 /// What an operator computes with: its operands as numbers of 128 bits in two's complement, the sign in which it takes
 /// the left one, and the width of its answer.

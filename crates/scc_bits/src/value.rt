@@ -1,10 +1,10 @@
 //! A number with its kind.
 ghost use Rattle.std.specs.Prelude.{◌≡◌, ◌<◌, ◌≤◌, ◌^◌, ◌+◌, ◌-◌, ◌/◌, ◌%◌, ◌↔◌, pos, IsTrue, Some, None, true, false, Err, IfOk, IfSome, IsOk, IsSome, nat_eq, not, unwrap_or};
-ghost use Rattle.scc_kinds.specs.Kinds.{IsValid, Fits, width_of, is_signed, stored};
-ghost use Rattle.scc_kinds.specs.Constants.{CountsBy, is_negative};
-ghost use Rattle.scc_kinds.specs.Numbers.{Holds, low, reading};
-ghost use Rattle.scc_kinds.specs.Bits.{part, replaced, joined, range_of, concat_of, is_convertible};
-ghost use Rattle.scc_kinds.specs.Operators.{Divisor};
+ghost use Rattle.scc_bits_kinds.specs.Kinds.{IsValid, Fits, width_of, is_signed, stored};
+ghost use Rattle.scc_bits_kinds.specs.Constants.{CountsBy, is_negative};
+ghost use Rattle.scc_bits_kinds.specs.Numbers.{Holds, low, reading};
+ghost use Rattle.scc_bits_kinds.specs.Bits.{part, replaced, joined, range_of, concat_of, is_convertible};
+ghost use Rattle.scc_bits_kinds.specs.Operators.{Divisor};
 ghost use Rattle.scc_bits.specs.Values.{kind_of, is_too_wide, applied};
 ghost use Rattle.scc_bits.specs.Value.{exactly, counts_beside};
 ghost use Rattle.scc_bits.specs.declared.value.Fault.TheVariants as fault;
@@ -13,7 +13,7 @@ ghost use Rattle.scc_bits.specs.declared.value.JoinFault.TheVariants as join_fau
 use crate::application::apply;
 use crate::bits::{concat, replace, select};
 use crate::result::{result_kind, too_wide};
-use scc_kinds::{
+use scc_bits_kinds::{
     Kind, Op, Word, concat_kind, conv, converts, counted, cut, fits, is_large, is_small,
     range_kind, signed, takes_right, valid, width,
 };
@@ -28,7 +28,7 @@ pub struct Value {
 
 impl Model for Value {
     ghost use Rattle.scc_bits.specs.Value.{Number};
-    ghost use Rattle.scc_kinds.specs.Kinds.{IsValid, Fits};
+    ghost use Rattle.scc_bits_kinds.specs.Kinds.{IsValid, Fits};
 
     ghost Value = { Number };
 

@@ -6,8 +6,8 @@ use scc_base::{List, Names, NoMemory, Text, lost, push};
 use scc_bits::width;
 use scc_core::{Cell, CellSort, Core, CoreProcess};
 use scc_lower::sv_name;
-use scc_renumber::UNDECLARED;
 use scc_svtree::{Dir, SvVar};
+use scc_svtree_renumber::UNDECLARED;
 use std::alloc::Global;
 
 /// The variables of a module, and the numbers that they have there.

@@ -3,8 +3,8 @@ use crate::assigned::Assigned;
 use crate::declare::{Declared, Own};
 use scc_base::{Boxed, List, NoMemory, lost, push};
 use scc_bits::Word;
-use scc_renumber::UNDECLARED;
 use scc_svtree::{SvExpr, SvExprNode, SvLeft, SvLiteral, SvSet, SvStmt, VarId};
+use scc_svtree_renumber::UNDECLARED;
 use std::alloc::Global;
 
 /// A register of a process: its variable and that of its next value, by their numbers in the module.

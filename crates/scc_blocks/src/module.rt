@@ -11,13 +11,13 @@ use crate::written::written;
 use scc_base::{Boxed, List, Names, NoMemory, Text, lost, push};
 use scc_bits::{Word, width};
 use scc_core::{CellSort, Core, CoreProcess, CoreStmt, Places, Sort2};
-use scc_flow::live;
+use scc_core_flow::live;
 use scc_lower::{Cells, View};
-use scc_renumber::{Ids, UNDECLARED, renumbered};
 use scc_states::Split;
 use scc_svtree::{
     SvBlock, SvExpr, SvExprNode, SvLeft, SvLiteral, SvModule, SvReset, SvStmt, VarId,
 };
+use scc_svtree_renumber::{Ids, UNDECLARED, renumbered};
 use std::alloc::Global;
 
 /// The number of the process of a local that belongs to no process of the core.

@@ -11,20 +11,20 @@ use Rattle.scc_svtree.specs.Steps.{StepInput, or_old, loaded, is_active, reset_w
 use Rattle.scc_svtree.specs.Steps as sv
 use Rattle.scc_svtree.specs.Sound.{IsSound, IsSoundEdge, IsSoundReset, block_assigns, targets, load_targets, loads_of, is_among}
 use Rattle.scc_svtree.proofs.Agree.{or_first, or_both_false}
-use Rattle.scc_meaning_core.specs.Program.{Program, Process, Reset}
-use Rattle.scc_meaning_core.specs.Program as program
-use Rattle.scc_meaning_core.specs.Kept.{written_by}
-use Rattle.scc_meaning_core.specs.Uses.{among, width_at}
-use Rattle.scc_meaning_blocks.specs.Acting.{latest}
-use Rattle.scc_meaning_blocks.specs.Effect.{Place}
-use Rattle.scc_meaning_blocks.specs.Names.{is_register}
-use Rattle.scc_meaning_blocks.specs.Tied.{Registers, HoldsNumber}
-use Rattle.scc_meaning_blocks.specs.Turns.{Regs, Left, Taking, turn, is_loaded, with_inputs, acted}
-use Rattle.scc_meaning_blocks.specs.Shown.{Delayed, Next, mine, view_of, state_number, next_state_number, counter_number, next_counter_number}
+use Rattle.scc_core_spec.specs.Program.{Program, Process, Reset}
+use Rattle.scc_core_spec.specs.Program as program
+use Rattle.scc_core_spec.specs.Kept.{written_by}
+use Rattle.scc_core_spec.specs.Uses.{among, width_at}
+use Rattle.scc_blocks_spec.specs.Acting.{latest}
+use Rattle.scc_blocks_spec.specs.Effect.{Place}
+use Rattle.scc_blocks_spec.specs.Names.{is_register}
+use Rattle.scc_blocks_spec.specs.Tied.{Registers, HoldsNumber}
+use Rattle.scc_blocks_spec.specs.Turns.{Regs, Left, Taking, turn, is_loaded, with_inputs, acted}
+use Rattle.scc_blocks_spec.specs.Shown.{Delayed, Next, mine, view_of, state_number, next_state_number, counter_number, next_counter_number}
 use Rattle.scc_blocks_run_laws.specs.Pieces.{variable}
 use Rattle.scc_blocks_run_laws.specs.Blocks.{IsProper, Built, Origin, OnlyWriter, IsEdge, IsBlock, Loads, LoadsOwn, SetsOwn, if_wide, set_term}
 use Rattle.scc_blocks_run_laws.specs.Follows.{IsSteady, Turn, SameTurn}
-use Rattle.scc_meaning_blocks.specs.Tied.{MirrorsRegisters}
+use Rattle.scc_blocks_spec.specs.Tied.{MirrorsRegisters}
 use Rattle.scc_blocks_run_laws.proofs.Acted.{unwritten-stays, writer-rests, place-taken, place-rests}
 use Rattle.scc_blocks_laws.proofs.Placed.{each-at, resets-none, set-among, loaded-none}
 use Rattle.scc_blocks_run_laws.specs.Leaves.{IsStored, Stores}

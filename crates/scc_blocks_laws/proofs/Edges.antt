@@ -11,12 +11,12 @@ use Rattle.scc_svtree.specs.Sizes.{assigned, fixed}
 use Rattle.scc_svtree.specs.Steps.{or_old, loaded, is_active, reset_word, is_reset, set_word, after_edges, after_resets, input_at}
 use Rattle.scc_svtree.specs.Sound.{IsSound, IsSoundEdge, IsSoundReset, block_assigns}
 use Rattle.scc_svtree.specs.Variables.{width_at as width_of_variable}
-use Rattle.scc_meaning_core.specs.Program.{Program, Process, Reset, is_root}
-use Rattle.scc_meaning_core.specs.Program as program
-use Rattle.scc_meaning_blocks.specs.Effect.{effect}
-use Rattle.scc_meaning_core.specs.Live.{live}
-use Rattle.scc_meaning_blocks.specs.Tied.{Registers}
-use Rattle.scc_meaning_blocks.specs.Turns.{Regs, Left, turn, found, reset_at, is_loaded, ran_segment, segment_at, thread_turn, method_left}
+use Rattle.scc_core_spec.specs.Program.{Program, Process, Reset, is_root}
+use Rattle.scc_core_spec.specs.Program as program
+use Rattle.scc_blocks_spec.specs.Effect.{effect}
+use Rattle.scc_core_spec.specs.Live.{live}
+use Rattle.scc_blocks_spec.specs.Tied.{Registers}
+use Rattle.scc_blocks_spec.specs.Turns.{Regs, Left, turn, found, reset_at, is_loaded, ran_segment, segment_at, thread_turn, method_left}
 use Rattle.scc_blocks_run_laws.specs.Pieces.{Wide, variable}
 use Rattle.scc_blocks_run_laws.specs.Blocks.{IsProper, Built, IsEdge, IsBlock, Loads, IsBranch, BranchBy, BranchIf, Numbering, set_term}
 use Rattle.scc_blocks_run_laws.specs.Follows.{IsSteady}

@@ -7,17 +7,17 @@ use Rattle.scc_svtree.specs.Steps.{StepInput, Step, Steps, SettlesTo, IsEdgeStep
 use Rattle.scc_svtree.specs.Steps as sv
 use Rattle.scc_svtree.specs.Variables.{width_at as width_of_variable}
 use Rattle.scc_svtree.proofs.Combs.{sound_settles}
-use Rattle.scc_meaning_core.specs.Program.{Program, Process}
-use Rattle.scc_meaning_core.specs.Program as program
-use Rattle.scc_meaning_core.specs.Uses.{among}
-use Rattle.scc_meaning_blocks.specs.Acting.{Acting}
-use Rattle.scc_meaning_blocks.specs.Tied.{Registers, HoldsNumber}
-use Rattle.scc_meaning_blocks.specs.Turns.{Regs, Left, turn, acted, begun, edged, has_clock}
-use Rattle.scc_meaning_blocks.specs.Shown.{View, Constant, Read, Driven, Delayed, Plain, Next, view_of, IsAsked, next_state_number, next_counter_number}
+use Rattle.scc_core_spec.specs.Program.{Program, Process}
+use Rattle.scc_core_spec.specs.Program as program
+use Rattle.scc_core_spec.specs.Uses.{among}
+use Rattle.scc_blocks_spec.specs.Acting.{Acting}
+use Rattle.scc_blocks_spec.specs.Tied.{Registers, HoldsNumber}
+use Rattle.scc_blocks_spec.specs.Turns.{Regs, Left, turn, acted, begun, edged, has_clock}
+use Rattle.scc_blocks_spec.specs.Shown.{View, Constant, Read, Driven, Delayed, Plain, Next, view_of, IsAsked, next_state_number, next_counter_number}
 use Rattle.scc_blocks_run_laws.specs.Pieces.{Wide}
 use Rattle.scc_blocks_run_laws.specs.Blocks.{IsProper, Built, Numbering}
 use Rattle.scc_blocks_run_laws.specs.Follows.{SameEdge, after_turn, seen_after, FindsReset, AllMirror, ModuleFollows, StepsFollow, IsModuleOf}
-use Rattle.scc_meaning_blocks.specs.Tied.{Mirrors, MirrorsRegisters}
+use Rattle.scc_blocks_spec.specs.Tied.{Mirrors, MirrorsRegisters}
 use Rattle.scc_blocks_run_laws.specs.Leaves.{IsReady, LeavesTurn, LeavesCell, LeavesOwn}
 use Rattle.scc_blocks_laws.proofs.Proper.{acted-proper}
 use Rattle.scc_blocks_laws.proofs.Settles.{block-rests, settled-mirrors, settled-proper, settled-leaves}

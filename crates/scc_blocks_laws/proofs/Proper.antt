@@ -2,15 +2,15 @@
 use Rattle.std.proofs.Common.{◌≡◌, ◌<◌, ◌^◌, ◌&&◌, ℕ, zero, suc, Bool, true, false, Option, Some, None, slice_get, refl, sym, ap, ◌∙◌, subst}
 use Rattle.std.specs.Prelude.{unwrap_or}
 use Rattle.scc_svtree.specs.declared.module.SvModule.{SvModule}
-use Rattle.scc_meaning_core.specs.Program.{Program, Process, is_combinational}
-use Rattle.scc_meaning_core.specs.Kept.{written_by}
-use Rattle.scc_meaning_core.specs.Uses.{among, width_at}
-use Rattle.scc_meaning_blocks.specs.Acting.{latest}
-use Rattle.scc_meaning_blocks.specs.Effect.{Place}
-use Rattle.scc_meaning_blocks.specs.Tied.{Registers}
-use Rattle.scc_meaning_blocks.specs.Turns.{Regs, Left, Taking, turn, found, acted, rounds}
-use Rattle.scc_meaning_blocks.specs.Shown.{mine, sight_of}
-use Rattle.scc_meaning_blocks.specs.Lowered.{Fits}
+use Rattle.scc_core_spec.specs.Program.{Program, Process, is_combinational}
+use Rattle.scc_core_spec.specs.Kept.{written_by}
+use Rattle.scc_core_spec.specs.Uses.{among, width_at}
+use Rattle.scc_blocks_spec.specs.Acting.{latest}
+use Rattle.scc_blocks_spec.specs.Effect.{Place}
+use Rattle.scc_blocks_spec.specs.Tied.{Registers}
+use Rattle.scc_blocks_spec.specs.Turns.{Regs, Left, Taking, turn, found, acted, rounds}
+use Rattle.scc_blocks_spec.specs.Shown.{mine, sight_of}
+use Rattle.scc_blocks_spec.specs.Lowered.{Fits}
 use Rattle.scc_blocks_run_laws.specs.Blocks.{IsProper, IsPlaceOf, Built, Origin, OnlyWriter}
 use Rattle.scc_blocks_run_laws.specs.Follows.{IsSteady}
 use Rattle.scc_blocks_run_laws.proofs.Blockruns.{found-fits}

@@ -4,14 +4,14 @@ use Rattle.std.specs.Prelude.{filter, not, unwrap_or, option_map, flat_map}
 use Rattle.std.specs.List.{list_any, list_all, range_with_len}
 use Rattle.std.proofs.lemmas.List.Folds.{list_any-append}
 use Rattle.scc_svtree.proofs.Agree.{or_first, or_second, or_both_false, same_of_eq}
-use Rattle.scc_meaning_core.specs.Program.{Program, Process, is_combinational, is_root}
-use Rattle.scc_meaning_core.specs.Clashes.{live_acts, names_of}
-use Rattle.scc_meaning_core.specs.Feeding.{Feeds, IsOrderFrom, IsOrder, feeds, methods, is_method, reads_in, writes_in}
-use Rattle.scc_meaning_core.specs.Kept.{written_by}
-use Rattle.scc_meaning_core.specs.Live.{live}
-use Rattle.scc_meaning_core.specs.Rules.{reset_cells}
-use Rattle.scc_meaning_core.specs.Uses.{Act, acts, reads_of, writes_of, among, has_sort}
-use Rattle.scc_meaning_blocks.specs.Shown.{mine}
+use Rattle.scc_core_spec.specs.Program.{Program, Process, is_combinational, is_root}
+use Rattle.scc_core_spec.specs.Clashes.{live_acts, names_of}
+use Rattle.scc_core_spec.specs.Feeding.{Feeds, IsOrderFrom, IsOrder, feeds, methods, is_method, reads_in, writes_in}
+use Rattle.scc_core_spec.specs.Kept.{written_by}
+use Rattle.scc_core_spec.specs.Live.{live}
+use Rattle.scc_core_spec.specs.Rules.{reset_cells}
+use Rattle.scc_core_spec.specs.Uses.{Act, acts, reads_of, writes_of, among, has_sort}
+use Rattle.scc_blocks_spec.specs.Shown.{mine}
 use Rattle.scc_blocks_run_laws.specs.Follows.{IsRanked}
 use Rattle.scc_blocks_run_laws.proofs.Among.{either}
 

@@ -12,17 +12,17 @@ use Rattle.scc_svtree.specs.Steps.{SettlesTo, input_at}
 use Rattle.scc_svtree.specs.Sound.{IsSound, block_assigns, targets, load_targets, loads_of, is_among}
 use Rattle.scc_svtree.specs.Variables.{width_at as width_of_variable}
 use Rattle.scc_svtree.proofs.Agree.{or_first}
-use Rattle.scc_meaning_core.specs.Program.{Program, Process, is_combinational, is_combinational_by, is_root}
-use Rattle.scc_meaning_core.specs.Program as program
-use Rattle.scc_meaning_core.specs.Kept.{written_by}
-use Rattle.scc_meaning_core.specs.Uses.{among, has_sort, width_at}
-use Rattle.scc_meaning_blocks.specs.Tied.{Registers, HoldsNumber}
-use Rattle.scc_meaning_blocks.specs.Turns.{Regs, Left, turn, acted, rounds, settled}
-use Rattle.scc_meaning_blocks.specs.Shown.{View, Constant, Read, Driven, Delayed, Plain, Next, mine, view_of, IsView, IsAsked, state_number, next_state_number, counter_number, next_counter_number}
+use Rattle.scc_core_spec.specs.Program.{Program, Process, is_combinational, is_combinational_by, is_root}
+use Rattle.scc_core_spec.specs.Program as program
+use Rattle.scc_core_spec.specs.Kept.{written_by}
+use Rattle.scc_core_spec.specs.Uses.{among, has_sort, width_at}
+use Rattle.scc_blocks_spec.specs.Tied.{Registers, HoldsNumber}
+use Rattle.scc_blocks_spec.specs.Turns.{Regs, Left, turn, acted, rounds, settled}
+use Rattle.scc_blocks_spec.specs.Shown.{View, Constant, Read, Driven, Delayed, Plain, Next, mine, view_of, IsView, IsAsked, state_number, next_state_number, counter_number, next_counter_number}
 use Rattle.scc_blocks_run_laws.specs.Pieces.{variable}
 use Rattle.scc_blocks_run_laws.specs.Blocks.{IsProper, Built, Origin, OnlyWriter, SetsZero, SetsCell, SetsOwn, HasVariables, Numbering, if_wide, set_term}
 use Rattle.scc_blocks_run_laws.specs.Follows.{IsSteady, IsRanked}
-use Rattle.scc_meaning_blocks.specs.Tied.{Mirrors}
+use Rattle.scc_blocks_spec.specs.Tied.{Mirrors}
 use Rattle.scc_blocks_run_laws.proofs.Firsts.{first-zero}
 use Rattle.scc_blocks_run_laws.specs.Leaves.{Sees, SeesCell, IsReady, LeavesTurn, LeavesCell, IsStored, Stores}
 use Rattle.scc_blocks_run_laws.proofs.Blockruns.{view-is, block-leaves}

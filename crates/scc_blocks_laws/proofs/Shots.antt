@@ -1,17 +1,17 @@
 -- Valuations that mirror registers are observed as these.
 use Rattle.std.proofs.Common.{◌≡◌, ◌+◌, ℕ, Bool, true, false, List, [], ◌∷◌, Option, Some, None, refl, sym, ap, ◌∙◌, subst, if◌then◌else◌}
 use Rattle.std.specs.Prelude.{map, option_map}
-use Rattle.scc_meaning.specs.Location.{Location}
-use Rattle.scc_running.specs.Statement.{Seen}
+use Rattle.scc_semantics.specs.Location.{Location}
+use Rattle.scc_semantics.specs.Statement.{Seen}
 use Rattle.scc_svtree.specs.declared.module.SvModule.{SvModule}
 use Rattle.scc_svtree.specs.declared.module.SvVar.{SvVar}
-use Rattle.scc_meaning_text.specs.Emitted.{is_output, outputs_from, register, shot, seen_of, AreSeen}
-use Rattle.scc_meaning_text.specs.Matches.{register_of, first}
-use Rattle.scc_meaning_core.specs.Program.{Program}
-use Rattle.scc_meaning_blocks.specs.Tied.{Registers}
-use Rattle.scc_meaning_blocks.specs.Turns.{Regs}
+use Rattle.scc_blocks_spec.specs.Emitted.{is_output, outputs_from, register, shot, seen_of, AreSeen}
+use Rattle.scc_blocks_spec.specs.Matches.{register_of, first}
+use Rattle.scc_core_spec.specs.Program.{Program}
+use Rattle.scc_blocks_spec.specs.Tied.{Registers}
+use Rattle.scc_blocks_spec.specs.Turns.{Regs}
 use Rattle.scc_blocks_run_laws.specs.Follows.{AllMirror, AllMirrorSteps}
-use Rattle.scc_meaning_blocks.specs.Tied.{Mirrors}
+use Rattle.scc_blocks_spec.specs.Tied.{Mirrors}
 use Rattle.scc_blocks_laws.specs.Shots.{AreOutputs, AreOutputsBy, IsNamed, ShowsRegs, ShowsStep, ShowAll}
 
 module _ (p : Program) (r : Registers) where

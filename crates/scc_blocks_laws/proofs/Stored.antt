@@ -8,19 +8,19 @@ use Rattle.scc_svtree.specs.Code.{code_of}
 use Rattle.scc_svtree.specs.Steps.{or_old, loaded, after_edges, input_at}
 use Rattle.scc_svtree.specs.Sound.{IsSound, block_assigns}
 use Rattle.scc_svtree.specs.Variables.{width_at as width_of_variable}
-use Rattle.scc_meaning_core.specs.Program.{Program, Process, Reset, is_root}
-use Rattle.scc_meaning_core.specs.Program as program
-use Rattle.scc_meaning_core.specs.Kept.{written_by}
-use Rattle.scc_meaning_core.specs.Uses.{among, width_at}
-use Rattle.scc_meaning_blocks.specs.Acting.{latest}
-use Rattle.scc_meaning_blocks.specs.Effect.{Place}
-use Rattle.scc_meaning_blocks.specs.Tied.{Registers, HoldsNumber}
-use Rattle.scc_meaning_blocks.specs.Turns.{Regs, Left, Taking, turn, reset_at, is_loaded, has_clock, acted}
-use Rattle.scc_meaning_blocks.specs.Shown.{View, Delayed, Next, mine, view_of, sight_of, IsView, state_number, next_state_number, counter_number, next_counter_number}
+use Rattle.scc_core_spec.specs.Program.{Program, Process, Reset, is_root}
+use Rattle.scc_core_spec.specs.Program as program
+use Rattle.scc_core_spec.specs.Kept.{written_by}
+use Rattle.scc_core_spec.specs.Uses.{among, width_at}
+use Rattle.scc_blocks_spec.specs.Acting.{latest}
+use Rattle.scc_blocks_spec.specs.Effect.{Place}
+use Rattle.scc_blocks_spec.specs.Tied.{Registers, HoldsNumber}
+use Rattle.scc_blocks_spec.specs.Turns.{Regs, Left, Taking, turn, reset_at, is_loaded, has_clock, acted}
+use Rattle.scc_blocks_spec.specs.Shown.{View, Delayed, Next, mine, view_of, sight_of, IsView, state_number, next_state_number, counter_number, next_counter_number}
 use Rattle.scc_blocks_run_laws.specs.Pieces.{variable, IsThreadCode, BodyBy}
 use Rattle.scc_blocks_run_laws.specs.Blocks.{IsProper, IsPlaceOf, Built, Origin, OnlyWriter, IsEdge, IsBlock, Loads, LoadsCell, LoadsOwn, SetsOwn, HasVariables, HasOwn, Numbering, if_wide, set_term}
 use Rattle.scc_blocks_run_laws.specs.Follows.{IsSteady, FindsReset}
-use Rattle.scc_meaning_blocks.specs.Tied.{Mirrors}
+use Rattle.scc_blocks_spec.specs.Tied.{Mirrors}
 use Rattle.scc_blocks_run_laws.specs.Leaves.{IsReady, LeavesTurn, LeavesCell, LeavesOwn, IsStored, Stores}
 use Rattle.scc_blocks_run_laws.proofs.Blockruns.{view-is, find-kept}
 use Rattle.scc_blocks_run_laws.proofs.Fitting.{thread-fits}

@@ -12,15 +12,15 @@ use Rattle.scc_svtree.specs.Code.{Code, End, Assign, Arms, stmt_node, arm_node, 
 use Rattle.scc_svtree.specs.Running.{run}
 use Rattle.scc_svtree.specs.Mentions.{assigns, mentions}
 use Rattle.scc_svtree.proofs.Agree.{same_of_eq}
-use Rattle.scc_meaning_core.specs.Program.{Process, Edge, is_combinational, is_root}
-use Rattle.scc_meaning_core.specs.Kept.{written_by}
-use Rattle.scc_meaning_core.specs.Live.{live}
-use Rattle.scc_meaning_core.specs.Uses.{among, has_sort, width_at}
-use Rattle.scc_meaning_blocks.specs.Acting.{Acting, latest, with_asked}
-use Rattle.scc_meaning_blocks.specs.Effect.{Effect, Fell, Left_out, Lost, effect}
-use Rattle.scc_meaning_blocks.specs.Turns.{Regs, Left, turn, found, constant_at}
-use Rattle.scc_meaning_blocks.specs.Shown.{View, Driven, mine, view_of, IsView, sight_of, Sight, Shows, ShowsCell, top_number}
-use Rattle.scc_meaning_blocks.specs.Lowered.{Fits, KeepsFit, IsLoweredCode}
+use Rattle.scc_core_spec.specs.Program.{Process, Edge, is_combinational, is_root}
+use Rattle.scc_core_spec.specs.Kept.{written_by}
+use Rattle.scc_core_spec.specs.Live.{live}
+use Rattle.scc_core_spec.specs.Uses.{among, has_sort, width_at}
+use Rattle.scc_blocks_spec.specs.Acting.{Acting, latest, with_asked}
+use Rattle.scc_blocks_spec.specs.Effect.{Effect, Fell, Left_out, Lost, effect}
+use Rattle.scc_blocks_spec.specs.Turns.{Regs, Left, turn, found, constant_at}
+use Rattle.scc_blocks_spec.specs.Shown.{View, Driven, mine, view_of, IsView, sight_of, Sight, Shows, ShowsCell, top_number}
+use Rattle.scc_blocks_spec.specs.Lowered.{Fits, KeepsFit, IsLoweredCode}
 use Rattle.scc_blocks_run_laws.specs.Pieces.{whole, variable, firsts_code, first_at, is_source}
 use Rattle.scc_blocks_run_laws.specs.Blocks.{IsBlock, HasVariables, SetsCell, set_term, IsEdge, Built, Origin, Acting as Block}
 use Rattle.scc_blocks_run_laws.specs.Follows.{IsSteady, IsRanked}

@@ -2,11 +2,11 @@
 use Rattle.std.proofs.Common.{◌≡◌, ◌<◌, ◌*◌, ◌+◌, ◌^◌, ℕ, nat_eq, true, [], ◌∷◌, refl, sym, ap, ◌∙◌, subst, arith}
 use Rattle.std.specs.Prelude.{not}
 use Rattle.scc_svtree.specs.Running.{run}
-use Rattle.scc_meaning_core.specs.Uses.{width_at}
-use Rattle.scc_meaning_blocks.specs.Acting.{Acting, with_asked}
-use Rattle.scc_meaning_blocks.specs.Effect.{Effect, Fell, Left_out, Lost, effect}
-use Rattle.scc_meaning_blocks.specs.Shown.{view_of, sight_of, Sight, Shows, ShowsCell, top_number}
-use Rattle.scc_meaning_blocks.specs.Lowered.{Fits, IsLoweredCode}
+use Rattle.scc_core_spec.specs.Uses.{width_at}
+use Rattle.scc_blocks_spec.specs.Acting.{Acting, with_asked}
+use Rattle.scc_blocks_spec.specs.Effect.{Effect, Fell, Left_out, Lost, effect}
+use Rattle.scc_blocks_spec.specs.Shown.{view_of, sight_of, Sight, Shows, ShowsCell, top_number}
+use Rattle.scc_blocks_spec.specs.Lowered.{Fits, IsLoweredCode}
 use Rattle.scc_blocks_run_laws.specs.Pieces.{firsts_code}
 use Rattle.scc_blocks_run_laws.specs.Blocks.{IsBlock, HasVariables}
 use Rattle.scc_blocks_laws.specs.Worked.{handing_module, handing_registers, hand_on, passing_process, passing_on, passing_numbers, passing_body}

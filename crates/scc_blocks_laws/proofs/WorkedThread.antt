@@ -4,17 +4,17 @@ use Rattle.scc_svtree.specs.Term.{Literal}
 use Rattle.scc_svtree.specs.Code.{Code, End, Assign}
 use Rattle.scc_svtree.specs.Running.{run}
 use Rattle.scc_svtree.proofs.Agree.{same_of_eq}
-use Rattle.scc_meaning_core.specs.Code as core
-use Rattle.scc_meaning_core.specs.Segments.{Segment, Plain, Halt, counts}
-use Rattle.scc_meaning_core.specs.Sizes.{live_body}
-use Rattle.scc_meaning_core.specs.Uses.{among, width_at}
-use Rattle.scc_meaning_core.specs.Worked.{here, put, byte}
-use Rattle.scc_meaning_blocks.specs.Acting.{Acting, latest, with_asked}
-use Rattle.scc_meaning_blocks.specs.Effect.{Effect, Fell, Left_out, Lost, effect}
-use Rattle.scc_meaning_blocks.specs.Turns.{Regs, Left, found, ran_segment, segment_at}
-use Rattle.scc_meaning_text.specs.Renamed.{code_as}
-use Rattle.scc_meaning_blocks.specs.Shown.{view_of, sight_of, Sight, Shows, ShowsCell, top_number, state_number, next_state_number, counter_number, next_counter_number}
-use Rattle.scc_meaning_blocks.specs.Lowered.{Fits, IsLoweredCode}
+use Rattle.scc_core_spec.specs.Code as core
+use Rattle.scc_core_spec.specs.Segments.{Segment, Plain, Halt, counts}
+use Rattle.scc_core_spec.specs.Sizes.{live_body}
+use Rattle.scc_core_spec.specs.Uses.{among, width_at}
+use Rattle.scc_core_spec.specs.Worked.{here, put, byte}
+use Rattle.scc_blocks_spec.specs.Acting.{Acting, latest, with_asked}
+use Rattle.scc_blocks_spec.specs.Effect.{Effect, Fell, Left_out, Lost, effect}
+use Rattle.scc_blocks_spec.specs.Turns.{Regs, Left, found, ran_segment, segment_at}
+use Rattle.scc_blocks_spec.specs.Renamed.{code_as}
+use Rattle.scc_blocks_spec.specs.Shown.{view_of, sight_of, Sight, Shows, ShowsCell, top_number, state_number, next_state_number, counter_number, next_counter_number}
+use Rattle.scc_blocks_spec.specs.Lowered.{Fits, IsLoweredCode}
 use Rattle.scc_blocks_run_laws.specs.Pieces.{counted, IsSegmentCode, AreStates, IsThreadCode, first_at, is_source, place_code, whole}
 use Rattle.scc_blocks_run_laws.specs.Blocks.{IsBlock, HasVariables, SetsCell, IsEdge, Loads, LoadsCell}
 use Rattle.scc_blocks_laws.specs.WorkedThread.{sync, sync_process, sync_reset, sync_body, sync_block, pulse, pulse_process, pulse_body, pulse_registers, pulse_sets, pulse_reset, pulse_module, pulse_id, pulse_declared, pulse_numbers, pulse_wide, gives_one, pulse_segment, pulse_codes, pulse_states, pulse_block}

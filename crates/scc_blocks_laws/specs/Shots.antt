@@ -1,15 +1,15 @@
 -- What is observed of a module is what registers show: the outputs in their order, and the registers that have a location's name. This project's own.
 use Rattle.std.specs.Prelude.{◌≡◌, ◌+◌, ℕ, Bool, true, false, List, [], ◌∷◌, map, Option, Some, None}
-use Rattle.scc_meaning.specs.Location.{Location}
-use Rattle.scc_running.specs.Statement.{Shot, Seen}
+use Rattle.scc_semantics.specs.Location.{Location}
+use Rattle.scc_semantics.specs.Statement.{Shot, Seen}
 use Rattle.scc_svtree.specs.declared.module.SvModule.{SvModule}
 use Rattle.scc_svtree.specs.declared.module.SvVar.{SvVar}
-use Rattle.scc_meaning_text.specs.Emitted.{is_output, AreSeen}
-use Rattle.scc_meaning_text.specs.Matches.{register_of, first}
+use Rattle.scc_blocks_spec.specs.Emitted.{is_output, AreSeen}
+use Rattle.scc_blocks_spec.specs.Matches.{register_of, first}
 use Rattle.scc_svtree.specs.Steps.{StepInput, Steps}
-use Rattle.scc_meaning_core.specs.Program.{Program}
-use Rattle.scc_meaning_blocks.specs.Tied.{Registers, MirrorsRegisters}
-use Rattle.scc_meaning_blocks.specs.Turns.{Regs}
+use Rattle.scc_core_spec.specs.Program.{Program}
+use Rattle.scc_blocks_spec.specs.Tied.{Registers, MirrorsRegisters}
+use Rattle.scc_blocks_spec.specs.Turns.{Regs}
 use Rattle.scc_blocks_run_laws.specs.Blocks.{IsProper}
 use Rattle.scc_blocks_run_laws.specs.Follows.{Turn, AllSameTurns, FindResets, registers_shown}
 

@@ -1,6 +1,6 @@
 -- A worked value: a method at a clock's edge that hands an input on to an output, and its module, whose variables have the numbers of the lowering. This project's own.
 use Rattle.std.specs.Prelude.{ℕ, nat_eq, not, true, false, List, [], ◌∷◌, Some, None, codes, if◌then◌else◌}
-use Rattle.scc_kinds.specs.declared.kind.Kind.TheVariants as kind
+use Rattle.scc_bits_kinds.specs.declared.kind.Kind.TheVariants as kind
 use Rattle.scc_svtree.specs.declared.expr.SvExpr.{SvExpr}
 use Rattle.scc_svtree.specs.declared.expr.SvExprNode.{roll-SvExprNode}
 use Rattle.scc_svtree.specs.declared.expr.SvExprNode.TheOpen as node
@@ -12,13 +12,13 @@ use Rattle.scc_svtree.specs.declared.module.Dir.TheVariants.{Input, Output, Inne
 use Rattle.scc_svtree.specs.declared.module.SvBlock.TheVariants as block
 use Rattle.scc_svtree.specs.Code as emitted_code
 use Rattle.scc_svtree.specs.Variables.{width_at}
-use Rattle.scc_meaning_core.specs.Term as core
-use Rattle.scc_meaning_core.specs.Code.{Code, End}
-use Rattle.scc_meaning_core.specs.Program.{Program, Process}
-use Rattle.scc_meaning_core.specs.Program as program
-use Rattle.scc_meaning_core.specs.Worked.{here, named, cell, put}
-use Rattle.scc_meaning_blocks.specs.Tied.{Registers}
-use Rattle.scc_meaning_blocks.specs.WorkedList.{var}
+use Rattle.scc_core_spec.specs.Term as core
+use Rattle.scc_core_spec.specs.Code.{Code, End}
+use Rattle.scc_core_spec.specs.Program.{Program, Process}
+use Rattle.scc_core_spec.specs.Program as program
+use Rattle.scc_core_spec.specs.Worked.{here, named, cell, put}
+use Rattle.scc_blocks_spec.specs.Tied.{Registers}
+use Rattle.scc_blocks_spec.specs.WorkedList.{var}
 use Rattle.scc_blocks_run_laws.specs.Pieces.{whole, variable}
 use Rattle.scc_blocks_run_laws.specs.Blocks.{Numbering}
 

@@ -1,6 +1,6 @@
 -- A worked value: a thread with an asynchronous reset that writes 0, waits for one edge, and then writes 1 at every second edge; and its block. This project's own.
 use Rattle.std.specs.Prelude.{ℕ, nat_eq, true, List, [], ◌∷◌, Some, None, codes, if◌then◌else◌, false}
-use Rattle.scc_kinds.specs.declared.kind.Kind.TheVariants as kind
+use Rattle.scc_bits_kinds.specs.declared.kind.Kind.TheVariants as kind
 use Rattle.scc_svtree.specs.declared.module.SvModule.{SvModule}
 use Rattle.scc_svtree.specs.declared.module.SvSet.{SvSet}
 use Rattle.scc_svtree.specs.declared.module.SvReset.{SvReset}
@@ -9,14 +9,14 @@ use Rattle.scc_svtree.specs.declared.module.SvBlock.TheVariants as block
 use Rattle.scc_svtree.specs.Term as emitted
 use Rattle.scc_svtree.specs.Code as emitted_code
 use Rattle.scc_svtree.specs.Variables.{width_at}
-use Rattle.scc_meaning_core.specs.Code.{Code, End, Wait, Loop}
-use Rattle.scc_meaning_core.specs.Program.{Program, Process}
-use Rattle.scc_meaning_core.specs.Program as program
-use Rattle.scc_meaning_core.specs.Uses.{among}
-use Rattle.scc_meaning_core.specs.Worked.{here, named, cell, put, byte}
-use Rattle.scc_meaning_blocks.specs.Tied.{Registers}
-use Rattle.scc_meaning_blocks.specs.WorkedList.{var}
-use Rattle.scc_meaning_blocks.specs.Shown.{state_number, next_state_number, counter_number, next_counter_number}
+use Rattle.scc_core_spec.specs.Code.{Code, End, Wait, Loop}
+use Rattle.scc_core_spec.specs.Program.{Program, Process}
+use Rattle.scc_core_spec.specs.Program as program
+use Rattle.scc_core_spec.specs.Uses.{among}
+use Rattle.scc_core_spec.specs.Worked.{here, named, cell, put, byte}
+use Rattle.scc_blocks_spec.specs.Tied.{Registers}
+use Rattle.scc_blocks_spec.specs.WorkedList.{var}
+use Rattle.scc_blocks_spec.specs.Shown.{state_number, next_state_number, counter_number, next_counter_number}
 use Rattle.scc_blocks_run_laws.specs.Pieces.{Wide, whole, firsts_code, then_code, place_code, counted, states_code, variable}
 use Rattle.scc_blocks_run_laws.specs.Blocks.{Numbering}
 use Rattle.scc_blocks_laws.specs.Worked.{read_of}

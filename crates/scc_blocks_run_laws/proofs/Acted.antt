@@ -3,13 +3,13 @@ use Rattle.std.proofs.Common.{◌≡◌, ◌+◌, ◌||◌, ◌&&◌, ℕ, zero,
 use Rattle.std.specs.Prelude.{unwrap_or, option_map, option_and_then, flat_map}
 use Rattle.std.specs.List.{list_any}
 use Rattle.scc_svtree.proofs.Agree.{or_both_false}
-use Rattle.scc_meaning_core.specs.Program.{Program, Process, Cell, is_combinational}
-use Rattle.scc_meaning_core.specs.Kept.{written_by}
-use Rattle.scc_meaning_core.specs.Constants.{written, constant_if}
-use Rattle.scc_meaning_core.specs.Uses.{among}
-use Rattle.scc_meaning_blocks.specs.Acting.{latest}
-use Rattle.scc_meaning_blocks.specs.Effect.{Place}
-use Rattle.scc_meaning_blocks.specs.Turns.{Regs, Left, Taking, turn, constant_at, taken_from, acted, rounds}
+use Rattle.scc_core_spec.specs.Program.{Program, Process, Cell, is_combinational}
+use Rattle.scc_core_spec.specs.Kept.{written_by}
+use Rattle.scc_core_spec.specs.Constants.{written, constant_if}
+use Rattle.scc_core_spec.specs.Uses.{among}
+use Rattle.scc_blocks_spec.specs.Acting.{latest}
+use Rattle.scc_blocks_spec.specs.Effect.{Place}
+use Rattle.scc_blocks_spec.specs.Turns.{Regs, Left, Taking, turn, constant_at, taken_from, acted, rounds}
 use Rattle.scc_blocks_run_laws.specs.Blocks.{NoWriter, OnlyWriter}
 
 any-append : {A : Type 0} (t : A → Bool) (a b : List A) → list_any t (a ++ b) ≡ (list_any t a || list_any t b)

@@ -6,7 +6,7 @@ use Rattle.scc_svtree.specs.Code.{Code, End, Assign, If, Case, Arms, None, Arm}
 use Rattle.scc_svtree.specs.Running.{var_of}
 use Rattle.scc_svtree.specs.Mentions.{reads, code_reads, arms_read, assigns, arms_assign, mentions}
 use Rattle.scc_svtree.proofs.Agree.{or_first, or_second, same_of_eq, eq_flip}
-use Rattle.scc_meaning_core.specs.Uses.{among}
+use Rattle.scc_core_spec.specs.Uses.{among}
 
 abbrev pub AllOf : (ℕ → Type 0) → List ℕ → Type 0
 AllOf P [] = Unit {0}

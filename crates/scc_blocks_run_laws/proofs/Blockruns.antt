@@ -11,18 +11,18 @@ use Rattle.scc_svtree.specs.Mentions.{assigns, code_reads}
 use Rattle.scc_svtree.specs.Variables.{width_at as width_of_variable}
 use Rattle.scc_svtree.proofs.Agree.{or_first, or_second, or_both_false}
 use Rattle.scc_svtree.proofs.Kept.{run_keeps}
-use Rattle.scc_lowered.specs.Gives.{Gives}
-use Rattle.scc_lowered.proofs.Gives.{gives_own}
-use Rattle.scc_meaning_core.specs.Program.{Program, Process, is_root}
-use Rattle.scc_meaning_core.specs.Kept.{written_by}
-use Rattle.scc_meaning_core.specs.Live.{live}
-use Rattle.scc_meaning_core.specs.Uses.{among, has_sort, width_at}
-use Rattle.scc_meaning_blocks.specs.Acting.{Acting}
-use Rattle.scc_meaning_blocks.specs.Effect.{Place, Effect, Fell, Left_out, Lost, effect}
-use Rattle.scc_meaning_blocks.specs.Tied.{Registers, HoldsNumber}
-use Rattle.scc_meaning_blocks.specs.Turns.{Regs, Left, turn, found, constant_at, lasts, reset_at, method_left, thread_turn, behind_wait, ran_segment, segment_at}
-use Rattle.scc_meaning_blocks.specs.Shown.{View, Constant, Read, Driven, Delayed, Plain, Next, view_by, view_of, IsView, mine, sight_of, Shows, ShowsCell, IsAsked, state_number, next_state_number, counter_number, next_counter_number}
-use Rattle.scc_meaning_blocks.specs.Lowered.{Fits}
+use Rattle.scc_lower_spec.specs.Gives.{Gives}
+use Rattle.scc_lower_spec.proofs.Gives.{gives_own}
+use Rattle.scc_core_spec.specs.Program.{Program, Process, is_root}
+use Rattle.scc_core_spec.specs.Kept.{written_by}
+use Rattle.scc_core_spec.specs.Live.{live}
+use Rattle.scc_core_spec.specs.Uses.{among, has_sort, width_at}
+use Rattle.scc_blocks_spec.specs.Acting.{Acting}
+use Rattle.scc_blocks_spec.specs.Effect.{Place, Effect, Fell, Left_out, Lost, effect}
+use Rattle.scc_blocks_spec.specs.Tied.{Registers, HoldsNumber}
+use Rattle.scc_blocks_spec.specs.Turns.{Regs, Left, turn, found, constant_at, lasts, reset_at, method_left, thread_turn, behind_wait, ran_segment, segment_at}
+use Rattle.scc_blocks_spec.specs.Shown.{View, Constant, Read, Driven, Delayed, Plain, Next, view_by, view_of, IsView, mine, sight_of, Shows, ShowsCell, IsAsked, state_number, next_state_number, counter_number, next_counter_number}
+use Rattle.scc_blocks_spec.specs.Lowered.{Fits}
 use Rattle.scc_blocks_run_laws.specs.Pieces.{First, firsts_code, first_at, read_cell, at_level, reset_term, states_code, IsThreadCode, BodyBy}
 use Rattle.scc_blocks_run_laws.specs.Blocks.{IsProper, IsPlaceOf, Numbering, IsHere, Stays, Copies, HasVariables, HasOwn, if_wide, IsBlock}
 use Rattle.scc_blocks_run_laws.specs.Follows.{IsSteady}

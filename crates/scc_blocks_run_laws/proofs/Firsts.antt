@@ -2,8 +2,8 @@
 use Rattle.std.proofs.Common.{◌≡◌, ◌<◌, ◌^◌, ℕ, nat_eq, Bool, true, false, cond, List, [], ◌∷◌, Option, Some, None, max, refl, sym, ap, ◌∙◌, subst, arith, if◌then◌else◌}
 use Rattle.std.specs.Prelude.{pos}
 use Rattle.std.proofs.lemmas.Nat.{pow_pos}
-use Rattle.scc_kinds.specs.Numbers.{low}
-use Rattle.scc_kinds.proofs.Low.{low_word}
+use Rattle.scc_bits_kinds.specs.Numbers.{low}
+use Rattle.scc_bits_kinds.proofs.Low.{low_word}
 use Rattle.scc_svtree.specs.Sizes.{sized, assigned, fixed}
 use Rattle.scc_svtree.specs.Code.{Code, End}
 use Rattle.scc_svtree.specs.Running.{run, updated, after_assign}

@@ -1,14 +1,14 @@
 -- What processes make of registers that are proper fits.
 use Rattle.std.proofs.Common.{◌≡◌, ◌<◌, ◌-◌, ℕ, zero, suc, Bool, true, false, Option, Some, None, slice_get, refl, sym, ap, ◌∙◌, subst, arith, if◌then◌else◌}
-use Rattle.scc_meaning_core.specs.Program.{Program, Process}
-use Rattle.scc_meaning_core.specs.Segments.{Segment, Plain, Test, Halt, Finish}
-use Rattle.scc_meaning_core.specs.Live.{live}
-use Rattle.scc_meaning_blocks.specs.Acting.{Acting, word_in}
-use Rattle.scc_meaning_blocks.specs.Effect.{Place, Waits, Fails, Effect, Fell, Left_out, Lost, effect, then_ran, or_fails, choose, run_segment}
-use Rattle.scc_meaning_blocks.specs.Tied.{Registers}
-use Rattle.scc_meaning_blocks.specs.Turns.{Regs, Left, turn, found, reset_at, method_left, thread_turn, behind_wait, ran_segment, segment_at}
-use Rattle.scc_meaning_blocks.specs.Shown.{Sight, sight_of}
-use Rattle.scc_meaning_blocks.specs.Lowered.{Fits}
+use Rattle.scc_core_spec.specs.Program.{Program, Process}
+use Rattle.scc_core_spec.specs.Segments.{Segment, Plain, Test, Halt, Finish}
+use Rattle.scc_core_spec.specs.Live.{live}
+use Rattle.scc_blocks_spec.specs.Acting.{Acting, word_in}
+use Rattle.scc_blocks_spec.specs.Effect.{Place, Waits, Fails, Effect, Fell, Left_out, Lost, effect, then_ran, or_fails, choose, run_segment}
+use Rattle.scc_blocks_spec.specs.Tied.{Registers}
+use Rattle.scc_blocks_spec.specs.Turns.{Regs, Left, turn, found, reset_at, method_left, thread_turn, behind_wait, ran_segment, segment_at}
+use Rattle.scc_blocks_spec.specs.Shown.{Sight, sight_of}
+use Rattle.scc_blocks_spec.specs.Lowered.{Fits}
 use Rattle.scc_blocks_run_laws.specs.Blocks.{IsProper, IsPlaceOf}
 use Rattle.scc_blocks_run_laws.specs.Follows.{KeepsSegment, IsSteady}
 use Rattle.scc_blocks_run_laws.proofs.Segments.{waits-acting, waits-place}

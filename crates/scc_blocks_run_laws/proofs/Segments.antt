@@ -5,15 +5,15 @@ use Rattle.scc_svtree.specs.Running.{run, run_arms, after_assign}
 use Rattle.scc_svtree.specs.Sizes.{sized, value_of, assigned, fixed}
 use Rattle.scc_svtree.specs.Term.{Literal}
 use Rattle.scc_svtree.proofs.Agree.{eq_same}
-use Rattle.scc_kinds.specs.Kinds.{width_of}
-use Rattle.scc_meaning_core.specs.Term.{kind_of}
-use Rattle.scc_meaning_core.specs.Program.{Process}
-use Rattle.scc_meaning_core.specs.Segments.{Segment, Plain, Test, Halt, Finish, counts}
-use Rattle.scc_meaning_core.specs.Sizes.{live_body}
-use Rattle.scc_meaning_blocks.specs.Acting.{Acting, word_in}
-use Rattle.scc_meaning_blocks.specs.Effect.{Place, Waits, Fails, Effect, Fell, Left_out, Lost, effect, then_ran, or_fails, choose, run_segment}
-use Rattle.scc_meaning_blocks.specs.Shown.{View, Constant, Read, Driven, Delayed, Plain as Own, Next, Sight, IsSmall, Shows, ShowsCell, IsAsked, next_state_number, next_counter_number, top_number}
-use Rattle.scc_meaning_blocks.specs.Lowered.{Fits}
+use Rattle.scc_bits_kinds.specs.Kinds.{width_of}
+use Rattle.scc_core_spec.specs.Term.{kind_of}
+use Rattle.scc_core_spec.specs.Program.{Process}
+use Rattle.scc_core_spec.specs.Segments.{Segment, Plain, Test, Halt, Finish, counts}
+use Rattle.scc_core_spec.specs.Sizes.{live_body}
+use Rattle.scc_blocks_spec.specs.Acting.{Acting, word_in}
+use Rattle.scc_blocks_spec.specs.Effect.{Place, Waits, Fails, Effect, Fell, Left_out, Lost, effect, then_ran, or_fails, choose, run_segment}
+use Rattle.scc_blocks_spec.specs.Shown.{View, Constant, Read, Driven, Delayed, Plain as Own, Next, Sight, IsSmall, Shows, ShowsCell, IsAsked, next_state_number, next_counter_number, top_number}
+use Rattle.scc_blocks_spec.specs.Lowered.{Fits}
 use Rattle.scc_blocks_run_laws.specs.Pieces.{Wide, whole, then_code, put_number, place_code, IsSegmentCode}
 use Rattle.scc_blocks_run_laws.specs.Blocks.{IsPlaceOf}
 use Rattle.scc_blocks_run_laws.specs.Follows.{KeepsSegment}

@@ -7,15 +7,15 @@ use Rattle.scc_svtree.specs.Running.{run, run_arms, after_assign}
 use Rattle.scc_svtree.specs.Sizes.{sized, value_of, assigned}
 use Rattle.scc_svtree.specs.Term.{Literal, Binary}
 use Rattle.scc_svtree.proofs.Agree.{eq_same}
-use Rattle.scc_lowered.proofs.Gives.{gives_own}
-use Rattle.scc_meaning_core.specs.Program.{Process}
-use Rattle.scc_meaning_core.specs.Segments.{Segment, counts}
-use Rattle.scc_meaning_core.specs.Sizes.{live_body}
-use Rattle.scc_meaning_blocks.specs.Acting.{Acting}
-use Rattle.scc_meaning_blocks.specs.Effect.{Place, Ran, Waits, Ends, Fails, run_segment}
-use Rattle.scc_meaning_blocks.specs.Turns.{Left, left_by, ran_segment, segment_at, behind_wait}
-use Rattle.scc_meaning_blocks.specs.Shown.{Sight, IsSmall, Shows, state_number, next_state_number, counter_number, next_counter_number}
-use Rattle.scc_meaning_blocks.specs.Lowered.{Fits}
+use Rattle.scc_lower_spec.proofs.Gives.{gives_own}
+use Rattle.scc_core_spec.specs.Program.{Process}
+use Rattle.scc_core_spec.specs.Segments.{Segment, counts}
+use Rattle.scc_core_spec.specs.Sizes.{live_body}
+use Rattle.scc_blocks_spec.specs.Acting.{Acting}
+use Rattle.scc_blocks_spec.specs.Effect.{Place, Ran, Waits, Ends, Fails, run_segment}
+use Rattle.scc_blocks_spec.specs.Turns.{Left, left_by, ran_segment, segment_at, behind_wait}
+use Rattle.scc_blocks_spec.specs.Shown.{Sight, IsSmall, Shows, state_number, next_state_number, counter_number, next_counter_number}
+use Rattle.scc_blocks_spec.specs.Lowered.{Fits}
 use Rattle.scc_blocks_run_laws.specs.Pieces.{Wide, whole, variable, counted, arms_from, states_code, IsSegmentCode, AreStates}
 use Rattle.scc_blocks_run_laws.specs.Blocks.{IsPlaceOf}
 use Rattle.scc_blocks_run_laws.specs.Follows.{KeepsSegment}

@@ -4,16 +4,16 @@ use Rattle.std.specs.Ordering.{int_eq}
 use Rattle.std.proofs.lemmas.Int.{ints}
 use Rattle.std.proofs.Common.{◌≡◌, ◌<◌, ◌^◌, ℕ, zero, suc, nat_eq, true, false, cond, max, refl, sym, ap, ◌∙◌, subst, arith}
 use Rattle.std.proofs.lemmas.Nat.{pow_pos}
-use Rattle.scc_kinds.specs.declared.op.Op.TheVariants as op
-use Rattle.scc_kinds.specs.Numbers.{low, bit}
-use Rattle.scc_kinds.specs.Operators.{exact}
-use Rattle.scc_kinds.proofs.Low.{low_word}
+use Rattle.scc_bits_kinds.specs.declared.op.Op.TheVariants as op
+use Rattle.scc_bits_kinds.specs.Numbers.{low, bit}
+use Rattle.scc_bits_kinds.specs.Operators.{exact}
+use Rattle.scc_bits_kinds.proofs.Low.{low_word}
 use Rattle.scc_svtree.specs.declared.expr.SvUnary.TheVariants as unary
 use Rattle.scc_svtree.specs.declared.expr.SvBinary.TheVariants as binary
 use Rattle.scc_svtree.specs.Sizes.{Sized, sized, assigned, fixed, value_of}
 use Rattle.scc_svtree.specs.Term.{Term, Literal, Binary, Unary}
-use Rattle.scc_lowered.specs.Gives.{Gives}
-use Rattle.scc_lowered.proofs.Gives.{gives_own, gives_fixed, gives_compare, gives_context, gives_bit}
+use Rattle.scc_lower_spec.specs.Gives.{Gives}
+use Rattle.scc_lower_spec.proofs.Gives.{gives_own, gives_fixed, gives_compare, gives_context, gives_bit}
 use Rattle.scc_blocks_run_laws.specs.Pieces.{variable}
 
 is-zero : (n : ℕ) → int_eq (pos n) (pos 0) ≡ nat_eq n 0

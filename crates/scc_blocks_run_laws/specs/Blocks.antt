@@ -12,19 +12,19 @@ use Rattle.scc_svtree.specs.Code as emitted_code
 use Rattle.scc_svtree.specs.Mentions.{mentions}
 use Rattle.scc_svtree.specs.Steps.{input_at, is_clock, loaded, or_old}
 use Rattle.scc_svtree.specs.Variables.{width_at as width_of_variable}
-use Rattle.scc_meaning_text.specs.Renamed.{code_as}
-use Rattle.scc_meaning_core.specs.Program.{Program, Process, Edge, Reset, is_combinational, is_root}
-use Rattle.scc_meaning_core.specs.Static.{Cells}
-use Rattle.scc_meaning_core.specs.Kept.{written_by}
-use Rattle.scc_meaning_core.specs.Segments.{counts}
-use Rattle.scc_meaning_core.specs.Sizes.{live_body}
-use Rattle.scc_meaning_core.specs.Uses.{among, has_sort, width_at}
-use Rattle.scc_meaning_blocks.specs.Acting.{latest}
-use Rattle.scc_meaning_blocks.specs.Effect.{Place}
-use Rattle.scc_meaning_blocks.specs.Names.{is_register}
-use Rattle.scc_meaning_blocks.specs.Tied.{Registers}
-use Rattle.scc_meaning_blocks.specs.Turns.{Regs, Left, constant_at, found, ran_segment, segment_at}
-use Rattle.scc_meaning_blocks.specs.Shown.{View, Constant, Read, Driven, Delayed, Plain, Next, mine, view_of, sight_of, IsSmall, state_number, next_state_number, counter_number, next_counter_number}
+use Rattle.scc_blocks_spec.specs.Renamed.{code_as}
+use Rattle.scc_core_spec.specs.Program.{Program, Process, Edge, Reset, is_combinational, is_root}
+use Rattle.scc_core_spec.specs.Static.{Cells}
+use Rattle.scc_core_spec.specs.Kept.{written_by}
+use Rattle.scc_core_spec.specs.Segments.{counts}
+use Rattle.scc_core_spec.specs.Sizes.{live_body}
+use Rattle.scc_core_spec.specs.Uses.{among, has_sort, width_at}
+use Rattle.scc_blocks_spec.specs.Acting.{latest}
+use Rattle.scc_blocks_spec.specs.Effect.{Place}
+use Rattle.scc_blocks_spec.specs.Names.{is_register}
+use Rattle.scc_blocks_spec.specs.Tied.{Registers}
+use Rattle.scc_blocks_spec.specs.Turns.{Regs, Left, constant_at, found, ran_segment, segment_at}
+use Rattle.scc_blocks_spec.specs.Shown.{View, Constant, Read, Driven, Delayed, Plain, Next, mine, view_of, sight_of, IsSmall, state_number, next_state_number, counter_number, next_counter_number}
 use Rattle.scc_blocks_run_laws.specs.Pieces.{First, Wide, firsts_code, first_at, is_source, variable, IsBody}
 
 -- ---- registers that are proper

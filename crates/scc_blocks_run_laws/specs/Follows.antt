@@ -3,18 +3,18 @@ use Rattle.std.specs.Prelude.{◌≡◌, ◌<◌, ◌^◌, ℕ, suc, Bool, true,
 use Rattle.scc_svtree.specs.declared.module.SvModule.{SvModule}
 use Rattle.scc_svtree.specs.Steps.{StepInput, Step, Steps, input_at}
 use Rattle.scc_svtree.specs.Sound.{IsSound}
-use Rattle.scc_meaning_core.specs.Program.{Program, Process, Edge, is_combinational, is_root}
-use Rattle.scc_meaning_core.specs.Kept.{written_by}
-use Rattle.scc_meaning_core.specs.Live.{live}
-use Rattle.scc_meaning_core.specs.Segments.{Segment, Plain, Test, Halt, Finish, counts}
-use Rattle.scc_meaning_core.specs.Sizes.{live_body}
-use Rattle.scc_meaning_core.specs.Uses.{among, has_sort, width_at}
-use Rattle.scc_meaning_blocks.specs.Acting.{latest}
-use Rattle.scc_meaning_blocks.specs.Effect.{Place}
-use Rattle.scc_meaning_blocks.specs.Tied.{Registers, Mirrors, MirrorsRegisters}
-use Rattle.scc_meaning_blocks.specs.Turns.{Regs, Left, turn, found, constant_at, reset_at, has_clock, segment_at, begun, edged}
-use Rattle.scc_meaning_blocks.specs.Shown.{Driven, Sight, mine, view_of, sight_of}
-use Rattle.scc_meaning_blocks.specs.Lowered.{KeepsFit}
+use Rattle.scc_core_spec.specs.Program.{Program, Process, Edge, is_combinational, is_root}
+use Rattle.scc_core_spec.specs.Kept.{written_by}
+use Rattle.scc_core_spec.specs.Live.{live}
+use Rattle.scc_core_spec.specs.Segments.{Segment, Plain, Test, Halt, Finish, counts}
+use Rattle.scc_core_spec.specs.Sizes.{live_body}
+use Rattle.scc_core_spec.specs.Uses.{among, has_sort, width_at}
+use Rattle.scc_blocks_spec.specs.Acting.{latest}
+use Rattle.scc_blocks_spec.specs.Effect.{Place}
+use Rattle.scc_blocks_spec.specs.Tied.{Registers, Mirrors, MirrorsRegisters}
+use Rattle.scc_blocks_spec.specs.Turns.{Regs, Left, turn, found, constant_at, reset_at, has_clock, segment_at, begun, edged}
+use Rattle.scc_blocks_spec.specs.Shown.{Driven, Sight, mine, view_of, sight_of}
+use Rattle.scc_blocks_spec.specs.Lowered.{KeepsFit}
 use Rattle.scc_blocks_run_laws.specs.Blocks.{IsProper, Built}
 
 -- ---- what a core has to keep, whatever its module

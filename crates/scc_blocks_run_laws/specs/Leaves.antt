@@ -1,12 +1,12 @@
 -- What a run of a process's block is given and leaves, and what stands stored from what went before. This project's own.
 use Rattle.std.specs.Prelude.{◌≡◌, ◌*◌, ◌+◌, ℕ, zero, suc, true, false, Some, slice_get}
 use Rattle.scc_svtree.specs.declared.module.SvModule.{SvModule}
-use Rattle.scc_meaning_core.specs.Program.{Program, Process, Reset}
-use Rattle.scc_meaning_blocks.specs.Acting.{Acting, latest}
-use Rattle.scc_meaning_blocks.specs.Effect.{Place}
-use Rattle.scc_meaning_blocks.specs.Tied.{Registers, HoldsNumber}
-use Rattle.scc_meaning_blocks.specs.Turns.{Regs, Left, reset_at}
-use Rattle.scc_meaning_blocks.specs.Shown.{View, Read, Driven, Delayed, Next, mine, view_of, IsAsked, next_state_number, next_counter_number}
+use Rattle.scc_core_spec.specs.Program.{Program, Process, Reset}
+use Rattle.scc_blocks_spec.specs.Acting.{Acting, latest}
+use Rattle.scc_blocks_spec.specs.Effect.{Place}
+use Rattle.scc_blocks_spec.specs.Tied.{Registers, HoldsNumber}
+use Rattle.scc_blocks_spec.specs.Turns.{Regs, Left, reset_at}
+use Rattle.scc_blocks_spec.specs.Shown.{View, Read, Driven, Delayed, Next, mine, view_of, IsAsked, next_state_number, next_counter_number}
 use Rattle.scc_blocks_run_laws.specs.Pieces.{Wide}
 use Rattle.scc_blocks_run_laws.specs.Blocks.{Numbering, Built, Origin}
 

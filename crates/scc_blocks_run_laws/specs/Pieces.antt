@@ -6,14 +6,14 @@ use Rattle.scc_svtree.specs.declared.expr.SvUnary.TheVariants as unary
 use Rattle.scc_svtree.specs.declared.expr.SvBinary.TheVariants as binary
 use Rattle.scc_svtree.specs.Term as emitted
 use Rattle.scc_svtree.specs.Code as emitted_code
-use Rattle.scc_meaning_core.specs.Program.{Process, Reset, is_root}
-use Rattle.scc_meaning_core.specs.Uses.{has_sort, width_at}
-use Rattle.scc_meaning_core.specs.Segments.{Segment, Plain, Test, Halt, Finish, counts}
-use Rattle.scc_meaning_core.specs.Sizes.{live_body}
-use Rattle.scc_meaning_core.specs.Live.{live}
-use Rattle.scc_meaning_blocks.specs.Turns.{segment_at}
-use Rattle.scc_meaning_blocks.specs.Shown.{View, Constant, Sight, state_number, next_state_number, counter_number, next_counter_number}
-use Rattle.scc_meaning_blocks.specs.Lowered.{IsLoweredCode, IsLoweredTerm}
+use Rattle.scc_core_spec.specs.Program.{Process, Reset, is_root}
+use Rattle.scc_core_spec.specs.Uses.{has_sort, width_at}
+use Rattle.scc_core_spec.specs.Segments.{Segment, Plain, Test, Halt, Finish, counts}
+use Rattle.scc_core_spec.specs.Sizes.{live_body}
+use Rattle.scc_core_spec.specs.Live.{live}
+use Rattle.scc_blocks_spec.specs.Turns.{segment_at}
+use Rattle.scc_blocks_spec.specs.Shown.{View, Constant, Sight, state_number, next_state_number, counter_number, next_counter_number}
+use Rattle.scc_blocks_spec.specs.Lowered.{IsLoweredCode, IsLoweredTerm}
 
 abbrev pub whole : ℕ → SvLeft
 whole v = Whole (record { 0 = v })

@@ -4,7 +4,7 @@ use crate::parts::Domains;
 use scc_base::{List, NoMemory, Path, lost};
 use scc_blocks::ELSEWHERE;
 use scc_core::{Cell, CellSort, Copies, Core, CoreProcess, Known, Places, VectorSize2};
-use scc_flow::{Mark, live, marked};
+use scc_core_flow::{Mark, live, marked};
 use std::alloc::Global;
 
 /// The parts of a checked core.

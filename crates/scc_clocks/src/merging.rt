@@ -5,8 +5,8 @@ use scc_base::{List, Names, NoMemory, Text, lost, push};
 use scc_bits::width;
 use scc_core::{CellSort, Core, CoreProcess};
 use scc_lower::sv_name;
-use scc_renumber::{Ids, renumbered, renumbered_expr};
 use scc_svtree::{Dir, SvBlock, SvLoad, SvModule, SvReset, SvSet};
+use scc_svtree_renumber::{Ids, renumbered, renumbered_expr};
 use std::alloc::Global;
 
 /// How deep expressions nest beside their first operands.

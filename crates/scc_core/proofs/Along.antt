@@ -1,6 +1,6 @@
 -- Along first operands.
 use Rattle.std.proofs.Common.{◌≡◌, refl, ℕ, zero, suc, ◌+◌, ap, sym, ◌∙◌, Some, None, unwrap_or, add-one, ◌-◌, ◌≤◌, arith, option_and_then}
-use Rattle.scc_kinds.specs.declared.kind.Kind.{Kind}
+use Rattle.scc_bits_kinds.specs.declared.kind.Kind.{Kind}
 use Rattle.scc_core.specs.declared.expr.CoreBase.{CoreBase, fold-CoreBase}
 use Rattle.scc_core.specs.declared.expr.CoreExpr.{CoreExpr, fold-roll-CoreExpr}
 use Rattle.scc_core.specs.declared.expr.CoreExprNode.{CoreExprNode, out-CoreExprNode, fold-CoreExprNode, map-CoreExprNode, fold_out-CoreExprNode}

@@ -2,14 +2,14 @@
 use Rattle.std.proofs.Common.{rules, arith, ◌≡◌, refl, sym, ap, ◌∙◌, ℕ, ◌+◌, ◌-◌, ◌≤◌, ◌<◌, ◌^◌, Bool, true, false, not, ◌&&◌, nat_le, nat_lt, Option, Some, None, if◌then◌else◌, option_map, option_and_then}
 use Rattle.std.proofs.lemmas.Grind.{common_steps}
 use Rattle.std.specs.Prelude.{IsSome, IfSome, ◌↔◌, ℤ, pos, negsuc, is_some}
-use Rattle.scc_kinds.specs.declared.kind.Kind.{Kind}
-use Rattle.scc_kinds.specs.declared.kind.Kind.TheVariants as kind
-use Rattle.scc_kinds.specs.declared.op.Op.{Op}
-use Rattle.scc_kinds.specs.declared.rule.Rule.{Rule}
-use Rattle.scc_kinds.specs.Bits.{part, joined, range_of, concat_of}
-use Rattle.scc_kinds.specs.Kinds.{IsValid, Fits, width_of, stored}
-use Rattle.scc_kinds.specs.Numbers.{Holds}
-use Rattle.scc_kinds.specs.Operators.{Divisor}
+use Rattle.scc_bits_kinds.specs.declared.kind.Kind.{Kind}
+use Rattle.scc_bits_kinds.specs.declared.kind.Kind.TheVariants as kind
+use Rattle.scc_bits_kinds.specs.declared.op.Op.{Op}
+use Rattle.scc_bits_kinds.specs.declared.rule.Rule.{Rule}
+use Rattle.scc_bits_kinds.specs.Bits.{part, joined, range_of, concat_of}
+use Rattle.scc_bits_kinds.specs.Kinds.{IsValid, Fits, width_of, stored}
+use Rattle.scc_bits_kinds.specs.Numbers.{Holds}
+use Rattle.scc_bits_kinds.specs.Operators.{Divisor}
 use Rattle.scc_bits.specs.Value.{Number, exactly}
 use Rattle.scc_bits.specs.Values.{kind_of, is_too_wide, applied, rule_at, answer_of, computed, left_of, right_of}
 use Rattle.scc_core.specs.Numbers.{is_valid, valued, stored_in, takes, answer, selected, small, small_of, above}

@@ -2,7 +2,7 @@
 -- This project's own rule.
 use Rattle.std.specs.Prelude.{ℕ, Bool, true, false, ◌&&◌, ◌||◌, nat_eq, nat_lt, List, [], ◌∷◌, map, slice_get, Option, Some, None, option_map, option_and_then}
 use Rattle.scc_base.specs.declared.names.Name.{Name}
-use Rattle.scc_kinds.specs.declared.kind.Kind.{Kind}
+use Rattle.scc_bits_kinds.specs.declared.kind.Kind.{Kind}
 use Rattle.scc_bits.specs.Value.{Number}
 use Rattle.scc_core.specs.declared.places.NameStep.{NameStep}
 use Rattle.scc_core.specs.declared.places.NameStep.TheVariants as step

@@ -1,11 +1,11 @@
 -- Numbers of static expressions, where they have one: each gives none exactly where the arithmetic has no value.
 use Rattle.std.specs.Prelude.{ℕ, ◌+◌, ◌-◌, ◌/◌, ◌%◌, ◌^◌, ℤ, pos, negsuc, Bool, true, not, ◌&&◌, ◌||◌, nat_eq, nat_le, nat_lt, if◌then◌else◌, List, [], ◌∷◌, Option, Some, None, option_map, option_and_then, is_some}
-use Rattle.scc_kinds.specs.declared.kind.Kind.{Kind}
-use Rattle.scc_kinds.specs.declared.kind.Kind.TheVariants as kind
-use Rattle.scc_kinds.specs.declared.op.Op.{Op}
-use Rattle.scc_kinds.specs.declared.op.Op.TheVariants as op
-use Rattle.scc_kinds.specs.Kinds.{width_of, stored}
-use Rattle.scc_kinds.specs.Bits.{part, joined, range_of, concat_of}
+use Rattle.scc_bits_kinds.specs.declared.kind.Kind.{Kind}
+use Rattle.scc_bits_kinds.specs.declared.kind.Kind.TheVariants as kind
+use Rattle.scc_bits_kinds.specs.declared.op.Op.{Op}
+use Rattle.scc_bits_kinds.specs.declared.op.Op.TheVariants as op
+use Rattle.scc_bits_kinds.specs.Kinds.{width_of, stored}
+use Rattle.scc_bits_kinds.specs.Bits.{part, joined, range_of, concat_of}
 use Rattle.scc_bits.specs.Value.{Number, exactly}
 use Rattle.scc_bits.specs.Values.{is_too_wide, applied}
 

@@ -1,7 +1,7 @@
 -- Values of expressions that are made of literals and fixed cells. This project's own rule; C++ has constant expressions ([expr.const]) alone.
 use Rattle.std.specs.Prelude.{not, nat_eq, if◌then◌else◌, List, Option, Some, None, option_and_then}
-use Rattle.scc_kinds.specs.declared.kind.Kind.{Kind}
-use Rattle.scc_kinds.specs.declared.op.Op.{Op}
+use Rattle.scc_bits_kinds.specs.declared.kind.Kind.{Kind}
+use Rattle.scc_bits_kinds.specs.declared.op.Op.{Op}
 use Rattle.scc_bits.specs.Value.{Number}
 use Rattle.scc_core.specs.declared.expr.CoreExpr.{CoreExpr, fold-CoreExpr}
 use Rattle.scc_core.specs.declared.expr.CoreLeft.{CoreLeft, fold-CoreLeft}

@@ -3,9 +3,9 @@ use Rattle.std.proofs.Common.{◌≡◌, ℕ, suc, ◌+◌, ◌≤◌, Bool, tru
 use Rattle.std.specs.Prelude.{option_map, unwrap_or}
 use Rattle.std.specs.List.{range_with_len}
 use Rattle.std.proofs.lemmas.List.Folds.{list_any-append}
-use Rattle.scc_meaning_core.specs.Program.{Program, Process, is_combinational}
-use Rattle.scc_meaning_core.specs.Uses.{among}
-use Rattle.scc_meaning_core.specs.Feeding.{Feeds, is_method, methods, IsOrderFrom, done, next, IsOrder}
+use Rattle.scc_core_spec.specs.Program.{Program, Process, is_combinational}
+use Rattle.scc_core_spec.specs.Uses.{among}
+use Rattle.scc_core_spec.specs.Feeding.{Feeds, is_method, methods, IsOrderFrom, done, next, IsOrder}
 use Rattle.scc_core_effect_laws.proofs.Names.{and-first, or-left, or-right, true-false, not-true}
 use Rattle.scc_core_effect_laws.proofs.Unsure.{is-false}
 

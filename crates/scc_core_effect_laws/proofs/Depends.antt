@@ -1,14 +1,14 @@
 -- What code without waits leaves depends only on what it reads before it writes it.
 use Rattle.std.proofs.Common.{◌≡◌, ℕ, zero, suc, Bool, true, false, ◌&&◌, ◌||◌, nat_eq, List, ◌++◌, Option, Some, None, refl, sym, subst, ◌⊎◌, inl, inr, arith}
 use Rattle.std.specs.List.{list_any}
-use Rattle.scc_meaning_core.specs.Code.{Code, End, Put, Aim, If, Block, Loop, Exit, Wait}
-use Rattle.scc_meaning_core.specs.Program.{is_root}
-use Rattle.scc_meaning_core.specs.Static.{Cells}
-use Rattle.scc_meaning_core.specs.Uses.{Use, loads, inside, cells_of, has_sort, whole_writes}
-use Rattle.scc_meaning_core.specs.Uses as uses
-use Rattle.scc_meaning_core.specs.Flow.{CellSet, flow, either, without}
-use Rattle.scc_meaning_blocks.specs.Acting.{Acting, word_in}
-use Rattle.scc_meaning_blocks.specs.Effect.{Effect, Fell, Left_out, Lost, effect, assigned, then_effect, shut, or_lost, branch}
+use Rattle.scc_core_spec.specs.Code.{Code, End, Put, Aim, If, Block, Loop, Exit, Wait}
+use Rattle.scc_core_spec.specs.Program.{is_root}
+use Rattle.scc_core_spec.specs.Static.{Cells}
+use Rattle.scc_core_spec.specs.Uses.{Use, loads, inside, cells_of, has_sort, whole_writes}
+use Rattle.scc_core_spec.specs.Uses as uses
+use Rattle.scc_core_spec.specs.Flow.{CellSet, flow, either, without}
+use Rattle.scc_blocks_spec.specs.Acting.{Acting, word_in}
+use Rattle.scc_blocks_spec.specs.Effect.{Effect, Fell, Left_out, Lost, effect, assigned, then_effect, shut, or_lost, branch}
 use Rattle.scc_core_effect_laws.specs.Sound.{AllUses, SizedUse, FitWords, Sound}
 use Rattle.scc_core_effect_laws.specs.Alike.{Both, Alike, Unseen, Late}
 use Rattle.scc_core_effect_laws.proofs.Names.{and-first, and-second, or-first, or-second, true-false}

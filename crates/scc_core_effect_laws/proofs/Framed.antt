@@ -2,16 +2,16 @@
 use Rattle.std.proofs.Common.{◌≡◌, ℕ, zero, suc, Bool, true, false, nat_eq, List, ◌++◌, Option, Some, None, refl, sym, ap, ◌∙◌, subst, if◌then◌else◌}
 use Rattle.std.specs.Prelude.{option_map, option_and_then}
 use Rattle.std.specs.List.{list_any}
-use Rattle.scc_meaning_core.specs.Term.{Term, Left, Pick}
-use Rattle.scc_meaning_core.specs.Code.{Code, End, Put, Aim, If, Block, Loop, Exit, Wait}
-use Rattle.scc_meaning_core.specs.Program.{is_root}
-use Rattle.scc_meaning_core.specs.Static.{Cells}
-use Rattle.scc_meaning_core.specs.Named.{Step}
-use Rattle.scc_meaning_core.specs.Uses.{Use, loads, inside, cells_of, width_at, has_sort, among}
-use Rattle.scc_meaning_core.specs.Uses as uses
-use Rattle.scc_meaning_core.specs.Flow.{CellSet}
-use Rattle.scc_meaning_blocks.specs.Acting.{Acting, word_in, steps_in, cell_named, with_word, with_asked, picked, put_in}
-use Rattle.scc_meaning_blocks.specs.Effect.{Effect, Fell, Left_out, Lost, effect, assigned, then_effect, shut, or_lost, branch}
+use Rattle.scc_core_spec.specs.Term.{Term, Left, Pick}
+use Rattle.scc_core_spec.specs.Code.{Code, End, Put, Aim, If, Block, Loop, Exit, Wait}
+use Rattle.scc_core_spec.specs.Program.{is_root}
+use Rattle.scc_core_spec.specs.Static.{Cells}
+use Rattle.scc_core_spec.specs.Named.{Step}
+use Rattle.scc_core_spec.specs.Uses.{Use, loads, inside, cells_of, width_at, has_sort, among}
+use Rattle.scc_core_spec.specs.Uses as uses
+use Rattle.scc_core_spec.specs.Flow.{CellSet}
+use Rattle.scc_blocks_spec.specs.Acting.{Acting, word_in, steps_in, cell_named, with_word, with_asked, picked, put_in}
+use Rattle.scc_blocks_spec.specs.Effect.{Effect, Fell, Left_out, Lost, effect, assigned, then_effect, shut, or_lost, branch}
 use Rattle.scc_core_effect_laws.specs.Sound.{AllUses, SizedUse, FitWords, SoundPut, SoundTest, Each}
 use Rattle.scc_core_effect_laws.specs.Alike.{Both, Alike, Unseen}
 use Rattle.scc_core_effect_laws.proofs.Names.{true-false, named-in}

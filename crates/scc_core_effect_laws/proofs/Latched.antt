@@ -1,14 +1,14 @@
 -- A root that no path misses was asked when the end is come to.
 use Rattle.std.proofs.Common.{◌≡◌, ℕ, zero, suc, Bool, true, false, not, ◌&&◌, ◌||◌, nat_eq, Option, Some, None, refl, sym, ap, ◌∙◌, arith, if◌then◌else◌, is_some}
 use Rattle.std.specs.Prelude.{option_map, option_and_then}
-use Rattle.scc_meaning_core.specs.Term.{Term, Left, Pick}
-use Rattle.scc_meaning_core.specs.Code.{Code, End, Put, Aim, If, Block, Loop, Exit, Wait}
-use Rattle.scc_meaning_core.specs.Program.{is_root}
-use Rattle.scc_meaning_core.specs.Static.{Cells}
-use Rattle.scc_meaning_core.specs.Uses.{cells_of, width_at, has_sort, whole_writes, among}
-use Rattle.scc_meaning_core.specs.Flow.{CellSet, flow, either, without}
-use Rattle.scc_meaning_blocks.specs.Acting.{Acting, word_in, steps_in, cell_named, with_word, with_asked, picked, put_in}
-use Rattle.scc_meaning_blocks.specs.Effect.{Effect, Fell, Left_out, Lost, effect, assigned, then_effect, shut, or_lost, branch}
+use Rattle.scc_core_spec.specs.Term.{Term, Left, Pick}
+use Rattle.scc_core_spec.specs.Code.{Code, End, Put, Aim, If, Block, Loop, Exit, Wait}
+use Rattle.scc_core_spec.specs.Program.{is_root}
+use Rattle.scc_core_spec.specs.Static.{Cells}
+use Rattle.scc_core_spec.specs.Uses.{cells_of, width_at, has_sort, whole_writes, among}
+use Rattle.scc_core_spec.specs.Flow.{CellSet, flow, either, without}
+use Rattle.scc_blocks_spec.specs.Acting.{Acting, word_in, steps_in, cell_named, with_word, with_asked, picked, put_in}
+use Rattle.scc_blocks_spec.specs.Effect.{Effect, Fell, Left_out, Lost, effect, assigned, then_effect, shut, or_lost, branch}
 use Rattle.scc_core_effect_laws.specs.Sound.{FitWords, FixedWords, Each}
 use Rattle.scc_core_effect_laws.specs.Ordering.{Alone, AnyTest}
 use Rattle.scc_core_effect_laws.proofs.Names.{or-first, or-second, true-false, named-in, then-is, map-is}

@@ -2,10 +2,10 @@
 use Rattle.std.proofs.Common.{◌≡◌, ℕ, suc, Bool, true, false, not, ◌&&◌, ◌||◌, nat_eq, cond, List, [], ◌∷◌, ◌++◌, map, filter, refl, sym, ap, ◌∙◌, arith}
 use Rattle.std.specs.List.{list_any}
 use Rattle.scc_base.specs.declared.refusal.Place.{Place}
-use Rattle.scc_meaning_core.specs.Code.{Code, End, Put, Aim, If, Block, Loop, Exit, Wait}
-use Rattle.scc_meaning_core.specs.Static.{Cells}
-use Rattle.scc_meaning_core.specs.Uses.{Use, loads, inside, picked, cells_of, whole_writes, among}
-use Rattle.scc_meaning_core.specs.Flow.{CellSet, flow, either, without, early_in}
+use Rattle.scc_core_spec.specs.Code.{Code, End, Put, Aim, If, Block, Loop, Exit, Wait}
+use Rattle.scc_core_spec.specs.Static.{Cells}
+use Rattle.scc_core_spec.specs.Uses.{Use, loads, inside, picked, cells_of, whole_writes, among}
+use Rattle.scc_core_spec.specs.Flow.{CellSet, flow, either, without, early_in}
 use Rattle.scc_core_effect_laws.specs.Alike.{Unseen, Late, UnreadUses, Unread}
 use Rattle.scc_core_effect_laws.proofs.Names.{and-first, and-second, and-both, true-false}
 use Rattle.scc_core_effect_laws.proofs.Same.{not-any}

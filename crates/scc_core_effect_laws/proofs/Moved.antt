@@ -3,17 +3,17 @@ use Rattle.std.proofs.Common.{◌≡◌, ℕ, zero, suc, Bool, true, false, not,
 use Rattle.std.specs.Prelude.{option_map, option_and_then}
 use Rattle.std.proofs.lemmas.List.Folds.{list_any-append}
 use Rattle.std.proofs.lemmas.Grind.{flat_map-append}
-use Rattle.scc_meaning_core.specs.Term.{Term, Left, Pick}
-use Rattle.scc_meaning_core.specs.Code.{Code, End, Put, Aim, If, Block, Loop, Exit, Wait}
-use Rattle.scc_meaning_core.specs.Program as program
-use Rattle.scc_meaning_core.specs.Program.{is_root}
-use Rattle.scc_meaning_core.specs.Static.{Cells, fixed_word}
-use Rattle.scc_meaning_core.specs.Named.{Step}
-use Rattle.scc_meaning_core.specs.Uses.{Use, Act, acts, loads, inside, picked, cells_of, reads_of, writes_of, width_at, has_sort, among}
-use Rattle.scc_meaning_core.specs.Segments.{Segment, Plain, Test, Halt, Finish, segment_code}
-use Rattle.scc_meaning_blocks.specs.Acting.{Acting, word_in, steps_in, cell_named, with_word, with_asked, put_in}
-use Rattle.scc_meaning_blocks.specs.Acting as acting
-use Rattle.scc_meaning_blocks.specs.Effect.{Effect, Fell, Left_out, Lost, effect, assigned, then_effect, shut, or_lost, branch, Ran, Waits, Ends, Fails, then_ran, or_fails, choose, run_segment}
+use Rattle.scc_core_spec.specs.Term.{Term, Left, Pick}
+use Rattle.scc_core_spec.specs.Code.{Code, End, Put, Aim, If, Block, Loop, Exit, Wait}
+use Rattle.scc_core_spec.specs.Program as program
+use Rattle.scc_core_spec.specs.Program.{is_root}
+use Rattle.scc_core_spec.specs.Static.{Cells, fixed_word}
+use Rattle.scc_core_spec.specs.Named.{Step}
+use Rattle.scc_core_spec.specs.Uses.{Use, Act, acts, loads, inside, picked, cells_of, reads_of, writes_of, width_at, has_sort, among}
+use Rattle.scc_core_spec.specs.Segments.{Segment, Plain, Test, Halt, Finish, segment_code}
+use Rattle.scc_blocks_spec.specs.Acting.{Acting, word_in, steps_in, cell_named, with_word, with_asked, put_in}
+use Rattle.scc_blocks_spec.specs.Acting as acting
+use Rattle.scc_blocks_spec.specs.Effect.{Effect, Fell, Left_out, Lost, effect, assigned, then_effect, shut, or_lost, branch, Ran, Waits, Ends, Fails, then_ran, or_fails, choose, run_segment}
 use Rattle.scc_core_effect_laws.specs.Sound.{FixedWords, FitWords, SoundPut, SoundTest, Each}
 use Rattle.scc_core_effect_laws.specs.Alike.{Singles, UnreadUses, Unread}
 use Rattle.scc_core_effect_laws.proofs.Names.{and-both, or-first, or-second, or-left, or-right, none-some, true-false, named-in, then-is, map-is}

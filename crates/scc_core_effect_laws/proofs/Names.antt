@@ -3,20 +3,20 @@ use Rattle.std.proofs.Common.{◌≡◌, ℕ, zero, suc, ◌+◌, Bool, true, fa
 use Rattle.std.proofs.Common.{◌⊎◌, inl, inr}
 use Rattle.std.specs.Prelude.{option_map, option_and_then, unwrap_or}
 use Rattle.std.specs.List.{list_any}
-use Rattle.scc_kinds.specs.declared.kind.Kind.{Kind}
-use Rattle.scc_kinds.specs.Kinds.{width_of, number_of, stored}
+use Rattle.scc_bits_kinds.specs.declared.kind.Kind.{Kind}
+use Rattle.scc_bits_kinds.specs.Kinds.{width_of, number_of, stored}
 use Rattle.scc_bits.specs.Values.{applied}
-use Rattle.scc_kinds.specs.Bits.{part, joined}
-use Rattle.scc_meaning.specs.Location.{Part}
-use Rattle.scc_meaning.specs.Location as location
-use Rattle.scc_meaning.specs.Value.{with_two, chosen, index_of, bit_at}
-use Rattle.scc_meaning_core.specs.Term.{Term, Literal, Load, Read, Convert, Unary, Binary, Choose, Bit, Range, Join, Left, Cell, Prefix, Null, Follow, Member, Index, kind_of, CellName, Own}
-use Rattle.scc_meaning_core.specs.Program as program
-use Rattle.scc_meaning_core.specs.Program.{Sort, Input, Output, Signal, Variable, Local, Pointer, Port, is_pointer}
-use Rattle.scc_meaning_core.specs.Static.{Cells, static, pattern, first_of, fixed_word, found, held, held_at, index_step, grown}
-use Rattle.scc_meaning_core.specs.Named.{Step, Named, At, Ours, Open, steps_of, part_step, own_steps, fits, is_open, names_cell, cell_at, cells_at}
-use Rattle.scc_meaning_core.specs.Uses.{root_of, root_of_sort, cells_of, among}
-use Rattle.scc_meaning_blocks.specs.Acting.{Acting, word_in, steps_in, cell_named, word_or_zero}
+use Rattle.scc_bits_kinds.specs.Bits.{part, joined}
+use Rattle.scc_semantics.specs.Location.{Part}
+use Rattle.scc_semantics.specs.Location as location
+use Rattle.scc_semantics.specs.Scene.{with_two, chosen, index_of, bit_at}
+use Rattle.scc_core_spec.specs.Term.{Term, Literal, Load, Read, Convert, Unary, Binary, Choose, Bit, Range, Join, Left, Cell, Prefix, Null, Follow, Member, Index, kind_of, CellName, Own}
+use Rattle.scc_core_spec.specs.Program as program
+use Rattle.scc_core_spec.specs.Program.{Sort, Input, Output, Signal, Variable, Local, Pointer, Port, is_pointer}
+use Rattle.scc_core_spec.specs.Static.{Cells, static, pattern, first_of, fixed_word, found, held, held_at, index_step, grown}
+use Rattle.scc_core_spec.specs.Named.{Step, Named, At, Ours, Open, steps_of, part_step, own_steps, fits, is_open, names_cell, cell_at, cells_at}
+use Rattle.scc_core_spec.specs.Uses.{root_of, root_of_sort, cells_of, among}
+use Rattle.scc_blocks_spec.specs.Acting.{Acting, word_in, steps_in, cell_named, word_or_zero}
 use Rattle.scc_core_effect_laws.specs.Sound.{loosely, Sized, FixedWords}
 
 pub and-first : (a b : Bool) → (a && b) ≡ true → a ≡ true

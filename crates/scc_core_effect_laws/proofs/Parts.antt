@@ -1,13 +1,13 @@
 -- The segments of sound code are sound, and do the same from actings that differ only in what is read late.
 use Rattle.std.proofs.Common.{◌≡◌, ℕ, zero, suc, ◌+◌, Bool, true, false, List, [], ◌∷◌, ◌++◌, Option, Some, None, refl, sym, ◌∙◌, subst}
-use Rattle.scc_meaning_core.specs.Term.{Term, Left, Pick}
-use Rattle.scc_meaning_core.specs.Code.{Code, End, Put, Aim, If, Block, Loop, Exit, Wait, numbered, waits_in}
-use Rattle.scc_meaning_core.specs.Static.{Cells}
-use Rattle.scc_meaning_core.specs.Uses.{loads}
-use Rattle.scc_meaning_core.specs.Flow.{CellSet, flow}
-use Rattle.scc_meaning_core.specs.Segments.{Segment, Plain, Test, Halt, Finish, opens, opened, behind, segment, segments, all_segments, segment_code}
-use Rattle.scc_meaning_blocks.specs.Acting.{Acting, word_in}
-use Rattle.scc_meaning_blocks.specs.Effect.{Effect, Fell, Left_out, Lost, effect, Ran, Waits, Ends, Fails, then_ran, or_fails, choose, run_segment}
+use Rattle.scc_core_spec.specs.Term.{Term, Left, Pick}
+use Rattle.scc_core_spec.specs.Code.{Code, End, Put, Aim, If, Block, Loop, Exit, Wait, numbered, waits_in}
+use Rattle.scc_core_spec.specs.Static.{Cells}
+use Rattle.scc_core_spec.specs.Uses.{loads}
+use Rattle.scc_core_spec.specs.Flow.{CellSet, flow}
+use Rattle.scc_core_spec.specs.Segments.{Segment, Plain, Test, Halt, Finish, opens, opened, behind, segment, segments, all_segments, segment_code}
+use Rattle.scc_blocks_spec.specs.Acting.{Acting, word_in}
+use Rattle.scc_blocks_spec.specs.Effect.{Effect, Fell, Left_out, Lost, effect, Ran, Waits, Ends, Fails, then_ran, or_fails, choose, run_segment}
 use Rattle.scc_core_effect_laws.specs.Sound.{Each, Sound}
 use Rattle.scc_core_effect_laws.specs.Alike.{Both, Alike, AlikeRan, Late, Singles}
 use Rattle.scc_core_effect_laws.proofs.Names.{true-false}

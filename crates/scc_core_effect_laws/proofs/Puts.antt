@@ -3,21 +3,21 @@ use Rattle.std.proofs.Common.{◌≡◌, ℕ, ◌+◌, ◌-◌, ◌*◌, ◌^◌
 use Rattle.std.proofs.Math.Nat.{div-eq_of_lt, mod-one}
 use Rattle.std.specs.Prelude.{option_map, option_and_then, unwrap_or}
 use Rattle.std.specs.List.{list_any}
-use Rattle.scc_kinds.specs.declared.kind.Kind.{Kind}
-use Rattle.scc_kinds.specs.Numbers.{low, reading}
-use Rattle.scc_kinds.specs.Kinds.{width_of, is_signed}
-use Rattle.scc_kinds.specs.Bits.{replaced}
-use Rattle.scc_meaning.specs.Value.{index_of, with_bit}
-use Rattle.scc_meaning_core.specs.Term.{Term, Left, Pick, Whole, OneBit, Bits, kind_of}
-use Rattle.scc_meaning_core.specs.Program as program
-use Rattle.scc_meaning_core.specs.Program.{is_root, is_held}
-use Rattle.scc_meaning_core.specs.Static.{Cells, static, fixed_word}
-use Rattle.scc_meaning_core.specs.Named.{Step, is_open, names_cell, cell_at, cells_at}
-use Rattle.scc_meaning_core.specs.Uses.{Use, loads, inside, root_of, cells_of, is_single, is_zero, is_all, width_at, has_sort, whole_of, whole_writes, among}
-use Rattle.scc_meaning_core.specs.Uses as uses
-use Rattle.scc_meaning_core.specs.Flow.{CellSet, without}
-use Rattle.scc_meaning_blocks.specs.Acting.{Acting, word_in, steps_in, cell_named, with_word, with_asked, picked, put_in}
-use Rattle.scc_meaning_blocks.specs.Effect.{assigned}
+use Rattle.scc_bits_kinds.specs.declared.kind.Kind.{Kind}
+use Rattle.scc_bits_kinds.specs.Numbers.{low, reading}
+use Rattle.scc_bits_kinds.specs.Kinds.{width_of, is_signed}
+use Rattle.scc_bits_kinds.specs.Bits.{replaced}
+use Rattle.scc_semantics.specs.Scene.{index_of, with_bit}
+use Rattle.scc_core_spec.specs.Term.{Term, Left, Pick, Whole, OneBit, Bits, kind_of}
+use Rattle.scc_core_spec.specs.Program as program
+use Rattle.scc_core_spec.specs.Program.{is_root, is_held}
+use Rattle.scc_core_spec.specs.Static.{Cells, static, fixed_word}
+use Rattle.scc_core_spec.specs.Named.{Step, is_open, names_cell, cell_at, cells_at}
+use Rattle.scc_core_spec.specs.Uses.{Use, loads, inside, root_of, cells_of, is_single, is_zero, is_all, width_at, has_sort, whole_of, whole_writes, among}
+use Rattle.scc_core_spec.specs.Uses as uses
+use Rattle.scc_core_spec.specs.Flow.{CellSet, without}
+use Rattle.scc_blocks_spec.specs.Acting.{Acting, word_in, steps_in, cell_named, with_word, with_asked, picked, put_in}
+use Rattle.scc_blocks_spec.specs.Effect.{assigned}
 use Rattle.scc_core_effect_laws.specs.Sound.{AllUses, SizedUse, FixedWords, FitWords, SoundPut}
 use Rattle.scc_core_effect_laws.specs.Alike.{Both}
 use Rattle.scc_core_effect_laws.proofs.Names.{and-first, and-second, some-same, none-some, true-false, named-in, static-tells, closed-steps, has-pattern}

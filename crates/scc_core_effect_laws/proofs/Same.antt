@@ -2,17 +2,17 @@
 use Rattle.std.proofs.Common.{◌≡◌, ℕ, Bool, true, false, ◌||◌, nat_eq, List, [], ◌∷◌, ◌++◌, Option, Some, None, refl, sym, ap, ◌∙◌, arith}
 use Rattle.std.specs.Prelude.{option_map, option_and_then}
 use Rattle.std.specs.List.{list_any}
-use Rattle.scc_kinds.specs.Kinds.{width_of, number_of, stored}
+use Rattle.scc_bits_kinds.specs.Kinds.{width_of, number_of, stored}
 use Rattle.scc_bits.specs.Values.{applied}
-use Rattle.scc_kinds.specs.Bits.{part, joined}
-use Rattle.scc_meaning.specs.Value.{with_two, chosen, index_of, bit_at, with_bit}
-use Rattle.scc_meaning_core.specs.Term.{Term, Literal, Load, Read, Convert, Unary, Binary, Choose, Bit, Range, Join, Left, Cell, Prefix, Null, Follow, Member, Index, Pick, Whole, OneBit, Bits, kind_of}
-use Rattle.scc_meaning_core.specs.Static.{Cells, grown}
-use Rattle.scc_meaning_core.specs.Named.{Step, Named, At}
-use Rattle.scc_meaning_core.specs.Uses.{Use, loads, inside, cells_of, among}
-use Rattle.scc_meaning_core.specs.Uses as uses
-use Rattle.scc_meaning_core.specs.Flow.{CellSet}
-use Rattle.scc_meaning_blocks.specs.Acting.{Acting, word_in, steps_in, cell_named, word_or_zero, picked}
+use Rattle.scc_bits_kinds.specs.Bits.{part, joined}
+use Rattle.scc_semantics.specs.Scene.{with_two, chosen, index_of, bit_at, with_bit}
+use Rattle.scc_core_spec.specs.Term.{Term, Literal, Load, Read, Convert, Unary, Binary, Choose, Bit, Range, Join, Left, Cell, Prefix, Null, Follow, Member, Index, Pick, Whole, OneBit, Bits, kind_of}
+use Rattle.scc_core_spec.specs.Static.{Cells, grown}
+use Rattle.scc_core_spec.specs.Named.{Step, Named, At}
+use Rattle.scc_core_spec.specs.Uses.{Use, loads, inside, cells_of, among}
+use Rattle.scc_core_spec.specs.Uses as uses
+use Rattle.scc_core_spec.specs.Flow.{CellSet}
+use Rattle.scc_blocks_spec.specs.Acting.{Acting, word_in, steps_in, cell_named, word_or_zero, picked}
 use Rattle.scc_core_effect_laws.specs.Sound.{AllUses, SizedUse}
 use Rattle.scc_core_effect_laws.specs.Alike.{Both}
 use Rattle.scc_core_effect_laws.proofs.Names.{or-first, or-second, true-false, named-in}

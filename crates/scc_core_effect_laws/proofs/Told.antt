@@ -7,16 +7,16 @@ use Rattle.std.proofs.lemmas.Option.{slice_get-map}
 use Rattle.scc_base.specs.declared.refusal.Refusal.{Refusal}
 use Rattle.scc_base.specs.declared.code.Code.{Code as Reason}
 use Rattle.scc_base.specs.declared.code.Code.TheVariants as reason
-use Rattle.scc_meaning_core.specs.Program.{Program, Process, is_root, is_variable}
-use Rattle.scc_meaning_core.specs.Static.{Cells}
-use Rattle.scc_meaning_core.specs.Live.{live}
-use Rattle.scc_meaning_core.specs.Flow.{flow}
-use Rattle.scc_meaning_core.specs.Uses.{Act, reads_of, writes_of, has_sort, among}
-use Rattle.scc_meaning_core.specs.Clashes.{live_acts, names_of, Conflict, both_write, both_name, clash_of, first_clash, two_writers, shared_variable}
-use Rattle.scc_meaning_core.specs.First.{or_else, first_some, first_of, when, refused, refused_beside}
-use Rattle.scc_meaning_core.specs.Kept.{OneOf, written_by}
-use Rattle.scc_meaning_core.specs.Rules.{first_rule, watched, comb_state, clock_as_data, missing_sensitivity, latch, comb_loop, wait_in_method, loop_may_not_wait, end_reached, signal_index}
-use Rattle.scc_meaning_blocks.specs.Passed.{all_named}
+use Rattle.scc_core_spec.specs.Program.{Program, Process, is_root, is_variable}
+use Rattle.scc_core_spec.specs.Static.{Cells}
+use Rattle.scc_core_spec.specs.Live.{live}
+use Rattle.scc_core_spec.specs.Flow.{flow}
+use Rattle.scc_core_spec.specs.Uses.{Act, reads_of, writes_of, has_sort, among}
+use Rattle.scc_core_spec.specs.Clashes.{live_acts, names_of, Conflict, both_write, both_name, clash_of, first_clash, two_writers, shared_variable}
+use Rattle.scc_core_spec.specs.First.{or_else, first_some, first_of, when, refused, refused_beside}
+use Rattle.scc_core_spec.specs.Kept.{OneOf, written_by}
+use Rattle.scc_core_spec.specs.Rules.{first_rule, watched, comb_state, clock_as_data, missing_sensitivity, latch, comb_loop, wait_in_method, loop_may_not_wait, end_reached, signal_index}
+use Rattle.scc_blocks_spec.specs.Passed.{all_named}
 use Rattle.scc_core_effect_laws.specs.Follows.{Obeys}
 use Rattle.scc_core_effect_laws.proofs.Names.{and-both, or-left, or-right, some-same, none-some, true-false}
 use Rattle.scc_core_effect_laws.proofs.Lateness.{told, grow}

@@ -1,17 +1,17 @@
 -- A turn is alike from actings that differ only in what is read late, and moves only what its process writes.
 use Rattle.std.proofs.Common.{◌≡◌, ℕ, zero, suc, Bool, true, false, nat_eq, Option, Some, None, refl, sym, ap, ◌∙◌, arith, slice_get}
-use Rattle.scc_meaning_core.specs.Program.{Program, Process, is_root}
-use Rattle.scc_meaning_core.specs.Static.{Cells}
-use Rattle.scc_meaning_core.specs.Live.{live}
-use Rattle.scc_meaning_core.specs.Sizes.{live_body}
-use Rattle.scc_meaning_core.specs.Segments.{Segment, all_segments, segment_code}
-use Rattle.scc_meaning_core.specs.Flow.{CellSet, flow}
-use Rattle.scc_meaning_core.specs.Uses.{has_sort, among}
-use Rattle.scc_meaning_core.specs.Kept.{written_by}
-use Rattle.scc_meaning_core.specs.Source.{Home}
-use Rattle.scc_meaning_blocks.specs.Acting.{Acting}
-use Rattle.scc_meaning_blocks.specs.Effect.{Effect, Fell, Left_out, Lost, effect, Place, Ran, Waits, Ends, Fails, run_segment}
-use Rattle.scc_meaning_blocks.specs.Turns.{Left as Leaving, left_by, method_left, segment_at, ran_segment, behind_wait, thread_turn}
+use Rattle.scc_core_spec.specs.Program.{Program, Process, is_root}
+use Rattle.scc_core_spec.specs.Static.{Cells}
+use Rattle.scc_core_spec.specs.Live.{live}
+use Rattle.scc_core_spec.specs.Sizes.{live_body}
+use Rattle.scc_core_spec.specs.Segments.{Segment, all_segments, segment_code}
+use Rattle.scc_core_spec.specs.Flow.{CellSet, flow}
+use Rattle.scc_core_spec.specs.Uses.{has_sort, among}
+use Rattle.scc_core_spec.specs.Kept.{written_by}
+use Rattle.scc_core_spec.specs.Source.{Home}
+use Rattle.scc_blocks_spec.specs.Acting.{Acting}
+use Rattle.scc_blocks_spec.specs.Effect.{Effect, Fell, Left_out, Lost, effect, Place, Ran, Waits, Ends, Fails, run_segment}
+use Rattle.scc_blocks_spec.specs.Turns.{Left as Leaving, left_by, method_left, segment_at, ran_segment, behind_wait, thread_turn}
 use Rattle.scc_core_effect_laws.specs.Sound.{FitWords, FixedWords, SoundPut, SoundTest, Each}
 use Rattle.scc_core_effect_laws.specs.Alike.{Both, Alike, AlikeRan}
 use Rattle.scc_core_effect_laws.specs.Follows.{IsResolved, Obeys}

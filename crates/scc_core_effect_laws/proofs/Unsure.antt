@@ -3,23 +3,23 @@ use Rattle.std.proofs.Common.{◌≡◌, ℕ, zero, suc, Bool, true, false, not,
 use Rattle.std.specs.Prelude.{option_map, option_and_then, unwrap_or}
 use Rattle.std.specs.List.{list_any}
 use Rattle.std.proofs.lemmas.List.Folds.{list_any-append}
-use Rattle.scc_meaning_core.specs.Program as program
-use Rattle.scc_meaning_core.specs.Program.{Program, Process, Sort, Input, Output, Signal, Variable, Local, Pointer, Port, Edge, is_root, is_variable, is_local, is_number, is_combinational, is_combinational_by}
-use Rattle.scc_meaning_core.specs.Term.{Term, Left, Pick}
-use Rattle.scc_meaning_core.specs.Static.{Cells}
-use Rattle.scc_meaning_core.specs.Live.{live}
-use Rattle.scc_meaning_core.specs.Sizes.{live_body}
-use Rattle.scc_meaning_core.specs.Segments.{Segment, all_segments, segment_code}
-use Rattle.scc_meaning_core.specs.Flow.{flow}
-use Rattle.scc_meaning_core.specs.Uses.{acts, loads, inside, picked, reads_of, writes_of, has_sort, among}
-use Rattle.scc_meaning_core.specs.Clashes.{names_of}
-use Rattle.scc_meaning_core.specs.Kept.{written_by, is_local_of, is_own, is_kept, has_any}
-use Rattle.scc_meaning_core.specs.Constants.{written, constant_if}
-use Rattle.scc_meaning_core.specs.Rules.{watched}
-use Rattle.scc_meaning_core.specs.Source.{Home}
-use Rattle.scc_meaning_blocks.specs.Names.{keeps}
-use Rattle.scc_meaning_blocks.specs.Passed.{all_named}
-use Rattle.scc_meaning_blocks.specs.Turns.{constant_at, segment_at}
+use Rattle.scc_core_spec.specs.Program as program
+use Rattle.scc_core_spec.specs.Program.{Program, Process, Sort, Input, Output, Signal, Variable, Local, Pointer, Port, Edge, is_root, is_variable, is_local, is_number, is_combinational, is_combinational_by}
+use Rattle.scc_core_spec.specs.Term.{Term, Left, Pick}
+use Rattle.scc_core_spec.specs.Static.{Cells}
+use Rattle.scc_core_spec.specs.Live.{live}
+use Rattle.scc_core_spec.specs.Sizes.{live_body}
+use Rattle.scc_core_spec.specs.Segments.{Segment, all_segments, segment_code}
+use Rattle.scc_core_spec.specs.Flow.{flow}
+use Rattle.scc_core_spec.specs.Uses.{acts, loads, inside, picked, reads_of, writes_of, has_sort, among}
+use Rattle.scc_core_spec.specs.Clashes.{names_of}
+use Rattle.scc_core_spec.specs.Kept.{written_by, is_local_of, is_own, is_kept, has_any}
+use Rattle.scc_core_spec.specs.Constants.{written, constant_if}
+use Rattle.scc_core_spec.specs.Rules.{watched}
+use Rattle.scc_core_spec.specs.Source.{Home}
+use Rattle.scc_blocks_spec.specs.Names.{keeps}
+use Rattle.scc_blocks_spec.specs.Passed.{all_named}
+use Rattle.scc_blocks_spec.specs.Turns.{constant_at, segment_at}
 use Rattle.scc_core_effect_laws.specs.Alike.{Late, Unread, UnreadUses}
 use Rattle.scc_core_effect_laws.specs.Follows.{IsResolved, Obeys}
 use Rattle.scc_core_effect_laws.proofs.Names.{and-first, and-second, and-both, or-first, or-second, or-left, or-right, some-same, none-some, true-false, not-true}

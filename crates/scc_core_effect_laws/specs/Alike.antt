@@ -1,13 +1,13 @@
 -- When code does the same from two actings: they differ only in cells that are written whole before they are read. This project's own.
 use Rattle.std.specs.Prelude.{◌≡◌, ℕ, false, List, ◌++◌}
 use Rattle.std.specs.List.{list_any}
-use Rattle.scc_meaning_core.specs.Code.{Code, End, Put, Aim, If, Block, Loop, Exit, Wait}
-use Rattle.scc_meaning_core.specs.Static.{Cells}
-use Rattle.scc_meaning_core.specs.Uses.{Use, loads, inside, picked, cells_of, whole_writes, among}
-use Rattle.scc_meaning_core.specs.Flow.{CellSet, flow, either, without}
-use Rattle.scc_meaning_blocks.specs.Acting.{Acting}
-use Rattle.scc_meaning_blocks.specs.Effect.{Effect, Fell, Left_out, Lost, Ran, Waits, Ends, Fails}
-use Rattle.scc_meaning_core.specs.Segments.{Segment, Plain, Test, Halt, Finish}
+use Rattle.scc_core_spec.specs.Code.{Code, End, Put, Aim, If, Block, Loop, Exit, Wait}
+use Rattle.scc_core_spec.specs.Static.{Cells}
+use Rattle.scc_core_spec.specs.Uses.{Use, loads, inside, picked, cells_of, whole_writes, among}
+use Rattle.scc_core_spec.specs.Flow.{CellSet, flow, either, without}
+use Rattle.scc_blocks_spec.specs.Acting.{Acting}
+use Rattle.scc_blocks_spec.specs.Effect.{Effect, Fell, Left_out, Lost, Ran, Waits, Ends, Fails}
+use Rattle.scc_core_spec.specs.Segments.{Segment, Plain, Test, Halt, Finish}
 use Rattle.scc_core_effect_laws.specs.Sound.{AllUses, FitWords, FixedWords, Each}
 
 -- Two actings of which the same was asked, and that hold the same but in these cells; the words of both fit, and fixed ones hold what they have for good.

@@ -1,26 +1,26 @@
 -- What the steps of a core's design and those of its registers rest on: that its names are apart, what the rules tell, and that its processes do what their effects and
 -- segments say. This project's own.
 use Rattle.std.specs.Prelude.{◌≡◌, ◌<◌, ℕ, suc, Bool, true, false, nat_eq, Option, Some, None, slice_get, is_some, unwrap_or, if◌then◌else◌}
-use Rattle.scc_meaning.specs.Location.{Location, same}
-use Rattle.scc_meaning.specs.Store.{updated}
-use Rattle.scc_running.specs.Design.{Design}
-use Rattle.scc_running.specs.Value.{Held}
-use Rattle.scc_running.specs.Machine.{Frames, Suspended, Ended, run}
-use Rattle.scc_running.specs.Process.{State, Well, settle}
-use Rattle.scc_meaning_core.specs.Program.{Program, Process, Cell, Edge, Reset, is_root, is_variable, is_local, is_number, is_pointer}
-use Rattle.scc_meaning_core.specs.Static.{fixed_word}
-use Rattle.scc_meaning_core.specs.Live.{live}
-use Rattle.scc_meaning_core.specs.Uses.{among, has_sort}
-use Rattle.scc_meaning_core.specs.Kept.{written_by, is_local_of}
-use Rattle.scc_meaning_core.specs.Constants.{written, constants_of}
-use Rattle.scc_meaning_core.specs.Rules.{watched}
-use Rattle.scc_meaning_core.specs.Source.{Home, cell_location, source_of}
-use Rattle.scc_meaning_blocks.specs.Acting.{Acting}
-use Rattle.scc_meaning_blocks.specs.Effect.{Place, effect, Fell}
-use Rattle.scc_meaning_blocks.specs.Places.{frames_at}
-use Rattle.scc_meaning_blocks.specs.Passed.{all_named}
-use Rattle.scc_meaning_blocks.specs.Tied.{Tied, own_names, first_frames}
-use Rattle.scc_meaning_blocks.specs.Turns.{Regs, thread_turn, ran_segment, segment_at}
+use Rattle.scc_semantics.specs.Location.{Location, same}
+use Rattle.scc_semantics.specs.Store.{updated}
+use Rattle.scc_semantics.specs.Design.{Design}
+use Rattle.scc_semantics.specs.Value.{Held}
+use Rattle.scc_semantics.specs.Machine.{Frames, Suspended, Ended, run}
+use Rattle.scc_semantics.specs.Process.{State, Well, settle}
+use Rattle.scc_core_spec.specs.Program.{Program, Process, Cell, Edge, Reset, is_root, is_variable, is_local, is_number, is_pointer}
+use Rattle.scc_core_spec.specs.Static.{fixed_word}
+use Rattle.scc_core_spec.specs.Live.{live}
+use Rattle.scc_core_spec.specs.Uses.{among, has_sort}
+use Rattle.scc_core_spec.specs.Kept.{written_by, is_local_of}
+use Rattle.scc_core_spec.specs.Constants.{written, constants_of}
+use Rattle.scc_core_spec.specs.Rules.{watched}
+use Rattle.scc_core_spec.specs.Source.{Home, cell_location, source_of}
+use Rattle.scc_blocks_spec.specs.Acting.{Acting}
+use Rattle.scc_blocks_spec.specs.Effect.{Place, effect, Fell}
+use Rattle.scc_blocks_spec.specs.Places.{frames_at}
+use Rattle.scc_blocks_spec.specs.Passed.{all_named}
+use Rattle.scc_blocks_spec.specs.Tied.{Tied, own_names, first_frames}
+use Rattle.scc_blocks_spec.specs.Turns.{Regs, thread_turn, ran_segment, segment_at}
 use Rattle.scc_core_effect_laws.specs.Sound.{FitWords, FixedWords, Sound}
 use Rattle.scc_core_effect_laws.specs.Alike.{Late}
 
@@ -65,7 +65,7 @@ pub record Leaves (home : Home) (p : Program) (old new : Held) (a : Acting) : Ty
 abbrev pub design_of : Home → Program → Design
 design_of home p = source_of home p (constants_of home p)
 
-abbrev pub runs : Home → Program → (Location → ℕ) → ℕ → Frames → Held → Rattle.scc_running.specs.Machine.Outcome
+abbrev pub runs : Home → Program → (Location → ℕ) → ℕ → Frames → Held → Rattle.scc_semantics.specs.Machine.Outcome
 runs home p signals n f h = run (design_of home p).places (design_of home p).functions signals n f h
 
 -- A method's run is the effect of its live body, within these bounds.

@@ -1,18 +1,18 @@
 -- When combinational methods settle: they have an order, miss no root that they write, and name a root alone. This project's own.
 use Rattle.std.specs.Prelude.{◌≡◌, ◌≤◌, ℕ, true, false, List, length, filter, slice_get, Some}
-use Rattle.scc_meaning_core.specs.Term.{Term, Left, Pick}
-use Rattle.scc_meaning_core.specs.Program.{Program, Process, Cell, is_root, is_held, is_combinational}
-use Rattle.scc_meaning_core.specs.Static.{Cells}
-use Rattle.scc_meaning_core.specs.Live.{live}
-use Rattle.scc_meaning_core.specs.Flow.{flow, every}
-use Rattle.scc_meaning_core.specs.Feeding.{feeds, IsOrder}
-use Rattle.scc_meaning_core.specs.Uses.{cells_of, is_single, has_sort, among}
-use Rattle.scc_meaning_core.specs.Kept.{written_by}
-use Rattle.scc_meaning_blocks.specs.Names.{holds_word}
-use Rattle.scc_meaning_blocks.specs.Passed.{all_reads}
-use Rattle.scc_meaning_blocks.specs.Acting.{Acting}
-use Rattle.scc_meaning_blocks.specs.Effect.{effect, Fell}
-use Rattle.scc_meaning_blocks.specs.Turns.{Regs, acted, found}
+use Rattle.scc_core_spec.specs.Term.{Term, Left, Pick}
+use Rattle.scc_core_spec.specs.Program.{Program, Process, Cell, is_root, is_held, is_combinational}
+use Rattle.scc_core_spec.specs.Static.{Cells}
+use Rattle.scc_core_spec.specs.Live.{live}
+use Rattle.scc_core_spec.specs.Flow.{flow, every}
+use Rattle.scc_core_spec.specs.Feeding.{feeds, IsOrder}
+use Rattle.scc_core_spec.specs.Uses.{cells_of, is_single, has_sort, among}
+use Rattle.scc_core_spec.specs.Kept.{written_by}
+use Rattle.scc_blocks_spec.specs.Names.{holds_word}
+use Rattle.scc_blocks_spec.specs.Passed.{all_reads}
+use Rattle.scc_blocks_spec.specs.Acting.{Acting}
+use Rattle.scc_blocks_spec.specs.Effect.{effect, Fell}
+use Rattle.scc_blocks_spec.specs.Turns.{Regs, acted, found}
 use Rattle.scc_core_effect_laws.specs.Sound.{SoundPut, Each, FitWords, FixedWords}
 
 -- sound, and a root that it names it names alone

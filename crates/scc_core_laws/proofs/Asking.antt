@@ -2,23 +2,23 @@
 use Rattle.std.proofs.Common.{◌≡◌, ℕ, Bool, true, false, not, ◌&&◌, ◌||◌, nat_eq, List, [], ◌∷◌, ◌++◌, flat_map, Option, Some, None, refl, sym, ap, ◌∙◌, subst, subst₂, if◌then◌else◌, slice_get, is_some, ◌⊎◌, inl, inr}
 use Rattle.std.specs.Prelude.{option_map, unwrap_or}
 use Rattle.std.proofs.lemmas.List.Folds.{list_any-append}
-use Rattle.scc_running.specs.Process.{State, Phase}
-use Rattle.scc_meaning_core.specs.Code.{Code, End, Put, Aim, If, Block, Loop, Exit, Wait}
-use Rattle.scc_meaning_core.specs.Program as program
-use Rattle.scc_meaning_core.specs.Program.{Program, Process, Edge, is_root, is_variable, is_local, is_number, is_held, is_combinational, is_combinational_by}
-use Rattle.scc_meaning_core.specs.Static.{Cells}
-use Rattle.scc_meaning_core.specs.Live.{live}
-use Rattle.scc_meaning_core.specs.Flow.{CellSet, flow, every}
-use Rattle.scc_meaning_core.specs.Uses.{Use, Act, acts, loads, inside, cells_of, reads_of, writes_of, has_sort, among}
-use Rattle.scc_meaning_core.specs.Uses as uses
-use Rattle.scc_meaning_core.specs.Clashes.{names_of}
-use Rattle.scc_meaning_core.specs.Kept.{written_by, is_kept}
-use Rattle.scc_meaning_core.specs.Source.{Home}
-use Rattle.scc_meaning_blocks.specs.Acting.{Acting, latest}
-use Rattle.scc_meaning_blocks.specs.Effect.{Effect, Fell, Left_out, Lost, effect}
-use Rattle.scc_meaning_blocks.specs.Passed.{all_reads, all_named}
-use Rattle.scc_meaning_blocks.specs.Turns.{Regs, Taking, Left as Leaving, constant_at, lasts, found, is_clocked, method_left, thread_turn, turn, reset_at}
-use Rattle.scc_meaning_blocks.specs.Tied.{Tied}
+use Rattle.scc_semantics.specs.Process.{State, Phase}
+use Rattle.scc_core_spec.specs.Code.{Code, End, Put, Aim, If, Block, Loop, Exit, Wait}
+use Rattle.scc_core_spec.specs.Program as program
+use Rattle.scc_core_spec.specs.Program.{Program, Process, Edge, is_root, is_variable, is_local, is_number, is_held, is_combinational, is_combinational_by}
+use Rattle.scc_core_spec.specs.Static.{Cells}
+use Rattle.scc_core_spec.specs.Live.{live}
+use Rattle.scc_core_spec.specs.Flow.{CellSet, flow, every}
+use Rattle.scc_core_spec.specs.Uses.{Use, Act, acts, loads, inside, cells_of, reads_of, writes_of, has_sort, among}
+use Rattle.scc_core_spec.specs.Uses as uses
+use Rattle.scc_core_spec.specs.Clashes.{names_of}
+use Rattle.scc_core_spec.specs.Kept.{written_by, is_kept}
+use Rattle.scc_core_spec.specs.Source.{Home}
+use Rattle.scc_blocks_spec.specs.Acting.{Acting, latest}
+use Rattle.scc_blocks_spec.specs.Effect.{Effect, Fell, Left_out, Lost, effect}
+use Rattle.scc_blocks_spec.specs.Passed.{all_reads, all_named}
+use Rattle.scc_blocks_spec.specs.Turns.{Regs, Taking, Left as Leaving, constant_at, lasts, found, is_clocked, method_left, thread_turn, turn, reset_at}
+use Rattle.scc_blocks_spec.specs.Tied.{Tied}
 use Rattle.scc_core_effect_laws.specs.Sound.{SoundPut, SoundTest, Each, FitWords, FixedWords}
 use Rattle.scc_core_effect_laws.specs.Alike.{Both, Alike, Unseen}
 use Rattle.scc_core_effect_laws.specs.Follows.{IsResolved, Obeys, Does, Tracks}

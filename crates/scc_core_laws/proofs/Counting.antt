@@ -1,21 +1,21 @@
 -- A thread behind a wait that isn't over only counts.
 use Rattle.std.proofs.Common.{◌≡◌, ℕ, zero, suc, ◌<◌, Bool, true, false, List, [], ◌∷◌, ◌++◌, Option, Some, None, refl, sym, ap, ◌∙◌, subst, arith, if◌then◌else◌, slice_get}
 use Rattle.std.specs.Prelude.{option_map, unwrap_or}
-use Rattle.scc_meaning.specs.Location.{Location}
-use Rattle.scc_meaning.specs.Store.{updated}
-use Rattle.scc_meaning.specs.Value.{Names}
-use Rattle.scc_running.specs.Value.{Held}
-use Rattle.scc_running.specs.Body as machine
-use Rattle.scc_running.specs.Machine.{Frames, Stop, Go, Inner, BehindBlock, BehindCall, Suspended, waiting}
-use Rattle.scc_meaning_core.specs.Code.{Code, End, Put, Aim, If, Block, Loop, Exit, Wait}
-use Rattle.scc_meaning_core.specs.Program.{Program, Process}
-use Rattle.scc_meaning_core.specs.Static.{Cells, goes}
-use Rattle.scc_meaning_core.specs.Source.{Home, body_of, cell_location}
-use Rattle.scc_meaning_blocks.specs.Acting.{Acting}
-use Rattle.scc_meaning_blocks.specs.Effect.{Place}
-use Rattle.scc_meaning_blocks.specs.Places.{live_ways, if_ends, ends_of, rest_of, behind_waits}
-use Rattle.scc_meaning_blocks.specs.Tied.{own_names, first_frames}
-use Rattle.scc_meaning_blocks.specs.Turns.{thread_turn, behind_wait}
+use Rattle.scc_semantics.specs.Location.{Location}
+use Rattle.scc_semantics.specs.Store.{updated}
+use Rattle.scc_semantics.specs.Scene.{Names}
+use Rattle.scc_semantics.specs.Value.{Held}
+use Rattle.scc_semantics.specs.Body as machine
+use Rattle.scc_semantics.specs.Machine.{Frames, Stop, Go, Inner, BehindBlock, BehindCall, Suspended, waiting}
+use Rattle.scc_core_spec.specs.Code.{Code, End, Put, Aim, If, Block, Loop, Exit, Wait}
+use Rattle.scc_core_spec.specs.Program.{Program, Process}
+use Rattle.scc_core_spec.specs.Static.{Cells, goes}
+use Rattle.scc_core_spec.specs.Source.{Home, body_of, cell_location}
+use Rattle.scc_blocks_spec.specs.Acting.{Acting}
+use Rattle.scc_blocks_spec.specs.Effect.{Place}
+use Rattle.scc_blocks_spec.specs.Places.{live_ways, if_ends, ends_of, rest_of, behind_waits}
+use Rattle.scc_blocks_spec.specs.Tied.{own_names, first_frames}
+use Rattle.scc_blocks_spec.specs.Turns.{thread_turn, behind_wait}
 use Rattle.scc_core_effect_laws.specs.Follows.{Meets, Leaves, Tracks, RunsSegments, StandsAt, runs}
 use Rattle.scc_core_effect_laws.proofs.Names.{some-same, none-some, map-is}
 

@@ -1,21 +1,21 @@
 -- In the middle of a phase a process finds in the store what it finds in the registers, but for what it reads late.
 use Rattle.std.proofs.Common.{◌≡◌, ℕ, zero, suc, ◌+◌, ◌<◌, ◌≤◌, ◌^◌, pow_pos, Bool, true, false, not, ◌&&◌, ◌||◌, List, [], ◌∷◌, Option, Some, None, refl, sym, ap, ◌∙◌, subst, arith, if◌then◌else◌, slice_get, is_some, ◌⊎◌, inl, inr}
 use Rattle.std.specs.Prelude.{option_and_then, unwrap_or}
-use Rattle.scc_kinds.specs.Kinds.{width_of}
-use Rattle.scc_meaning.specs.Location.{Location}
-use Rattle.scc_meaning.specs.Store.{updated}
-use Rattle.scc_running.specs.Process.{State, Phase}
-use Rattle.scc_meaning_core.specs.Program as program
-use Rattle.scc_meaning_core.specs.Program.{Program, Process, Sort, Input, Output, Signal, Variable, Local, Pointer, Port, Edge, is_root, is_variable, is_local, is_number, is_held}
-use Rattle.scc_meaning_core.specs.Static.{Cells, fixed_word}
-use Rattle.scc_meaning_core.specs.Uses.{has_sort, among}
-use Rattle.scc_meaning_core.specs.Kept.{written_by, is_local_of, is_own, is_kept}
-use Rattle.scc_meaning_core.specs.Constants.{written, constant_if}
-use Rattle.scc_meaning_core.specs.Source.{Home, cell_location}
-use Rattle.scc_meaning_blocks.specs.Acting.{Acting, calm}
-use Rattle.scc_meaning_blocks.specs.Names.{keeps, kept_from}
-use Rattle.scc_meaning_blocks.specs.Turns.{Regs, Taking, constant_at, lasts, found, is_clocked}
-use Rattle.scc_meaning_blocks.specs.Tied.{Tied}
+use Rattle.scc_bits_kinds.specs.Kinds.{width_of}
+use Rattle.scc_semantics.specs.Location.{Location}
+use Rattle.scc_semantics.specs.Store.{updated}
+use Rattle.scc_semantics.specs.Process.{State, Phase}
+use Rattle.scc_core_spec.specs.Program as program
+use Rattle.scc_core_spec.specs.Program.{Program, Process, Sort, Input, Output, Signal, Variable, Local, Pointer, Port, Edge, is_root, is_variable, is_local, is_number, is_held}
+use Rattle.scc_core_spec.specs.Static.{Cells, fixed_word}
+use Rattle.scc_core_spec.specs.Uses.{has_sort, among}
+use Rattle.scc_core_spec.specs.Kept.{written_by, is_local_of, is_own, is_kept}
+use Rattle.scc_core_spec.specs.Constants.{written, constant_if}
+use Rattle.scc_core_spec.specs.Source.{Home, cell_location}
+use Rattle.scc_blocks_spec.specs.Acting.{Acting, calm}
+use Rattle.scc_blocks_spec.specs.Names.{keeps, kept_from}
+use Rattle.scc_blocks_spec.specs.Turns.{Regs, Taking, constant_at, lasts, found, is_clocked}
+use Rattle.scc_blocks_spec.specs.Tied.{Tied}
 use Rattle.scc_core_effect_laws.specs.Sound.{FitWords}
 use Rattle.scc_core_effect_laws.specs.Alike.{Both}
 use Rattle.scc_core_effect_laws.specs.Follows.{IsResolved, Obeys, Meets}

@@ -1,16 +1,16 @@
 -- Of registers that are tied and settled there is one to the same inputs.
 use Rattle.std.proofs.Common.{◌≡◌, ℕ, Bool, true, false, not, ◌||◌, nat_eq, List, [], ◌∷◌, ◌++◌, Some, refl, sym, ap, ◌∙◌, arith, slice_get, ◌⊎◌, inl, inr}
 use Rattle.std.proofs.lemmas.List.Folds.{list_any-append}
-use Rattle.scc_meaning_core.specs.Program as program
-use Rattle.scc_meaning_core.specs.Program.{Program, Process, is_root, is_combinational}
-use Rattle.scc_meaning_core.specs.Static.{Cells}
-use Rattle.scc_meaning_core.specs.Uses.{has_sort, among}
-use Rattle.scc_meaning_core.specs.Kept.{written_by}
-use Rattle.scc_meaning_core.specs.Feeding.{methods, feeds, ready, IsOrderFrom, done, next}
-use Rattle.scc_meaning_core.specs.Source.{Home}
-use Rattle.scc_meaning_blocks.specs.Names.{holds_word}
-use Rattle.scc_meaning_blocks.specs.Passed.{all_reads}
-use Rattle.scc_meaning_blocks.specs.Turns.{Regs}
+use Rattle.scc_core_spec.specs.Program as program
+use Rattle.scc_core_spec.specs.Program.{Program, Process, is_root, is_combinational}
+use Rattle.scc_core_spec.specs.Static.{Cells}
+use Rattle.scc_core_spec.specs.Uses.{has_sort, among}
+use Rattle.scc_core_spec.specs.Kept.{written_by}
+use Rattle.scc_core_spec.specs.Feeding.{methods, feeds, ready, IsOrderFrom, done, next}
+use Rattle.scc_core_spec.specs.Source.{Home}
+use Rattle.scc_blocks_spec.specs.Names.{holds_word}
+use Rattle.scc_blocks_spec.specs.Passed.{all_reads}
+use Rattle.scc_blocks_spec.specs.Turns.{Regs}
 use Rattle.scc_core_effect_laws.specs.Follows.{IsResolved, Obeys, Does, Tracks}
 use Rattle.scc_core_effect_laws.specs.Ordering.{IsOrdered, Answers, IsSettled, SameInputs}
 use Rattle.scc_core_effect_laws.proofs.Names.{and-second, or-left, true-false}

@@ -4,19 +4,19 @@ use Rattle.std.specs.Prelude.{option_map, unwrap_or, is_some}
 use Rattle.std.specs.List.{list_all, range_with_len}
 use Rattle.std.proofs.lemmas.List.Folds.{list_any-append}
 use Rattle.std.proofs.lemmas.Option.{slice_get_within}
-use Rattle.scc_running.specs.Process.{State}
-use Rattle.scc_running.specs.Process as process
-use Rattle.scc_meaning_core.specs.Program as program
-use Rattle.scc_meaning_core.specs.Program.{Program, Process, Edge, is_root, is_number, is_held, is_combinational, is_combinational_by}
-use Rattle.scc_meaning_core.specs.Static.{Cells}
-use Rattle.scc_meaning_core.specs.Uses.{has_sort, among}
-use Rattle.scc_meaning_core.specs.Kept.{written_by}
-use Rattle.scc_meaning_core.specs.Feeding.{reads_in, writes_in, is_method, methods, feeds, ready, IsOrderFrom, done, next}
-use Rattle.scc_meaning_core.specs.Source.{Home}
-use Rattle.scc_meaning_blocks.specs.Acting.{latest}
-use Rattle.scc_meaning_blocks.specs.Passed.{all_reads}
-use Rattle.scc_meaning_blocks.specs.Turns.{Regs, Taking, turn, taken_from, acted, rounds, settled}
-use Rattle.scc_meaning_blocks.specs.Tied.{Tied}
+use Rattle.scc_semantics.specs.Process.{State}
+use Rattle.scc_semantics.specs.Process as process
+use Rattle.scc_core_spec.specs.Program as program
+use Rattle.scc_core_spec.specs.Program.{Program, Process, Edge, is_root, is_number, is_held, is_combinational, is_combinational_by}
+use Rattle.scc_core_spec.specs.Static.{Cells}
+use Rattle.scc_core_spec.specs.Uses.{has_sort, among}
+use Rattle.scc_core_spec.specs.Kept.{written_by}
+use Rattle.scc_core_spec.specs.Feeding.{reads_in, writes_in, is_method, methods, feeds, ready, IsOrderFrom, done, next}
+use Rattle.scc_core_spec.specs.Source.{Home}
+use Rattle.scc_blocks_spec.specs.Acting.{latest}
+use Rattle.scc_blocks_spec.specs.Passed.{all_reads}
+use Rattle.scc_blocks_spec.specs.Turns.{Regs, Taking, turn, taken_from, acted, rounds, settled}
+use Rattle.scc_blocks_spec.specs.Tied.{Tied}
 use Rattle.scc_core_effect_laws.specs.Follows.{IsResolved, Obeys, Does, Tracks}
 use Rattle.scc_core_effect_laws.specs.Ordering.{IsOrdered, IsSettled}
 use Rattle.scc_core_effect_laws.proofs.Names.{and-first, and-second, and-both, or-left, or-right, some-same, none-some, true-false}

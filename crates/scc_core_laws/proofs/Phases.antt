@@ -1,23 +1,23 @@
 -- A phase of the design is one of the registers: from tied states it goes well, and ends in tied states.
 use Rattle.std.proofs.Common.{◌≡◌, ℕ, zero, suc, ◌+◌, ◌<◌, ◌≤◌, ◌^◌, add-one, Bool, true, false, not, ◌&&◌, ◌||◌, nat_eq, List, [], ◌∷◌, length, Option, Some, None, refl, sym, ap, ◌∙◌, subst, arith, if◌then◌else◌, slice_get, is_some, ◌⊎◌, inl, inr}
 use Rattle.std.specs.Prelude.{option_map, option_and_then, unwrap_or}
-use Rattle.scc_kinds.specs.Kinds.{width_of}
-use Rattle.scc_meaning.specs.Location.{Location, same}
-use Rattle.scc_meaning.specs.Store.{Request, changed, updated}
-use Rattle.scc_running.specs.Design as running
-use Rattle.scc_running.specs.Process.{State, Phase, Well, and_then, resume, resume_all, update, phase}
-use Rattle.scc_meaning_core.specs.Program as program
-use Rattle.scc_meaning_core.specs.Program.{Program, Process, Sort, Input, Output, Signal, Variable, Local, Pointer, Port, is_root, is_variable, is_local, is_number, is_held}
-use Rattle.scc_meaning_core.specs.Static.{Cells}
-use Rattle.scc_meaning_core.specs.Uses.{has_sort, among}
-use Rattle.scc_meaning_core.specs.Kept.{written_by, is_own, is_kept, is_local_of}
-use Rattle.scc_meaning_core.specs.Constants.{written, constant_if}
-use Rattle.scc_meaning_core.specs.Source.{Home, cell_location, processes_from}
-use Rattle.scc_meaning_blocks.specs.Acting.{latest}
-use Rattle.scc_meaning_blocks.specs.Effect.{Place}
-use Rattle.scc_meaning_blocks.specs.Names.{keeps, kept_from, is_register, holds_word}
-use Rattle.scc_meaning_blocks.specs.Turns.{Regs, Taking, Left, constant_at, lasts, found, turn, taken_from, place_from, acted}
-use Rattle.scc_meaning_blocks.specs.Tied.{Tied}
+use Rattle.scc_bits_kinds.specs.Kinds.{width_of}
+use Rattle.scc_semantics.specs.Location.{Location, same}
+use Rattle.scc_semantics.specs.Store.{Request, changed, updated}
+use Rattle.scc_semantics.specs.Design as running
+use Rattle.scc_semantics.specs.Process.{State, Phase, Well, and_then, resume, resume_all, update, phase}
+use Rattle.scc_core_spec.specs.Program as program
+use Rattle.scc_core_spec.specs.Program.{Program, Process, Sort, Input, Output, Signal, Variable, Local, Pointer, Port, is_root, is_variable, is_local, is_number, is_held}
+use Rattle.scc_core_spec.specs.Static.{Cells}
+use Rattle.scc_core_spec.specs.Uses.{has_sort, among}
+use Rattle.scc_core_spec.specs.Kept.{written_by, is_own, is_kept, is_local_of}
+use Rattle.scc_core_spec.specs.Constants.{written, constant_if}
+use Rattle.scc_core_spec.specs.Source.{Home, cell_location, processes_from}
+use Rattle.scc_blocks_spec.specs.Acting.{latest}
+use Rattle.scc_blocks_spec.specs.Effect.{Place}
+use Rattle.scc_blocks_spec.specs.Names.{keeps, kept_from, is_register, holds_word}
+use Rattle.scc_blocks_spec.specs.Turns.{Regs, Taking, Left, constant_at, lasts, found, turn, taken_from, place_from, acted}
+use Rattle.scc_blocks_spec.specs.Tied.{Tied}
 use Rattle.scc_core_effect_laws.specs.Follows.{IsResolved, Obeys, Does, Tracks, StandsAt, design_of}
 use Rattle.scc_core_effect_laws.proofs.Names.{and-first, and-second, or-left, or-right, some-same, none-some, true-false}
 use Rattle.scc_core_effect_laws.proofs.Unsure.{flat-has, is-false, has-sort, number-no-root}

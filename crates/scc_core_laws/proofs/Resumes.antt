@@ -1,26 +1,26 @@
 -- A process that resumes in the middle of a phase leaves what its turn leaves.
 use Rattle.std.proofs.Common.{◌≡◌, ℕ, ◌<◌, ◌^◌, Bool, true, false, not, ◌&&◌, ◌||◌, nat_eq, [], Option, Some, None, refl, sym, ap, ◌∙◌, subst, arith, if◌then◌else◌, slice_get, is_some, ◌⊎◌, inl, inr}
 use Rattle.std.specs.Prelude.{option_map, unwrap_or}
-use Rattle.scc_kinds.specs.Kinds.{width_of}
-use Rattle.scc_meaning.specs.Location.{Location}
-use Rattle.scc_meaning.specs.Store.{updated}
-use Rattle.scc_running.specs.Value.{Held}
-use Rattle.scc_running.specs.Machine.{Frames, Stop, Suspended}
-use Rattle.scc_running.specs.Design as running
-use Rattle.scc_running.specs.Process.{State, Phase, Went, Well, is_reset, resumed_frames, framed, resume}
-use Rattle.scc_running.specs.Process as process
-use Rattle.scc_meaning_core.specs.Program as program
-use Rattle.scc_meaning_core.specs.Program.{Program, Process, Edge, Reset, is_root, is_variable, is_local, is_number, is_held}
-use Rattle.scc_meaning_core.specs.Static.{Cells}
-use Rattle.scc_meaning_core.specs.Live.{live}
-use Rattle.scc_meaning_core.specs.Uses.{has_sort, among}
-use Rattle.scc_meaning_core.specs.Kept.{written_by}
-use Rattle.scc_meaning_core.specs.Source.{Home, at_top, cell_location, body_of, reset_at, sort_of}
-use Rattle.scc_meaning_blocks.specs.Acting.{Acting, latest}
-use Rattle.scc_meaning_blocks.specs.Effect.{effect, Place}
-use Rattle.scc_meaning_blocks.specs.Turns.{Regs, Taking, Left, found, turn, method_left, thread_turn}
-use Rattle.scc_meaning_blocks.specs.Turns as turns
-use Rattle.scc_meaning_blocks.specs.Tied.{Tied, first_frames}
+use Rattle.scc_bits_kinds.specs.Kinds.{width_of}
+use Rattle.scc_semantics.specs.Location.{Location}
+use Rattle.scc_semantics.specs.Store.{updated}
+use Rattle.scc_semantics.specs.Value.{Held}
+use Rattle.scc_semantics.specs.Machine.{Frames, Stop, Suspended}
+use Rattle.scc_semantics.specs.Design as running
+use Rattle.scc_semantics.specs.Process.{State, Phase, Went, Well, is_reset, resumed_frames, framed, resume}
+use Rattle.scc_semantics.specs.Process as process
+use Rattle.scc_core_spec.specs.Program as program
+use Rattle.scc_core_spec.specs.Program.{Program, Process, Edge, Reset, is_root, is_variable, is_local, is_number, is_held}
+use Rattle.scc_core_spec.specs.Static.{Cells}
+use Rattle.scc_core_spec.specs.Live.{live}
+use Rattle.scc_core_spec.specs.Uses.{has_sort, among}
+use Rattle.scc_core_spec.specs.Kept.{written_by}
+use Rattle.scc_core_spec.specs.Source.{Home, at_top, cell_location, body_of, reset_at, sort_of}
+use Rattle.scc_blocks_spec.specs.Acting.{Acting, latest}
+use Rattle.scc_blocks_spec.specs.Effect.{effect, Place}
+use Rattle.scc_blocks_spec.specs.Turns.{Regs, Taking, Left, found, turn, method_left, thread_turn}
+use Rattle.scc_blocks_spec.specs.Turns as turns
+use Rattle.scc_blocks_spec.specs.Tied.{Tied, first_frames}
 use Rattle.scc_core_effect_laws.specs.Sound.{FitWords}
 use Rattle.scc_core_effect_laws.specs.Alike.{Both}
 use Rattle.scc_core_effect_laws.specs.Follows.{IsResolved, Obeys, Meets, Leaves, Does, Tracks, StandsAt, design_of, runs}

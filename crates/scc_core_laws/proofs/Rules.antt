@@ -5,18 +5,18 @@ use Rattle.std.specs.List.{list_any}
 use Rattle.scc_base.specs.declared.refusal.Place.{Place}
 use Rattle.scc_base.specs.declared.refusal.Refusal.{Refusal}
 use Rattle.scc_base.specs.declared.code.Code.TheVariants as reason
-use Rattle.scc_meaning_core.specs.Term.{Term, Left, Pick, place_at}
-use Rattle.scc_meaning_core.specs.Code.{Code, End, Put, Aim, If, Block, Loop, Exit, Wait, append}
-use Rattle.scc_meaning_core.specs.Program.{Program, Process, is_root, is_combinational}
-use Rattle.scc_meaning_core.specs.Static.{Cells, goes}
-use Rattle.scc_meaning_core.specs.Live.{Alive, alive, live, then_alive, by_test, looped}
-use Rattle.scc_meaning_core.specs.Flow.{flow, every}
-use Rattle.scc_meaning_core.specs.Uses.{Use, loads, inside, picked, writes_of, cells_of, is_single, has_sort, among}
-use Rattle.scc_meaning_core.specs.Clashes.{live_acts, two_writers, shared_variable}
-use Rattle.scc_meaning_core.specs.Feeding.{is_method, methods, feeds, reaches, reaches_in}
-use Rattle.scc_meaning_core.specs.First.{or_else, first_some, first_of, when, refused, refused_beside}
-use Rattle.scc_meaning_core.specs.Kept.{OneOf, written_by}
-use Rattle.scc_meaning_core.specs.Rules.{first_rule, clock_as_data, missing_sensitivity, latch, comb_loop, place_in, comb_state, wait_in_method, loop_may_not_wait, end_reached, chosen_root, own_uses, signal_index}
+use Rattle.scc_core_spec.specs.Term.{Term, Left, Pick, place_at}
+use Rattle.scc_core_spec.specs.Code.{Code, End, Put, Aim, If, Block, Loop, Exit, Wait, append}
+use Rattle.scc_core_spec.specs.Program.{Program, Process, is_root, is_combinational}
+use Rattle.scc_core_spec.specs.Static.{Cells, goes}
+use Rattle.scc_core_spec.specs.Live.{Alive, alive, live, then_alive, by_test, looped}
+use Rattle.scc_core_spec.specs.Flow.{flow, every}
+use Rattle.scc_core_spec.specs.Uses.{Use, loads, inside, picked, writes_of, cells_of, is_single, has_sort, among}
+use Rattle.scc_core_spec.specs.Clashes.{live_acts, two_writers, shared_variable}
+use Rattle.scc_core_spec.specs.Feeding.{is_method, methods, feeds, reaches, reaches_in}
+use Rattle.scc_core_spec.specs.First.{or_else, first_some, first_of, when, refused, refused_beside}
+use Rattle.scc_core_spec.specs.Kept.{OneOf, written_by}
+use Rattle.scc_core_spec.specs.Rules.{first_rule, clock_as_data, missing_sensitivity, latch, comb_loop, place_in, comb_state, wait_in_method, loop_may_not_wait, end_reached, chosen_root, own_uses, signal_index}
 use Rattle.scc_core_effect_laws.specs.Sound.{Each, SoundPut, SoundTest}
 use Rattle.scc_core_effect_laws.specs.Ordering.{Alone, AnyTest}
 use Rattle.scc_core_effect_laws.proofs.Names.{and-first, and-both, or-left, none-some, true-false}
@@ -51,7 +51,7 @@ module _ (P : Left → Pick → Term → Type 0) where
   live-each cs (Aim p to t r) h = live-each cs r h
   live-each cs (If p t a b r) h =
       then-each (by_test (goes cs t) p t (alive cs a) (alive cs b)).ends (by_test (goes cs t) p t (alive cs a) (alive cs b)) (alive cs r) (test-each (goes cs t) p t (alive cs a) (alive cs b) (live-each cs a h.1) (live-each cs b h.2)) (live-each cs r h.3)
-  live-each cs (Block p b r) h = then-each _ (Rattle.scc_meaning_core.specs.Live.shut p (alive cs b)) (alive cs r) (live-each cs b h.0, tt) (live-each cs r h.1)
+  live-each cs (Block p b r) h = then-each _ (Rattle.scc_core_spec.specs.Live.shut p (alive cs b)) (alive cs r) (live-each cs b h.0, tt) (live-each cs r h.1)
   live-each cs (Loop p n b r) h = by (alive cs b).ends (live-each cs b h.0)
     where
       by : (t : Bool) → Each P AnyTest (alive cs b).code → Each P AnyTest (looped t p n (alive cs b)).code

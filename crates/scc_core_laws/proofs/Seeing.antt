@@ -2,17 +2,17 @@
 use Rattle.std.proofs.Common.{◌≡◌, ℕ, zero, suc, ◌+◌, Bool, true, false, not, ◌&&◌, nat_eq, cond, find, filter, filter_map, List, [], ◌∷◌, map, Option, Some, None, refl, sym, ap, ◌∙◌, arith, if◌then◌else◌, slice_get}
 use Rattle.std.specs.Prelude.{option_and_then}
 use Rattle.std.specs.List.{cons_option}
-use Rattle.scc_meaning.specs.Location.{Location, Part, Member, Element, Root, Top, Local as OfProcess, Answer, same_part, same_path, same_calls, same_root, same}
-use Rattle.scc_running.specs.Design as running
-use Rattle.scc_running.specs.Design.{TopPort, outputs, locations}
-use Rattle.scc_running.specs.Process.{State}
-use Rattle.scc_running.specs.Run.{word_at, observed}
-use Rattle.scc_meaning_core.specs.Program as program
-use Rattle.scc_meaning_core.specs.Program.{Program, Process, Sort, Input, Output, Signal, Variable, Local, Pointer, Port, is_root, is_number, is_held, is_pointer, is_input, is_output}
-use Rattle.scc_meaning_core.specs.Static.{Cells}
-use Rattle.scc_meaning_core.specs.Source.{Home, cell_location, thing_of, cell_there, port_of}
-use Rattle.scc_meaning_blocks.specs.Turns.{Regs}
-use Rattle.scc_meaning_blocks.specs.Tied.{Tied}
+use Rattle.scc_semantics.specs.Location.{Location, Part, Member, Element, Root, Top, Local as OfProcess, Answer, same_part, same_path, same_calls, same_root, same}
+use Rattle.scc_semantics.specs.Design as running
+use Rattle.scc_semantics.specs.Design.{TopPort, outputs, locations}
+use Rattle.scc_semantics.specs.Process.{State}
+use Rattle.scc_semantics.specs.Run.{word_at, observed}
+use Rattle.scc_core_spec.specs.Program as program
+use Rattle.scc_core_spec.specs.Program.{Program, Process, Sort, Input, Output, Signal, Variable, Local, Pointer, Port, is_root, is_number, is_held, is_pointer, is_input, is_output}
+use Rattle.scc_core_spec.specs.Static.{Cells}
+use Rattle.scc_core_spec.specs.Source.{Home, cell_location, thing_of, cell_there, port_of}
+use Rattle.scc_blocks_spec.specs.Turns.{Regs}
+use Rattle.scc_blocks_spec.specs.Tied.{Tied}
 use Rattle.scc_core_effect_laws.specs.Follows.{IsResolved, design_of}
 use Rattle.scc_core_laws.specs.Stepped.{Sees, outputs_from}
 use Rattle.scc_core_effect_laws.proofs.Names.{and-both, and-first, and-second, or-left, some-same, none-some, true-false, not-true}

@@ -2,23 +2,23 @@
 use Rattle.std.proofs.Common.{◌≡◌, ℕ, zero, suc, ◌+◌, ◌<◌, ◌^◌, Bool, true, false, ◌&&◌, nat_eq, cond, filter, length, List, [], ◌∷◌, Option, Some, None, refl, sym, ap, ◌∙◌, subst, arith, if◌then◌else◌, slice_get, is_some}
 use Rattle.std.specs.Prelude.{option_map, option_and_then, unwrap_or}
 use Rattle.std.specs.List.{list_any}
-use Rattle.scc_kinds.specs.Kinds.{width_of}
-use Rattle.scc_meaning.specs.Location.{Location, same}
-use Rattle.scc_meaning.specs.Design as design
-use Rattle.scc_running.specs.Design as running
-use Rattle.scc_running.specs.Process.{State, Went, Well, and_then, is_active, phase}
-use Rattle.scc_running.specs.Process as process
-use Rattle.scc_running.specs.Run.{set_inputs, restarts, restarts_by, has_edge, resumes_at}
-use Rattle.scc_running.specs.Run as run
-use Rattle.scc_meaning_core.specs.Program as program
-use Rattle.scc_meaning_core.specs.Program.{Program, Process, Sort, Input, Output, Signal, Variable, Local, Pointer, Port, Edge, Reset, is_root, is_held, is_input, is_combinational, is_combinational_by}
-use Rattle.scc_meaning_core.specs.Static.{Cells}
-use Rattle.scc_meaning_core.specs.Uses.{among}
-use Rattle.scc_meaning_core.specs.Constants.{written, constant_if}
-use Rattle.scc_meaning_core.specs.Source.{Home, at_top, cell_location, processes_from, sort_of, edge_at, reset_at}
-use Rattle.scc_meaning_blocks.specs.Turns.{Regs, Taking, constant_at, acted, is_loaded, has_clock}
-use Rattle.scc_meaning_blocks.specs.Turns as turns
-use Rattle.scc_meaning_blocks.specs.Tied.{Tied}
+use Rattle.scc_bits_kinds.specs.Kinds.{width_of}
+use Rattle.scc_semantics.specs.Location.{Location, same}
+use Rattle.scc_semantics.specs.Places as design
+use Rattle.scc_semantics.specs.Design as running
+use Rattle.scc_semantics.specs.Process.{State, Went, Well, and_then, is_active, phase}
+use Rattle.scc_semantics.specs.Process as process
+use Rattle.scc_semantics.specs.Run.{set_inputs, restarts, restarts_by, has_edge, resumes_at}
+use Rattle.scc_semantics.specs.Run as run
+use Rattle.scc_core_spec.specs.Program as program
+use Rattle.scc_core_spec.specs.Program.{Program, Process, Sort, Input, Output, Signal, Variable, Local, Pointer, Port, Edge, Reset, is_root, is_held, is_input, is_combinational, is_combinational_by}
+use Rattle.scc_core_spec.specs.Static.{Cells}
+use Rattle.scc_core_spec.specs.Uses.{among}
+use Rattle.scc_core_spec.specs.Constants.{written, constant_if}
+use Rattle.scc_core_spec.specs.Source.{Home, at_top, cell_location, processes_from, sort_of, edge_at, reset_at}
+use Rattle.scc_blocks_spec.specs.Turns.{Regs, Taking, constant_at, acted, is_loaded, has_clock}
+use Rattle.scc_blocks_spec.specs.Turns as turns
+use Rattle.scc_blocks_spec.specs.Tied.{Tied}
 use Rattle.scc_core_effect_laws.specs.Follows.{IsResolved, Obeys, Does, Tracks, design_of}
 use Rattle.scc_core_laws.specs.Stepped.{IsStepOf, RegsStep, SameEdge}
 use Rattle.scc_core_effect_laws.proofs.Names.{or-left, none-some, true-false}

@@ -2,23 +2,23 @@
 use Rattle.std.proofs.Common.{◌≡◌, ℕ, zero, suc, ◌+◌, ◌<◌, ◌^◌, Bool, true, false, not, ◌&&◌, ◌||◌, nat_eq, cond, filter, filter_map, map, List, [], ◌∷◌, Option, Some, None, refl, sym, ap, ◌∙◌, subst, arith, if◌then◌else◌, slice_get, add-one}
 use Rattle.std.specs.Prelude.{option_map, option_and_then, unwrap_or}
 use Rattle.std.specs.List.{list_any, cons_option}
-use Rattle.scc_kinds.specs.Kinds.{width_of}
-use Rattle.scc_meaning.specs.Location.{Location, same}
-use Rattle.scc_meaning.specs.Store.{changed}
-use Rattle.scc_running.specs.Machine.{Frames}
-use Rattle.scc_running.specs.Design as running
-use Rattle.scc_running.specs.Design.{TopPort, locations, inputs, is_clock}
-use Rattle.scc_running.specs.Process.{State}
-use Rattle.scc_running.specs.Run.{Step, set_inputs, AllFit, FitsThing, FitsStep, FitSteps}
-use Rattle.scc_running.specs.Start.{IsStart, AllFirst, HoldsConstant}
-use Rattle.scc_meaning_core.specs.Program as program
-use Rattle.scc_meaning_core.specs.Program.{Program, Process, Sort, Input, Output, Signal, Variable, Local, Pointer, Port, is_root, is_held, is_pointer, is_input, is_output}
-use Rattle.scc_meaning_core.specs.First.{or_else}
-use Rattle.scc_meaning_core.specs.Static.{Cells}
-use Rattle.scc_meaning_core.specs.Uses.{among}
-use Rattle.scc_meaning_core.specs.Constants.{written, constant_if, constant_from}
-use Rattle.scc_meaning_core.specs.Source.{Home, cell_location, thing_of, port_of, processes_from}
-use Rattle.scc_meaning_blocks.specs.Tied.{Tied, first_frames}
+use Rattle.scc_bits_kinds.specs.Kinds.{width_of}
+use Rattle.scc_semantics.specs.Location.{Location, same}
+use Rattle.scc_semantics.specs.Store.{changed}
+use Rattle.scc_semantics.specs.Machine.{Frames}
+use Rattle.scc_semantics.specs.Design as running
+use Rattle.scc_semantics.specs.Design.{TopPort, locations, inputs, is_clock}
+use Rattle.scc_semantics.specs.Process.{State}
+use Rattle.scc_semantics.specs.Run.{Step, set_inputs, AllFit, FitsThing, FitsStep, FitSteps}
+use Rattle.scc_semantics.specs.Start.{IsStart, AllFirst, HoldsConstant}
+use Rattle.scc_core_spec.specs.Program as program
+use Rattle.scc_core_spec.specs.Program.{Program, Process, Sort, Input, Output, Signal, Variable, Local, Pointer, Port, is_root, is_held, is_pointer, is_input, is_output}
+use Rattle.scc_core_spec.specs.First.{or_else}
+use Rattle.scc_core_spec.specs.Static.{Cells}
+use Rattle.scc_core_spec.specs.Uses.{among}
+use Rattle.scc_core_spec.specs.Constants.{written, constant_if, constant_from}
+use Rattle.scc_core_spec.specs.Source.{Home, cell_location, thing_of, port_of, processes_from}
+use Rattle.scc_blocks_spec.specs.Tied.{Tied, first_frames}
 use Rattle.scc_core_effect_laws.specs.Follows.{IsResolved, design_of}
 use Rattle.scc_core_laws.specs.Stepped.{IsStepOf, SameEdge, AreStepsOf}
 use Rattle.scc_core_laws.specs.Given.{takes_word, given_from, cells_at, regs_step_of, regs_of}

@@ -1,13 +1,13 @@
 -- The design follows the registers, step by step.
 use Rattle.std.proofs.Common.{ℕ, List, [], ◌∷◌, Option, Some, None, refl, ap, ◌∙◌}
-use Rattle.scc_meaning.specs.Location.{Location}
-use Rattle.scc_running.specs.Process.{State, Well, and_then}
-use Rattle.scc_running.specs.Run.{Step, observed, begun, finished, shown}
-use Rattle.scc_meaning_core.specs.Program.{Program}
-use Rattle.scc_meaning_core.specs.Source.{Home}
-use Rattle.scc_meaning_blocks.specs.Turns.{Regs}
-use Rattle.scc_meaning_blocks.specs.Turns as turns
-use Rattle.scc_meaning_blocks.specs.Tied.{Tied}
+use Rattle.scc_semantics.specs.Location.{Location}
+use Rattle.scc_semantics.specs.Process.{State, Well, and_then}
+use Rattle.scc_semantics.specs.Run.{Step, observed, begun, finished, shown}
+use Rattle.scc_core_spec.specs.Program.{Program}
+use Rattle.scc_core_spec.specs.Source.{Home}
+use Rattle.scc_blocks_spec.specs.Turns.{Regs}
+use Rattle.scc_blocks_spec.specs.Turns as turns
+use Rattle.scc_blocks_spec.specs.Tied.{Tied}
 use Rattle.scc_core_effect_laws.specs.Follows.{IsResolved, Obeys, Does, Tracks, design_of}
 use Rattle.scc_core_laws.specs.Stepped.{IsStepOf, RegsStep, SameEdge, regs_step, AreStepsOf, StepFollows, RunFollows}
 use Rattle.scc_core_laws.proofs.Seeing.{sees}

@@ -1,15 +1,15 @@
 -- A step of the design by cells, and registers at a start. This project's own.
 use Rattle.std.specs.Prelude.{ℕ, suc, Bool, not, ◌&&◌, nat_eq, List, [], ◌∷◌, Option, Some, None, option_map, slice_get, unwrap_or, if◌then◌else◌}
 use Rattle.std.specs.List.{list_any}
-use Rattle.scc_meaning.specs.Location.{Location, same}
-use Rattle.scc_running.specs.Design.{is_clock}
-use Rattle.scc_running.specs.Process.{State}
-use Rattle.scc_running.specs.Run.{Step}
-use Rattle.scc_meaning_core.specs.Program.{Program, Cell, is_input}
-use Rattle.scc_meaning_core.specs.First.{or_else}
-use Rattle.scc_meaning_core.specs.Static.{Cells}
-use Rattle.scc_meaning_core.specs.Source.{Home, cell_location}
-use Rattle.scc_meaning_blocks.specs.Turns.{Regs}
+use Rattle.scc_semantics.specs.Location.{Location, same}
+use Rattle.scc_semantics.specs.Design.{is_clock}
+use Rattle.scc_semantics.specs.Process.{State}
+use Rattle.scc_semantics.specs.Run.{Step}
+use Rattle.scc_core_spec.specs.Program.{Program, Cell, is_input}
+use Rattle.scc_core_spec.specs.First.{or_else}
+use Rattle.scc_core_spec.specs.Static.{Cells}
+use Rattle.scc_core_spec.specs.Source.{Home, cell_location}
+use Rattle.scc_blocks_spec.specs.Turns.{Regs}
 use Rattle.scc_core_effect_laws.specs.Follows.{design_of}
 use Rattle.scc_core_laws.specs.Stepped.{RegsStep}
 

@@ -1,18 +1,18 @@
 -- Steps of the registers, what they show, and when that is what a core's design shows. This project's own.
 use Rattle.std.specs.Prelude.{◌≡◌, ◌<◌, ◌^◌, ℕ, suc, true, List, [], ◌∷◌, map, Option, Some, None, slice_get, unwrap_or, if◌then◌else◌}
 use Rattle.std.specs.List.{list_any}
-use Rattle.scc_kinds.specs.Kinds.{width_of}
-use Rattle.scc_meaning.specs.Location.{Location, same}
-use Rattle.scc_running.specs.Design.{inputs}
-use Rattle.scc_running.specs.Process.{State, Well}
-use Rattle.scc_running.specs.Run.{Step, Observation, Shown, set_inputs, step, shown}
-use Rattle.scc_meaning_core.specs.Program.{Program, Cell, is_root, is_held, is_input, is_output}
-use Rattle.scc_meaning_core.specs.Static.{Cells}
-use Rattle.scc_meaning_core.specs.Uses.{among}
-use Rattle.scc_meaning_core.specs.Source.{Home, cell_location}
-use Rattle.scc_meaning_blocks.specs.Names.{holds_word}
-use Rattle.scc_meaning_blocks.specs.Turns.{Regs, begun, edged}
-use Rattle.scc_meaning_blocks.specs.Tied.{Tied}
+use Rattle.scc_bits_kinds.specs.Kinds.{width_of}
+use Rattle.scc_semantics.specs.Location.{Location, same}
+use Rattle.scc_semantics.specs.Design.{inputs}
+use Rattle.scc_semantics.specs.Process.{State, Well}
+use Rattle.scc_semantics.specs.Run.{Step, Observation, Shown, set_inputs, step, shown}
+use Rattle.scc_core_spec.specs.Program.{Program, Cell, is_root, is_held, is_input, is_output}
+use Rattle.scc_core_spec.specs.Static.{Cells}
+use Rattle.scc_core_spec.specs.Uses.{among}
+use Rattle.scc_core_spec.specs.Source.{Home, cell_location}
+use Rattle.scc_blocks_spec.specs.Names.{holds_word}
+use Rattle.scc_blocks_spec.specs.Turns.{Regs, begun, edged}
+use Rattle.scc_blocks_spec.specs.Tied.{Tied}
 use Rattle.scc_core_effect_laws.specs.Follows.{design_of}
 
 -- the words of inputs by their cells, and the clocks that have their edge by theirs

@@ -3,7 +3,7 @@ use scc_base::{Boxed, List, NoMemory, Place};
 use scc_bits::{Kind, Op, Word};
 use scc_core::{CoreBase, CoreExpr, CoreExprNode, CoreLeft};
 use scc_memory::{MemExpr, MemExprNode};
-use scc_plaintree::{PlainBase, PlainExpr, PlainExprNode, PlainLeft, PlainNode, PlainStmt};
+use scc_plain_tree::{PlainBase, PlainExpr, PlainExprNode, PlainLeft, PlainNode, PlainStmt};
 use scc_svtree::{SvBinary, SvExpr, SvExprNode, SvLiteral, SvUnary};
 use std::alloc::Global;
 use std::test::Fail;

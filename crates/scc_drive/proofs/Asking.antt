@@ -2,10 +2,10 @@
 use Rattle.std.proofs.Common.{◌≡◌, ◌≤◌, ℕ, List, length, Option, Some, Result, Ok, Err, ap, sym, subst, ◌∙◌}
 use Rattle.std.specs.Prelude.{option_map, take}
 use Rattle.scc_base.specs.Outside.{Shelf, Told, HoldsFirst}
-use Rattle.scc_directives.specs.declared.file.Source.{Source}
+use Rattle.scc_tokens_directives.specs.declared.file.Source.{Source}
 use Rattle.scc_tokens.specs.Files.{first_part}
-use Rattle.scc_stopped.specs.declared.stopped.Stopped.{Stopped}
-use Rattle.scc_stopped.specs.declared.stopped.Stopped.TheVariants as stopped
+use Rattle.scc_drive_errors.specs.declared.stopped.Stopped.{Stopped}
+use Rattle.scc_drive_errors.specs.declared.stopped.Stopped.TheVariants as stopped
 use Rattle.scc_drive.specs.Stages.{Asked, IsFound, IsHeld}
 
 first_held : (shelf : Shelf) (name bytes : List ℕ) → HoldsFirst shelf name 1048577 bytes → first_part shelf name ≡ Some bytes

@@ -3,18 +3,18 @@ use Rattle.std.proofs.Common.{◌≡◌, ℕ, List, Option, Some, None, Result, 
 use Rattle.std.specs.Prelude.{IfErr, IfOk, false}
 use Rattle.scc_svtext.specs.ModuleText.{module_text}
 use Rattle.scc_grammar.specs.Claim.{IsReadFile}
-use Rattle.scc_forms.specs.declared.form.TextForm.{TextForm}
-use Rattle.scc_forms.specs.Formed.{IsFormed, has_clocks}
-use Rattle.scc_stages.specs.Emitted.{IsEmitted}
+use Rattle.scc_drive_forms.specs.declared.form.TextForm.{TextForm}
+use Rattle.scc_drive_forms.specs.Formed.{IsFormed, has_clocks}
+use Rattle.scc_drive_stages.specs.Emitted.{IsEmitted}
 use Rattle.scc_thin.specs.declared.design.Design.{Design}
 use Rattle.scc_thin.specs.Thin.{thin_of}
-use Rattle.scc_thinmodule.specs.Emitted.{module_of}
-use Rattle.scc_thinmodule.specs.Identifiers.{AreIdentifiers}
-use Rattle.scc_thinmodule.proofs.Matching.{matches}
-use Rattle.scc_thinmodule.proofs.Shown.{thin_shown, thin_faultless}
+use Rattle.scc_thin_module.specs.Emitted.{module_of}
+use Rattle.scc_thin_module.specs.Identifiers.{AreIdentifiers}
+use Rattle.scc_thin_module.proofs.Matching.{matches}
+use Rattle.scc_thin_module.proofs.Shown.{thin_shown, thin_faultless}
 use Rattle.scc_drive.specs.declared.joining.Read.{Read}
-use Rattle.scc_stopped.specs.declared.stopped.Stopped.{Stopped}
-use Rattle.scc_stopped.specs.declared.stopped.Stopped.TheVariants as stopped
+use Rattle.scc_drive_errors.specs.declared.stopped.Stopped.{Stopped}
+use Rattle.scc_drive_errors.specs.declared.stopped.Stopped.TheVariants as stopped
 use Rattle.scc_drive.specs.CommandOutcome.{reads, outcome_of_design}
 use Rattle.scc_drive.specs.Outcome.{compiling, forming, listing, compiles}
 use Rattle.scc_drive.specs.Stages.{Gives, ReadOutcome}

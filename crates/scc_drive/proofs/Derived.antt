@@ -2,17 +2,17 @@
 use Rattle.std.proofs.Common.{◌≡◌, ℕ, List, Result, Ok, Err, refl, sym, subst}
 use Rattle.scc_base.specs.Names.{fixed_names}
 use Rattle.scc_base.specs.Outside.{Shelf}
-use Rattle.scc_directives.specs.declared.file.Source.{Source}
-use Rattle.scc_directives.specs.Steps as join
+use Rattle.scc_tokens_directives.specs.declared.file.Source.{Source}
+use Rattle.scc_tokens_directives.specs.Steps as join
 use Rattle.scc_tokens.specs.declared.joining.Joined.{Joined}
 use Rattle.scc_tokens.specs.Files.{first_part}
 use Rattle.scc_tokens.specs.Join.{join_of, Ended}
-use Rattle.scc_joined.proofs.Decided.{only_joins, only_stops}
-use Rattle.scc_joined.proofs.Deriving.{joins_whole}
-use Rattle.scc_joined.proofs.Faulting.{stops_first}
+use Rattle.scc_tokens_laws.proofs.Decided.{only_joins, only_stops}
+use Rattle.scc_tokens_laws.proofs.Deriving.{joins_whole}
+use Rattle.scc_tokens_laws.proofs.Faulting.{stops_first}
 use Rattle.scc_drive.specs.CommandOutcome.{JoinedOutcome, RootsOutcome, joined, refused, missing}
 use Rattle.scc_drive.specs.Outcome.{Task, Outcome, refusal, absent}
-use Rattle.scc_stopped.specs.Spots.{spot_of}
+use Rattle.scc_drive_errors.specs.Spots.{spot_of}
 
 -- the outcome of what joining found
 abbrev pub FoundOutcome : Task → List ℕ → List (List ℕ) → List Source → Result Joined join.Stopped → Outcome → Type 0

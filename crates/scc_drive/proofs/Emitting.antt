@@ -12,21 +12,21 @@ use Rattle.scc_base.specs.declared.refusal.Stop.{Stop}
 use Rattle.scc_base.specs.declared.refusal.Stop.TheVariants as stop
 use Rattle.scc_svtree.specs.declared.module.SvModule.{SvModule}
 use Rattle.scc_svread.specs.Read.{ReadAs, ReadBack, RefusedAs}
-use Rattle.scc_svtrace.specs.Ports.{in_ports}
-use Rattle.scc_svtrace.specs.Traced.{IsTrace, IsUntraced}
-use Rattle.scc_directives.specs.declared.file.Source.{Source}
+use Rattle.scc_svrun_trace.specs.Ports.{in_ports}
+use Rattle.scc_svrun_trace.specs.Traced.{IsTrace, IsUntraced}
+use Rattle.scc_tokens_directives.specs.declared.file.Source.{Source}
 use Rattle.scc_tokens.specs.Files.{first_part}
 use Rattle.scc_trace.specs.Stimulus.{stim_of}
-use Rattle.scc_stopped.specs.declared.spots.Spot.{Spot}
-use Rattle.scc_stopped.specs.declared.stopped.Stopped.{Stopped}
-use Rattle.scc_stopped.specs.declared.stopped.Stopped.TheVariants as stopped
+use Rattle.scc_drive_errors.specs.declared.spots.Spot.{Spot}
+use Rattle.scc_drive_errors.specs.declared.stopped.Stopped.{Stopped}
+use Rattle.scc_drive_errors.specs.declared.stopped.Stopped.TheVariants as stopped
 use Rattle.scc_drive.specs.Answer.{AnswersBy, without}
 use Rattle.scc_drive.specs.CommandOutcome.{TextOutcome, unread, misnamed, meets, outcome_on, outcome_of_stimulus, outcome_of_steps, LongTextOutcome, TextFileOutcome, TextsOutcome}
 use Rattle.scc_drive.specs.Outcome.{Outcome, refusal, absent, runs, wider, tracing, RefusesBy}
-use Rattle.scc_stopped.specs.Spots.{spot_in, first_spot}
+use Rattle.scc_drive_errors.specs.Spots.{spot_in, first_spot}
 use Rattle.scc_drive.specs.Stages.{Gives, Asking, Asked, IsHeld, IsNoModule}
 use Rattle.scc_drive.specs.Stops.{IsOfText}
-use Rattle.scc_stopped.specs.Stops.{StopsAt, StoppedIn}
+use Rattle.scc_drive_errors.specs.Stops.{StopsAt, StoppedIn}
 use Rattle.scc_drive.proofs.Wider.{answers_since}
 use Rattle.scc_drive.proofs.Without.{without_none, still_held}
 

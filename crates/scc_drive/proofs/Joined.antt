@@ -6,26 +6,26 @@ use Rattle.scc_base.specs.Names.{fixed_names}
 use Rattle.scc_base.specs.Outside.{Shelf, Told, Rose}
 use Rattle.scc_base.specs.declared.refusal.Refusal.{Refusal}
 use Rattle.scc_base.specs.declared.refusal.Stop.TheVariants as stop
-use Rattle.scc_directives.specs.declared.file.Source.{Source}
+use Rattle.scc_tokens_directives.specs.declared.file.Source.{Source}
 use Rattle.scc_tokens.specs.declared.joining.Joined.{Joined}
 use Rattle.scc_tokens.specs.declared.joining.JoinFault.{JoinFault}
 use Rattle.scc_tokens.specs.declared.joining.JoinFault.TheVariants as fault
 use Rattle.scc_tokens.specs.Files.{HoldsAll, ToldAll, first_part}
 use Rattle.scc_tokens.specs.Join.{join_of, JoinSays, Somewhere}
-use Rattle.scc_directives.specs.Steps as join
+use Rattle.scc_tokens_directives.specs.Steps as join
 use Rattle.scc_grammar.specs.Claim.{IsReadFile}
-use Rattle.scc_thinmodule.proofs.Known.{joined_names}
+use Rattle.scc_thin_module.proofs.Known.{joined_names}
 use Rattle.scc_drive.specs.declared.joining.Read.{Read}
-use Rattle.scc_stopped.specs.declared.stopped.Stopped.{Stopped}
-use Rattle.scc_stopped.specs.declared.stopped.Stopped.TheVariants as stopped
+use Rattle.scc_drive_errors.specs.declared.stopped.Stopped.{Stopped}
+use Rattle.scc_drive_errors.specs.declared.stopped.Stopped.TheVariants as stopped
 use Rattle.scc_drive.specs.Answer.{AnswersBy, without}
 use Rattle.scc_drive.specs.CommandOutcome.{faulty, RootsOutcome}
 use Rattle.scc_drive.proofs.Derived.{FoundOutcome, by_parts}
 use Rattle.scc_drive.specs.Outcome.{Task, Outcome, refusal, absent}
-use Rattle.scc_stopped.specs.Spots.{spot_of}
+use Rattle.scc_drive_errors.specs.Spots.{spot_of}
 use Rattle.scc_drive.specs.Stages.{Gives, Asking, IsJoined, IsUnjoined, ReadOutcome}
 use Rattle.scc_drive.specs.Stops.{IsFaulty}
-use Rattle.scc_stopped.specs.Stops.{Stops, StoppedBy}
+use Rattle.scc_drive_errors.specs.Stops.{Stops, StoppedBy}
 use Rattle.scc_drive.specs.Words.{roots_of}
 use Rattle.scc_drive.proofs.Without.{without_none, all_still}
 

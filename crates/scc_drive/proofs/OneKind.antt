@@ -7,25 +7,25 @@ use Rattle.scc_base.specs.Outside.{Shelf}
 use Rattle.scc_base.specs.declared.refusal.Refusal.{Refusal}
 use Rattle.scc_base.specs.declared.refusal.Stop.TheVariants as stop
 use Rattle.scc_svtree.specs.declared.module.SvModule.{SvModule}
-use Rattle.scc_svgrammar.specs.Grammar.{Reads}
+use Rattle.scc_svread_grammar.specs.Grammar.{Reads}
 use Rattle.scc_svread.specs.Read.{ReadAs, ReadBack, Answered}
-use Rattle.scc_svtrace.specs.Ports.{in_ports}
-use Rattle.scc_svwritten.specs.Written.{raw_of}
+use Rattle.scc_svrun_trace.specs.Ports.{in_ports}
+use Rattle.scc_svread_written.specs.Written.{raw_of}
 use Rattle.scc_drive.proofs.OneModule.{reads_module, one_module}
 use Rattle.scc_thin.specs.declared.design.Design.{Design}
 use Rattle.scc_thin.specs.Thin.{thin_of}
-use Rattle.scc_directives.specs.declared.file.Source.{Source}
+use Rattle.scc_tokens_directives.specs.declared.file.Source.{Source}
 use Rattle.scc_tokens.specs.declared.joining.Joined.{Joined}
 use Rattle.scc_tokens.specs.Files.{first_part}
 use Rattle.scc_tokens.specs.Join.{join_of}
-use Rattle.scc_directives.specs.Steps as join
+use Rattle.scc_tokens_directives.specs.Steps as join
 use Rattle.scc_trace.specs.Stimulus.{stim_of}
 use Rattle.scc_trace.specs.declared.stim.StimStep.{StimStep}
-use Rattle.scc_words.specs.declared.command.Command.{Command}
-use Rattle.scc_words.specs.declared.command.Command.TheVariants as command
+use Rattle.scc_drive_words.specs.declared.command.Command.{Command}
+use Rattle.scc_drive_words.specs.declared.command.Command.TheVariants as command
 use Rattle.scc_drive.specs.CommandOutcome.{CommandOutcome, WordsOutcome, CommandOutcomeBy, GeneratedOutcome, RootsOutcome, JoinedOutcome, reads, faulty, outcome_of_file, outcome_of_design, task_of, has_clocks, is_plain, TextOutcome, unread, misnamed, meets, TextOutcomeBy, LongTextOutcome, TextFileOutcome, outcome_on, outcome_of_stimulus, outcome_of_steps}
 use Rattle.scc_drive.specs.Outcome.{Task, compiling, forming, listing, simulating, tracing, Outcome, bad, refusal, absent, compiles, runs, writes, generated, wider, kind_of, kind_of_task}
-use Rattle.scc_stopped.specs.Spots.{spot_of}
+use Rattle.scc_drive_errors.specs.Spots.{spot_of}
 use Rattle.scc_drive.specs.Laws.{AreAlike, AreOne, is_refusal}
 use Rattle.scc_drive.specs.Words.{command_by, are_words, word_at, roots_of}
 use Rattle.scc_drive.proofs.OneVerdict.{not_both, one_fault}

@@ -8,9 +8,9 @@ use Rattle.scc_tree.specs.declared.item.FileTree.{FileTree}
 use Rattle.scc_reading.specs.Claim.{IsUnexpected, IsTooDeep}
 use Rattle.scc_reading.proofs.OneFault.{read_not_unexpected, read_not_deep, one_unexpected, one_deep, unexpected_not_deep}
 use Rattle.scc_grammar.specs.Claim.{IsReadFile, IsFault, text_of, place_at}
-use Rattle.scc_syntax.specs.LevelsOfItems.{depth}
-use Rattle.scc_syntax.specs.Items.{Reads}
-use Rattle.scc_terminals.specs.Text.{Text}
+use Rattle.scc_grammar_spec.specs.LevelsOfItems.{depth}
+use Rattle.scc_grammar_spec.specs.Items.{Reads}
+use Rattle.scc_grammar_terminals.specs.Text.{Text}
 
 abbrev Faulty : Joined → Code → Text → Type 0
 Faulty j c r = ((c ≡ code.Unexpected) × IsUnexpected Reads depth (text_of j) r) ⊎ ((c ≡ code.TooDeep) × IsTooDeep Reads depth (text_of j) r)

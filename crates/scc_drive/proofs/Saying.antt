@@ -6,7 +6,7 @@ use Rattle.std.specs.Prelude.{take}
 use Rattle.std.specs.Io.KnownBytes.{Appends}
 use Rattle.scc_base.specs.Outside.{AppendsPart}
 use Rattle.scc_drive.specs.Said.{SaysFaults, SaysPart}
-use Rattle.scc_stopped.specs.Texts.{memory_text, output_text}
+use Rattle.scc_drive_errors.specs.Texts.{memory_text, output_text}
 
 pub whole : (old new : Option (List ℕ)) (text : List ℕ) → Appends old new text → AppendsPart old new text
 whole old new text p = (length text, subst (Appends old new) (sym (take-length text)) p)

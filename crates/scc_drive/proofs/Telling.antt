@@ -4,18 +4,18 @@ use Rattle.std.specs.declared.alloc.Global.{Global}
 use Rattle.std.specs.Io.KnownBytes.{Appends}
 use Rattle.scc_base.specs.Outside.{AppendsPart, Shelf, Rose}
 use Rattle.scc_base.specs.declared.code.Code.{Code}
-use Rattle.scc_directives.specs.declared.file.Source.{Source}
-use Rattle.scc_stopped.specs.declared.spots.Spot.{Spot}
-use Rattle.scc_stopped.specs.declared.stopped.Stopped.{Stopped}
-use Rattle.scc_stopped.specs.declared.stopped.Stopped.TheVariants.{BadWords, Refused, Missing, Failed, NoMemory}
+use Rattle.scc_tokens_directives.specs.declared.file.Source.{Source}
+use Rattle.scc_drive_errors.specs.declared.spots.Spot.{Spot}
+use Rattle.scc_drive_errors.specs.declared.stopped.Stopped.{Stopped}
+use Rattle.scc_drive_errors.specs.declared.stopped.Stopped.TheVariants.{BadWords, Refused, Missing, Failed, NoMemory}
 use Rattle.scc_drive.specs.Answer.{Answers, AnswersBy, ComesFor, Tells, IsDone, IsRefused, IsMissing, HasFailed, IsCutShort, Ends, stopped_text}
 use Rattle.scc_drive.specs.CommandOutcome.{CommandOutcome, JoinedOutcome, WordsOutcome, joined, outcome_of_design, reads}
 use Rattle.scc_drive.specs.Outcome.{Outcome, bad, refusal, absent, compiles, runs, writes, generated, wider, Task, compiling, forming, listing, simulating, tracing, Kind, kind_of, EndsAs, WritesBy, RefusesBy, MissesBy}
 use Rattle.scc_drive.specs.Said.{Said, SaysFaults, SaysPart}
 use Rattle.scc_drive.specs.Words.{are_words, command_by, word_at}
 use Rattle.scc_thin.specs.declared.design.Design.{Design}
-use Rattle.scc_words.specs.declared.command.Command.{Command}
-use Rattle.scc_words.specs.declared.command.Command.TheVariants as command
+use Rattle.scc_drive_words.specs.declared.command.Command.{Command}
+use Rattle.scc_drive_words.specs.declared.command.Command.TheVariants as command
 use Rattle.scc_drive.specs.Laws.{AreOne}
 use Rattle.scc_drive.specs.MainTheorem.{IsDesign, IsRead, MainTheorem}
 use Rattle.scc_tree.specs.declared.item.FileTree.{FileTree}

@@ -4,12 +4,12 @@ use Rattle.std.specs.Prelude.{take, IfOk, IfErr}
 use Rattle.scc_base.specs.declared.no_memory.NoMemory.{NoMemory}
 use Rattle.scc_base.specs.Outside.{Shelf, Told, Rose}
 use Rattle.scc_base.specs.declared.code.Code.{Code}
-use Rattle.scc_directives.specs.declared.file.Source.{Source}
-use Rattle.scc_stopped.specs.declared.spots.Spot.{Spot}
-use Rattle.scc_stopped.specs.declared.stopped.Stopped.{Stopped}
-use Rattle.scc_stopped.specs.declared.stopped.Stopped.TheVariants as stopped
+use Rattle.scc_tokens_directives.specs.declared.file.Source.{Source}
+use Rattle.scc_drive_errors.specs.declared.spots.Spot.{Spot}
+use Rattle.scc_drive_errors.specs.declared.stopped.Stopped.{Stopped}
+use Rattle.scc_drive_errors.specs.declared.stopped.Stopped.TheVariants as stopped
 use Rattle.scc_drive.specs.Outcome.{Task, simulating, tracing, Outcome, wider, WritesOf, RefusesOf, MissesOf}
-use Rattle.scc_stopped.specs.Spots.{spot_in, first_spot, moved, IsSpotOf}
+use Rattle.scc_drive_errors.specs.Spots.{spot_in, first_spot, moved, IsSpotOf}
 use Rattle.scc_drive.specs.declared.joining.Read.{Read}
 use Rattle.scc_drive.specs.Answer.{AnswersBy, Asks, Writes, Refuses, Misses}
 use Rattle.scc_drive.specs.CommandOutcome.{RootsOutcome}

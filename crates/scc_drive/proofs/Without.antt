@@ -3,7 +3,7 @@ use Rattle.std.proofs.Common.{◌≡◌, ◌≢◌, ℕ, Bool, true, false, List
 use Rattle.std.proofs.lemmas.Slice.Eq.{bytes_eq-Decides}
 use Rattle.std.specs.Prelude.{take, option_map, bytes_eq, if◌then◌else◌, is_some}
 use Rattle.scc_base.specs.Outside.{Shelf}
-use Rattle.scc_directives.specs.declared.file.Source.{Source}
+use Rattle.scc_tokens_directives.specs.declared.file.Source.{Source}
 use Rattle.scc_tokens.specs.Files.{HoldsAll, first_part}
 use Rattle.scc_drive.specs.Answer.{without}
 

@@ -4,13 +4,13 @@ use Rattle.std.specs.Io.KnownBytes.{Appends}
 use Rattle.std.specs.declared.alloc.Global.{Global}
 use Rattle.scc_base.specs.Outside.{Rose, Shelf, Told, AppendsPart}
 use Rattle.scc_base.specs.declared.code.Code.{Code}
-use Rattle.scc_stopped.specs.declared.spots.Spot.{Spot}
-use Rattle.scc_stopped.specs.declared.stopped.Stopped.{Stopped}
-use Rattle.scc_stopped.specs.declared.stopped.Stopped.TheVariants as stopped
+use Rattle.scc_drive_errors.specs.declared.spots.Spot.{Spot}
+use Rattle.scc_drive_errors.specs.declared.stopped.Stopped.{Stopped}
+use Rattle.scc_drive_errors.specs.declared.stopped.Stopped.TheVariants as stopped
 use Rattle.scc_drive.specs.CommandOutcome.{CommandOutcome}
 use Rattle.scc_drive.specs.Outcome.{Outcome, WritesBy, RefusesBy, MissesBy, EndsBy}
 use Rattle.scc_drive.specs.Said.{Said, SaysPart, SaysFaults}
-use Rattle.scc_stopped.specs.Texts.{refusal_text, words_text, missing_text, failed_text}
+use Rattle.scc_drive_errors.specs.Texts.{refusal_text, words_text, missing_text, failed_text}
 use Rattle.scc_drive.specs.Words.{word_at, are_words}
 
 -- this is written where what the names hold comes to what C says

@@ -10,13 +10,13 @@ use Rattle.scc_base.specs.declared.refusal.Refusal.{Refusal}
 use Rattle.scc_base.specs.declared.refusal.Stop.TheVariants as stop
 use Rattle.scc_svtree.specs.declared.module.SvModule.{SvModule}
 use Rattle.scc_svread.specs.Read.{ReadAs, ReadBack, RefusedAs}
-use Rattle.scc_svtrace.specs.Ports.{in_ports}
-use Rattle.scc_directives.specs.declared.file.Source.{Source}
+use Rattle.scc_svrun_trace.specs.Ports.{in_ports}
+use Rattle.scc_tokens_directives.specs.declared.file.Source.{Source}
 use Rattle.scc_tokens.specs.declared.joining.Joined.{Joined}
 use Rattle.scc_tokens.specs.Files.{first_part}
-use Rattle.scc_joined.specs.Joined.{JoinsTo}
-use Rattle.scc_joined.specs.Faulted.{StopsAt}
-use Rattle.scc_directives.specs.Steps as join
+use Rattle.scc_tokens_laws.specs.Joined.{JoinsTo}
+use Rattle.scc_tokens_laws.specs.Faulted.{StopsAt}
+use Rattle.scc_tokens_directives.specs.Steps as join
 use Rattle.scc_tree.specs.declared.item.FileTree.{FileTree}
 use Rattle.scc_grammar.specs.Claim.{IsReadFile, IsFault}
 use Rattle.scc_thin.specs.declared.design.Design.{Design}
@@ -24,18 +24,18 @@ use Rattle.scc_thin.specs.Thin.{thin_of}
 use Rattle.scc_trace.specs.Source.{source_of}
 use Rattle.scc_trace.specs.Stimulus.{stim_of}
 use Rattle.scc_trace.specs.declared.stim.StimStep.{StimStep}
-use Rattle.scc_words.specs.declared.command.Command.{Command}
-use Rattle.scc_words.specs.declared.command.Command.TheVariants as command
-use Rattle.scc_words.specs.declared.command.Form.{Form}
-use Rattle.scc_words.specs.declared.command.Form.TheVariants as form
-use Rattle.scc_words.specs.declared.command.SvForm.{SvForm}
-use Rattle.scc_words.specs.declared.command.SvForm.TheVariants as sv_form
-use Rattle.scc_words.specs.declared.command.SimWay.{SimWay}
-use Rattle.scc_words.specs.declared.command.SimWay.TheVariants as sim_way
-use Rattle.scc_forms.specs.declared.form.TextForm.{TextForm}
-use Rattle.scc_forms.specs.declared.form.TextForm.TheVariants as text_form
+use Rattle.scc_drive_words.specs.declared.command.Command.{Command}
+use Rattle.scc_drive_words.specs.declared.command.Command.TheVariants as command
+use Rattle.scc_drive_words.specs.declared.command.Form.{Form}
+use Rattle.scc_drive_words.specs.declared.command.Form.TheVariants as form
+use Rattle.scc_drive_words.specs.declared.command.SvForm.{SvForm}
+use Rattle.scc_drive_words.specs.declared.command.SvForm.TheVariants as sv_form
+use Rattle.scc_drive_words.specs.declared.command.SimWay.{SimWay}
+use Rattle.scc_drive_words.specs.declared.command.SimWay.TheVariants as sim_way
+use Rattle.scc_drive_forms.specs.declared.form.TextForm.{TextForm}
+use Rattle.scc_drive_forms.specs.declared.form.TextForm.TheVariants as text_form
 use Rattle.scc_drive.specs.Outcome.{Task, compiling, forming, listing, simulating, tracing, Outcome, bad, refusal, absent, compiles, runs, writes, generated, wider}
-use Rattle.scc_stopped.specs.Spots.{spot_of, spot_in, first_spot}
+use Rattle.scc_drive_errors.specs.Spots.{spot_of, spot_in, first_spot}
 use Rattle.scc_drive.specs.Words.{command_by, word_at, roots_of}
 
 -- a thin text, or a wider one

@@ -2,8 +2,8 @@
 use Rattle.std.specs.Prelude.{◌≡◌, ◌⊎◌, List, Bool, true, false, String, Option, Some, None}
 use Rattle.std.specs.declared.alloc.Global.{Global}
 use Rattle.scc_base.specs.Outside.{Shelf}
-use Rattle.scc_words.specs.declared.command.Command.{Command}
-use Rattle.scc_words.specs.declared.command.Command.TheVariants as command
+use Rattle.scc_drive_words.specs.declared.command.Command.{Command}
+use Rattle.scc_drive_words.specs.declared.command.Command.TheVariants as command
 use Rattle.scc_drive.specs.CommandOutcome.{CommandOutcome}
 use Rattle.scc_drive.specs.Outcome.{Outcome, bad, refusal, absent, compiles, runs, writes, generated, wider}
 use Rattle.scc_drive.specs.Words.{command_by}

@@ -4,24 +4,24 @@ use Rattle.std.specs.Prelude.{◌≡◌, ℕ, List, Bool, false, String, Option,
 use Rattle.std.specs.declared.alloc.Global.{Global}
 use Rattle.std.specs.Io.KnownBytes.{Appends}
 use Rattle.scc_base.specs.Outside.{Shelf}
-use Rattle.scc_meaning.specs.Location.{Location}
-use Rattle.scc_running.specs.Design as source
-use Rattle.scc_meaning_text.specs.Matches.{Matches}
-use Rattle.scc_meaning_text.specs.Emitted.{ModuleShows}
+use Rattle.scc_semantics.specs.Location.{Location}
+use Rattle.scc_semantics.specs.Design as source
+use Rattle.scc_blocks_spec.specs.Matches.{Matches}
+use Rattle.scc_blocks_spec.specs.Emitted.{ModuleShows}
 use Rattle.scc_svtree.specs.declared.module.SvModule.{SvModule}
 use Rattle.scc_svtext.specs.Emitted.{SvReads}
 use Rattle.scc_base.specs.Names.{fixed_names}
-use Rattle.scc_directives.specs.declared.file.Source.{Source}
+use Rattle.scc_tokens_directives.specs.declared.file.Source.{Source}
 use Rattle.scc_tokens.specs.declared.joining.Joined.{Joined}
 use Rattle.scc_tokens.specs.Files.{first_part}
-use Rattle.scc_joined.specs.Joined.{JoinsTo}
+use Rattle.scc_tokens_laws.specs.Joined.{JoinsTo}
 use Rattle.scc_tree.specs.declared.item.FileTree.{FileTree}
 use Rattle.scc_grammar.specs.Claim.{IsReadFile}
 use Rattle.scc_thin.specs.declared.design.Design.{Design}
 use Rattle.scc_thin.specs.Thin.{thin_of}
-use Rattle.scc_thinmodule.specs.Source.{source_of, text_of}
-use Rattle.scc_words.specs.declared.command.Command.TheVariants as command
-use Rattle.scc_words.specs.declared.command.Form.TheVariants as form
+use Rattle.scc_thin_module.specs.Source.{source_of, text_of}
+use Rattle.scc_drive_words.specs.declared.command.Command.TheVariants as command
+use Rattle.scc_drive_words.specs.declared.command.Form.TheVariants as form
 use Rattle.scc_drive.specs.Words.{command_by, roots_of, word_at}
 
 -- A design was compiled: `many` says that it may have several clocks, `top` is the name of its top, `name` the name that emitted text has for a location, `own`

@@ -4,14 +4,14 @@ use Rattle.scc_base.specs.Outside.{Rose}
 use Rattle.scc_base.specs.declared.code.Code.{Code}
 use Rattle.scc_svtree.specs.declared.module.SvModule.{SvModule}
 use Rattle.scc_svtext.specs.Emitted.{SvReads}
-use Rattle.scc_svtrace.specs.Traced.{IsTrace}
-use Rattle.scc_forms.specs.declared.form.TextForm.{TextForm}
-use Rattle.scc_forms.specs.Formed.{IsFormed, has_clocks}
-use Rattle.scc_stages.specs.Emitted.{IsEmitted}
-use Rattle.scc_directives.specs.declared.file.Source.{Source}
+use Rattle.scc_svrun_trace.specs.Traced.{IsTrace}
+use Rattle.scc_drive_forms.specs.declared.form.TextForm.{TextForm}
+use Rattle.scc_drive_forms.specs.Formed.{IsFormed, has_clocks}
+use Rattle.scc_drive_stages.specs.Emitted.{IsEmitted}
+use Rattle.scc_tokens_directives.specs.declared.file.Source.{Source}
 use Rattle.scc_thin.specs.declared.design.Design.{Design}
-use Rattle.scc_thinmodule.specs.Same.{Matches, ShowsTheSame}
-use Rattle.scc_stopped.specs.declared.spots.Spot.{Spot}
+use Rattle.scc_thin_module.specs.Same.{Matches, ShowsTheSame}
+use Rattle.scc_drive_errors.specs.declared.spots.Spot.{Spot}
 use Rattle.scc_drive.specs.Stops.{RefusesLater, RefusesStimulus, RefusesText}
 
 -- what files are for: `compile`, as one module or in another form; `list`; `sim`, with several clocks or one, on the stimulus of that name; `svsim` of a text

@@ -2,7 +2,7 @@
 use Rattle.std.specs.Prelude.{◌≡◌, ◌⊎◌, ℕ, List, Option}
 use Rattle.std.specs.Io.KnownBytes.{Appends}
 use Rattle.scc_base.specs.Outside.{Rose, AppendsPart}
-use Rattle.scc_stopped.specs.Texts.{memory_text, output_text}
+use Rattle.scc_drive_errors.specs.Texts.{memory_text, output_text}
 
 -- what is said where memory runs out, and then where an output fails: a first part of each text, maybe empty
 abbrev pub SaysFaults : Option (List ℕ) → Option (List ℕ) → Type 0

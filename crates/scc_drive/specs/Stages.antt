@@ -3,18 +3,18 @@ use Rattle.std.specs.Prelude.{◌≡◌, ℕ, ◌≤◌, List, length, Option, S
 use Rattle.scc_base.specs.Names.{fixed_names}
 use Rattle.scc_base.specs.Outside.{Rose, Shelf, Told}
 use Rattle.scc_base.specs.declared.code.Code.TheVariants.{FileTooLong}
-use Rattle.scc_directives.specs.declared.file.Source.{Source}
+use Rattle.scc_tokens_directives.specs.declared.file.Source.{Source}
 use Rattle.scc_tokens.specs.Files.{HoldsAll, ToldAll, first_part}
 use Rattle.scc_tokens.specs.Join.{join_of}
 use Rattle.scc_grammar.specs.Claim.{IsReadFile}
-use Rattle.scc_thinmodule.specs.Identifiers.{AreIdentifiers}
+use Rattle.scc_thin_module.specs.Identifiers.{AreIdentifiers}
 use Rattle.scc_drive.specs.declared.joining.Read.{Read}
-use Rattle.scc_stopped.specs.declared.stopped.Stopped.{Stopped}
-use Rattle.scc_stopped.specs.declared.stopped.Stopped.TheVariants as stopped
+use Rattle.scc_drive_errors.specs.declared.stopped.Stopped.{Stopped}
+use Rattle.scc_drive_errors.specs.declared.stopped.Stopped.TheVariants as stopped
 use Rattle.scc_drive.specs.Answer.{AnswersBy}
 use Rattle.scc_drive.specs.CommandOutcome.{JoinedOutcome, RootsOutcome, TextOutcome}
 use Rattle.scc_drive.specs.Outcome.{Task, Outcome, refusal, WritesBy, RefusesBy, MissesBy}
-use Rattle.scc_stopped.specs.Spots.{first_spot}
+use Rattle.scc_drive_errors.specs.Spots.{first_spot}
 use Rattle.scc_drive.specs.Stops.{RefusesStimulus}
 
 -- Files were joined so, and are a file of the grammar.

@@ -3,15 +3,15 @@ use Rattle.std.specs.Prelude.{◌≡◌, ℕ, Bool, true, ◌||◌, ◌&&◌, na
 use Rattle.scc_base.specs.Code.{code_number}
 use Rattle.scc_base.specs.declared.code.Code.{Code}
 use Rattle.scc_base.specs.declared.refusal.Place.{Place}
-use Rattle.scc_directives.specs.declared.file.Source.{Source}
+use Rattle.scc_tokens_directives.specs.declared.file.Source.{Source}
 use Rattle.scc_tokens.specs.declared.joining.Joined.{Joined}
 use Rattle.scc_grammar.specs.Claim.{IsFault}
-use Rattle.scc_stages.specs.Refusals.{is_later}
-use Rattle.scc_formsim.specs.Forms.{is_of_text}
-use Rattle.scc_stopped.specs.declared.spots.Spot.{Spot}
-use Rattle.scc_stopped.specs.declared.stopped.Stopped.{Stopped}
-use Rattle.scc_stopped.specs.declared.stopped.Stopped.TheVariants as stopped
-use Rattle.scc_stopped.specs.Spots.{spot_of, IsSpotOf, IsOtherOf}
+use Rattle.scc_drive_stages.specs.Refusals.{is_later}
+use Rattle.scc_drive_form_sim.specs.Forms.{is_of_text}
+use Rattle.scc_drive_errors.specs.declared.spots.Spot.{Spot}
+use Rattle.scc_drive_errors.specs.declared.stopped.Stopped.{Stopped}
+use Rattle.scc_drive_errors.specs.declared.stopped.Stopped.TheVariants as stopped
+use Rattle.scc_drive_errors.specs.Spots.{spot_of, IsSpotOf, IsOtherOf}
 
 -- the first fault of joined tokens as a refusal, unless memory ran out
 abbrev pub IsFaulty : List Source → Joined → Stopped → Type 0

@@ -1,8 +1,8 @@
 -- The words of a command.
 use Rattle.std.specs.Prelude.{ℕ, List, [], map, take, drop, slice_get, option_map, unwrap_or, Option, Bool, is_some, string_bytes, String}
 use Rattle.std.specs.declared.alloc.Global.{Global}
-use Rattle.scc_words.specs.declared.command.Command.{Command}
-use Rattle.scc_words.specs.Commands.{command_of}
+use Rattle.scc_drive_words.specs.declared.command.Command.{Command}
+use Rattle.scc_drive_words.specs.Commands.{command_of}
 
 -- the command that the words make
 abbrev pub command_by : List (String Global) → Option Command

@@ -3,15 +3,15 @@ ghost use Rattle.std.specs.Prelude.{length};
 ghost use Rattle.scc_drive.specs.Answer.{Answers, AnswersBy};
 ghost use Rattle.scc_drive.specs.CommandOutcome.{CommandOutcomeBy};
 ghost use Rattle.scc_drive.specs.Words.{word_at};
-ghost use Rattle.scc_words.specs.Within.{Within};
+ghost use Rattle.scc_drive_words.specs.Within.{Within};
 
 use crate::compile::compiled;
 use crate::generated::generated;
 use crate::source::{listed, simulated};
 use crate::svsim::svsim;
 use scc_base::{Files, Text};
-use scc_stopped::stopped::Stopped;
-use scc_words::{Command, read_command};
+use scc_drive_errors::stopped::Stopped;
+use scc_drive_words::{Command, read_command};
 use std::alloc::Global;
 
 /// The output of a command, or why there is none.

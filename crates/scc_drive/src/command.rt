@@ -3,7 +3,7 @@ ghost use Rattle.std.specs.Io.KnownBytes.{Appends, Keeps};
 ghost use Rattle.scc_base.specs.Outside.{Rose, Told};
 ghost use Rattle.scc_drive.specs.Answer.{Ends, IsDone, IsRefused, IsMissing, HasFailed, IsCutShort};
 ghost use Rattle.scc_drive.specs.MainTheorem.{MainTheorem};
-ghost use Rattle.scc_stopped.specs.Texts.{words_text};
+ghost use Rattle.scc_drive_errors.specs.Texts.{words_text};
 ghost use Rattle.scc_drive.specs.Words.{are_words};
 
 use crate::answer::answer;

@@ -1,7 +1,7 @@
 //! `compile`: the text of a module, or of another form.
 ghost use Rattle.std.specs.Prelude.{◌≡◌, ◌≤◌, ◌<◌, ◌+◌, length, false, IfOk, IfErr};
-ghost use Rattle.scc_stages.specs.Emitted.{IsEmitted};
-ghost use Rattle.scc_thinmodule.specs.Identifiers.{AreIdentifiers};
+ghost use Rattle.scc_drive_stages.specs.Emitted.{IsEmitted};
+ghost use Rattle.scc_thin_module.specs.Identifiers.{AreIdentifiers};
 ghost use Rattle.scc_grammar.specs.Claim.{IsReadFile};
 ghost use Rattle.scc_drive.specs.Answer.{AnswersBy};
 ghost use Rattle.scc_drive.specs.CommandOutcome as outcome;
@@ -16,11 +16,11 @@ use crate::later::{front_at, refused_later};
 use crate::thin::printed;
 use crate::words::word;
 use scc_base::{Files, NoMemory, Stop, Text};
-use scc_forms::{TextForm, form_text, has_clocks};
-use scc_stages::compile;
-use scc_stopped::stopped::Stopped;
+use scc_drive_errors::stopped::Stopped;
+use scc_drive_forms::{TextForm, form_text, has_clocks};
+use scc_drive_stages::compile;
+use scc_drive_words::Form;
 use scc_thin::{Halt, read_design};
-use scc_words::Form;
 use std::alloc::Global;
 
 /// The text of the module of the class that word 1 names, of so many files from word 2 on.

@@ -1,16 +1,16 @@
 //! A file beside those that are joined: an emitted text or a stimulus.
 ghost use Rattle.std.specs.Prelude.{◌≡◌, ◌≤◌, length, true};
 ghost use Rattle.scc_base.specs.declared.code.Code.TheVariants as code;
-ghost use Rattle.scc_stopped.specs.Spots.{first_spot};
+ghost use Rattle.scc_drive_errors.specs.Spots.{first_spot};
 ghost use Rattle.scc_drive.specs.Stops as stops;
 ghost use Rattle.scc_drive.specs.Stops.{IsOfText};
-ghost use Rattle.scc_stopped.specs.Stops.{StopsAt};
+ghost use Rattle.scc_drive_errors.specs.Stops.{StopsAt};
 ghost use Rattle.scc_drive.specs.Stages.{Asked, IsFound, IsOfStimulus};
-ghost use Rattle.scc_formsim.specs.Forms.{is_of_text};
+ghost use Rattle.scc_drive_form_sim.specs.Forms.{is_of_text};
 
 use scc_base::{Code, FileFault, Files, NoMemory, Refusal, Text, lost};
-use scc_stopped::spots::{Spot, spot_within};
-use scc_stopped::stopped::Stopped;
+use scc_drive_errors::spots::{Spot, spot_within};
+use scc_drive_errors::stopped::Stopped;
 use scc_tokens::Source;
 use std::alloc::Global;
 

@@ -4,8 +4,8 @@ ghost use Rattle.scc_drive.specs.CommandOutcome.{GeneratedOutcome};
 ghost use Rattle.scc_drive.specs.Stages.{Gives};
 
 use scc_base::Text;
-use scc_commands::generated_line;
-use scc_stopped::stopped::Stopped;
+use scc_drive_commands::generated_line;
+use scc_drive_errors::stopped::Stopped;
 use scc_trace::generate;
 use std::alloc::Global;
 

@@ -8,9 +8,9 @@ ghost use Rattle.scc_drive.specs.Words.{roots_of};
 
 use crate::words::roots;
 use scc_base::{Files, List, Names, Refusal, Stop};
+use scc_drive_errors::fault::{refused, stopped_by};
+use scc_drive_errors::stopped::Stopped;
 use scc_grammar::parse;
-use scc_stopped::fault::{refused, stopped_by};
-use scc_stopped::stopped::Stopped;
 use scc_tokens::{Joined, Source, join};
 use scc_tree::FileTree;
 use std::alloc::Global;

@@ -1,14 +1,14 @@
 //! What the stages behind the grammar answer, as a command says it.
 ghost use Rattle.std.specs.Prelude.{◌≡◌, true, IfOk, IfErr};
-ghost use Rattle.scc_stages.specs.Refusals.{is_later};
-ghost use Rattle.scc_stopped.specs.Spots.{IsOtherOf};
+ghost use Rattle.scc_drive_stages.specs.Refusals.{is_later};
+ghost use Rattle.scc_drive_errors.specs.Spots.{IsOtherOf};
 ghost use Rattle.scc_drive.specs.Stops.{IsLater};
 
 use crate::joining::Read;
 use scc_base::{NoMemory, Place, Refusal, Stop};
-use scc_stages::{Front, front_of, name_of};
-use scc_stopped::spots::{Spot, locate_in};
-use scc_stopped::stopped::Stopped;
+use scc_drive_errors::spots::{Spot, locate_in};
+use scc_drive_errors::stopped::Stopped;
+use scc_drive_stages::{Front, front_of, name_of};
 use scc_tokens::Source;
 use std::alloc::Global;
 

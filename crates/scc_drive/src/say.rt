@@ -3,11 +3,11 @@ ghost use Rattle.std.specs.Prelude.{◌≡◌, ◌≤◌, ◌⊎◌, ℕ, List, 
 ghost use Rattle.scc_base.specs.Outside.{AppendsPart, Rose};
 ghost use Rattle.scc_drive.specs.Said.{Said, SaysFaults, SaysPart};
 ghost use Rattle.scc_drive.specs.Answer.{Tells, stopped_text};
-ghost use Rattle.scc_stopped.specs.Texts.{output_text};
+ghost use Rattle.scc_drive_errors.specs.Texts.{output_text};
 
 use scc_base::{NoMemory, Sink, SinkFault, Status, Text, put_all};
-use scc_stopped::stopped::Stopped;
-use scc_stopped::texts;
+use scc_drive_errors::stopped::Stopped;
+use scc_drive_errors::texts;
 use std::alloc::Global;
 
 /// Ends with status 5, whether or not the text could be written.

@@ -13,12 +13,12 @@ use crate::joining::{Read, read_files};
 use crate::later::front_at;
 use crate::words::word;
 use scc_base::{Files, NoMemory, Stop, Text};
-use scc_commands as commands;
-use scc_commands::Way;
-use scc_stages::Front;
-use scc_stopped::stopped::Stopped;
+use scc_drive_commands as commands;
+use scc_drive_commands::Way;
+use scc_drive_errors::stopped::Stopped;
+use scc_drive_stages::Front;
+use scc_drive_words::SimWay;
 use scc_tokens::Source;
-use scc_words::SimWay;
 use std::alloc::Global;
 
 /// The list of the class that word 1 names, of so many files from word 2 on.

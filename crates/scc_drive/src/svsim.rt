@@ -1,29 +1,29 @@
 //! `svsim`: the trace of an emitted text on a stimulus.
 ghost use Rattle.std.specs.Prelude.{◌≡◌, ◌≤◌, ℕ, List, true, false, length, IfOk, IfErr, Some};
 ghost use Rattle.scc_base.specs.declared.code.Code.TheVariants as code;
-ghost use Rattle.scc_formsim.specs.Forms.{CanRun};
+ghost use Rattle.scc_drive_form_sim.specs.Forms.{CanRun};
 ghost use Rattle.scc_svread.specs.Read.{ReadAs};
-ghost use Rattle.scc_stopped.specs.declared.stopped.Stopped.TheVariants as stopped;
+ghost use Rattle.scc_drive_errors.specs.declared.stopped.Stopped.TheVariants as stopped;
 ghost use Rattle.scc_drive.specs.Answer.{AnswersBy};
 ghost use Rattle.scc_drive.specs.CommandOutcome as outcome;
 ghost use Rattle.scc_drive.specs.CommandOutcome.{TextsOutcome, outcome_of_stimulus};
-ghost use Rattle.scc_stopped.specs.Spots as spots;
+ghost use Rattle.scc_drive_errors.specs.Spots as spots;
 ghost use Rattle.scc_drive.specs.Stages.{Asked, Gives, IsHeld, IsNoModule, IsOfStimulus};
 ghost use Rattle.scc_drive.specs.Stops.{IsOfText};
-ghost use Rattle.scc_stopped.specs.Stops.{StopsAt, StoppedIn};
+ghost use Rattle.scc_drive_errors.specs.Stops.{StopsAt, StoppedIn};
 ghost use Rattle.scc_drive.specs.Words.{word_at};
 
 use crate::files::{ask, found, refused_stimulus, refused_text};
 use crate::words::word;
 use scc_base::{Code, Files, NoMemory, Stop, Text};
-use scc_formsim::{Runnable, read_runnable, traced as traced_in_form};
-use scc_stopped::spots::spot_in;
-use scc_stopped::stopped::Stopped;
+use scc_drive_errors::spots::spot_in;
+use scc_drive_errors::stopped::Stopped;
+use scc_drive_form_sim::{Runnable, read_runnable, traced as traced_in_form};
+use scc_drive_words::SvForm;
 use scc_svread::read;
-use scc_svtrace::module_trace;
+use scc_svrun_trace::module_trace;
 use scc_svtree::SvModule;
 use scc_tokens::Source;
-use scc_words::SvForm;
 use std::alloc::Global;
 
 /// The trace of the emitted text that word 2 names, of a module that word 1 names, on the stimulus that the word of the number `stim`

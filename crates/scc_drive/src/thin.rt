@@ -1,14 +1,14 @@
 //! The text of a thin design.
 ghost use Rattle.std.specs.Prelude.{◌≡◌, ◌<◌, ◌^◌, length, IfOk, IfErr};
 ghost use Rattle.scc_svtext.specs.ModuleText.{module_text};
-ghost use Rattle.scc_thinmodule.specs.Emitted.{module_of};
-ghost use Rattle.scc_stopped.specs.declared.stopped.Stopped.TheVariants as stopped;
+ghost use Rattle.scc_thin_module.specs.Emitted.{module_of};
+ghost use Rattle.scc_drive_errors.specs.declared.stopped.Stopped.TheVariants as stopped;
 
 use scc_base::{NoMemory, Text};
-use scc_stopped::stopped::Stopped;
+use scc_drive_errors::stopped::Stopped;
 use scc_svtext::print;
 use scc_thin::Design;
-use scc_thinmodule::module_of;
+use scc_thin_module::module_of;
 use std::alloc::Global;
 
 /// The text of the module of the design of a thin text.

@@ -3,14 +3,14 @@ use Rattle.std.specs.Prelude.{ℕ, Bool, true, false, ◌&&◌, not, List, [], �
 use Rattle.std.specs.List.{list_all}
 use Rattle.scc_base.specs.declared.path.PathPart.{PathPart}
 use Rattle.scc_base.specs.declared.path.PathPart.TheVariants as part
-use Rattle.scc_design.specs.declared.Object.{Object}
-use Rattle.scc_design.specs.declared.ObjectNode.{ObjectNode}
-use Rattle.scc_design.specs.declared.ObjectNode.TheVariants as node
-use Rattle.scc_design.specs.declared.Process.{Process}
-use Rattle.scc_design.specs.declared.Sort.{Sort}
-use Rattle.scc_design.specs.declared.Sort.TheVariants as sort
-use Rattle.scc_design.specs.declared.Edge.{Edge}
-use Rattle.scc_design.specs.declared.Reset.{Reset}
+use Rattle.scc_elab_design.specs.declared.Object.{Object}
+use Rattle.scc_elab_design.specs.declared.ObjectNode.{ObjectNode}
+use Rattle.scc_elab_design.specs.declared.ObjectNode.TheVariants as node
+use Rattle.scc_elab_design.specs.declared.Process.{Process}
+use Rattle.scc_elab_design.specs.declared.Sort.{Sort}
+use Rattle.scc_elab_design.specs.declared.Sort.TheVariants as sort
+use Rattle.scc_elab_design.specs.declared.Edge.{Edge}
+use Rattle.scc_elab_design.specs.declared.Reset.{Reset}
 
 abbrev pub is_index : PathPart → Bool
 is_index (part.Member name) = false

@@ -1,10 +1,10 @@
 -- The bits of storage of a design. This project's own.
 use Rattle.std.specs.Prelude.{ℕ, List}
 use Rattle.std.specs.List.{sum_by}
-use Rattle.scc_kinds.specs.Kinds.{width_of}
-use Rattle.scc_design.specs.declared.Object.{Object}
-use Rattle.scc_design.specs.declared.ObjectNode.{ObjectNode}
-use Rattle.scc_design.specs.declared.ObjectNode.TheVariants as variant
+use Rattle.scc_bits_kinds.specs.Kinds.{width_of}
+use Rattle.scc_elab_design.specs.declared.Object.{Object}
+use Rattle.scc_elab_design.specs.declared.ObjectNode.{ObjectNode}
+use Rattle.scc_elab_design.specs.declared.ObjectNode.TheVariants as variant
 
 -- what an object stores: a signal and a variable a word of its kind, any other nothing
 abbrev pub node_bits : ObjectNode → ℕ

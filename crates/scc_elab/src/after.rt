@@ -1,9 +1,9 @@
 //! What is looked for when construction has run.
 use scc_base::{Code, NoMemory, Stop, lost, push};
-use scc_grown::grown::Grown;
-use scc_grown::spots::TOP;
-use scc_grown::things::ThingSort;
-use scc_plaintree::{Plain, PlainNode, PlainStmt};
+use scc_elab_state::grown::Grown;
+use scc_elab_state::spots::TOP;
+use scc_elab_state::things::ThingSort;
+use scc_plain_tree::{Plain, PlainNode, PlainStmt};
 use std::alloc::Global;
 
 /// Refuses statements of construction in functions that are no constructors, as E404.

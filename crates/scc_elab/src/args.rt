@@ -2,11 +2,11 @@
 use crate::walk::{SOFT, location_of, value_of};
 use crate::worth::stored;
 use scc_base::{NoMemory, Stop, lost};
-use scc_grown::grown::Grown;
-use scc_grown::numbers::{pointer_at, put_number, put_pointer};
-use scc_grown::program::{function_of, local_in};
-use scc_grown::spots::{LocalOf, SpotId};
-use scc_plaintree::{Base, Plain, PlainArg, PlainTarget};
+use scc_elab_state::grown::Grown;
+use scc_elab_state::numbers::{pointer_at, put_number, put_pointer};
+use scc_elab_state::program::{function_of, local_in};
+use scc_elab_state::spots::{LocalOf, SpotId};
+use scc_plain_tree::{Base, Plain, PlainArg, PlainTarget};
 
 /// Where a target leads; None for null.
 pub fn target_of(target: &PlainTarget, p: &Plain, g: &mut Grown) -> Result<Option<SpotId>, Stop> {

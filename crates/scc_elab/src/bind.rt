@@ -2,10 +2,10 @@
 use crate::walk::{FIRM, location_of};
 use scc_base::{Code, NoMemory, Place, Stop, lost};
 use scc_bits::Kind;
-use scc_grown::grown::Grown;
-use scc_grown::spots::{SpotId, TOP};
-use scc_grown::things::{Bound, ThingSort};
-use scc_plaintree::{Plain, PlainLeft};
+use scc_elab_state::grown::Grown;
+use scc_elab_state::spots::{SpotId, TOP};
+use scc_elab_state::things::{Bound, ThingSort};
+use scc_plain_tree::{Plain, PlainLeft};
 
 /// The port, signal or variable at a location.
 pub fn object_at(g: &Grown, at: Option<SpotId>) -> Result<Option<u32>, NoMemory> {

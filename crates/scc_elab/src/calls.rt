@@ -1,6 +1,6 @@
 //! The calls: construction from the top.
 ghost use Rattle.std.specs.Prelude.{◌≡◌, ◌≤◌, true, false, length, IfOk, IfErr};
-ghost use Rattle.scc_design.specs.Whole.{is_whole_design};
+ghost use Rattle.scc_elab_design.specs.Whole.{is_whole_design};
 ghost use Rattle.scc_elab.specs.Refusals.{may_stop};
 ghost use Rattle.scc_elab.specs.Roots.{are_rooted, processes_fit};
 ghost use Rattle.scc_elab.specs.Storage.{storage_of};
@@ -12,12 +12,12 @@ use crate::make::make_one;
 use crate::refusals::allowed;
 use crate::statements::run;
 use scc_base::{Code, Stop};
-use scc_design::Design;
-use scc_grown::grown::Grown;
-use scc_grown::program::{class_of, function_of};
-use scc_grown::spots::TOP;
-use scc_grown::work::Stack;
-use scc_plaintree::{Base, Plain};
+use scc_elab_design::Design;
+use scc_elab_state::grown::Grown;
+use scc_elab_state::program::{class_of, function_of};
+use scc_elab_state::spots::TOP;
+use scc_elab_state::work::Stack;
+use scc_plain_tree::{Base, Plain};
 use std::alloc::Global;
 
 /// The design of a program, all of whose clocked processes name one edge of one clock. Refused as E401 to E407 and E409 to E412.

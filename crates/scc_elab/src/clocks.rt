@@ -3,11 +3,11 @@ use crate::after::root_of;
 use indexmap::IndexMap;
 use scc_base::{Code, List, NoMemory, Place, Stop, lost};
 use scc_bits::Kind;
-use scc_design::{Edge, Process, Reset, Sort};
-use scc_grown::grown::Grown;
-use scc_grown::records::{Record, Sensed};
-use scc_grown::spots::TOP;
-use scc_grown::things::{MOST_CLOCKS, ThingSort};
+use scc_elab_design::{Edge, Process, Reset, Sort};
+use scc_elab_state::grown::Grown;
+use scc_elab_state::records::{Record, Sensed};
+use scc_elab_state::spots::TOP;
+use scc_elab_state::things::{MOST_CLOCKS, ThingSort};
 
 // The edges that processes name, by their ports.
 #[derive(Drop)]

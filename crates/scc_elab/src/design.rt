@@ -1,14 +1,14 @@
 //! The design, from what construction made.
 ghost use Rattle.std.specs.Prelude.{◌≡◌, ◌≤◌, IfOk};
 ghost use Rattle.scc_elab.specs.Storage.{node_bits, storage_of};
-ghost use Rattle.scc_grown.specs.Things.{sort_bits};
+ghost use Rattle.scc_elab_state.specs.Things.{sort_bits};
 
 use crate::after::root_of;
 use scc_base::{List, NoMemory, Path, PathPart, lost, push};
-use scc_design::{Design, Object, ObjectNode, Process, Target, VectorSize};
-use scc_grown::grown::Grown;
-use scc_grown::spots::SpotId;
-use scc_grown::things::{Thing, ThingSort};
+use scc_elab_design::{Design, Object, ObjectNode, Process, Target, VectorSize};
+use scc_elab_state::grown::Grown;
+use scc_elab_state::spots::SpotId;
+use scc_elab_state::things::{Thing, ThingSort};
 use std::alloc::Global;
 
 /// The design of what was made, with its processes.

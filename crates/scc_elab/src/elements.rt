@@ -1,10 +1,10 @@
 //! Arrays and vectors, element by element.
 use crate::make::make_one;
 use scc_base::{NoMemory, PathPart, Place, Stop, push};
-use scc_grown::grown::{Grown, VectorAt};
-use scc_grown::spots::SpotId;
-use scc_grown::work::{Each, Form, Stack, Work};
-use scc_plaintree::{Base, Plain};
+use scc_elab_state::grown::{Grown, VectorAt};
+use scc_elab_state::spots::SpotId;
+use scc_elab_state::work::{Each, Form, Stack, Work};
+use scc_plain_tree::{Base, Plain};
 
 /// The elements of an array from one on; where there are no sizes, what an element is.
 pub fn next_element<'t>(

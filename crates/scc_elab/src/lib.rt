@@ -20,4 +20,6 @@ mod whole;
 mod worth;
 
 pub use calls::{elaborate, elaborate_many};
-pub use scc_design::{Design, Edge, Object, ObjectNode, Process, Reset, Sort, Target, VectorSize};
+pub use scc_elab_design::{
+    Design, Edge, Object, ObjectNode, Process, Reset, Sort, Target, VectorSize,
+};

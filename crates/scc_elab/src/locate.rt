@@ -2,12 +2,12 @@
 use crate::walk::{Located, Task, Walk, Way};
 use scc_base::{Code, NoMemory, PathPart, Place, Stop, lost};
 use scc_bits::Value;
-use scc_grown::frames::Frame;
-use scc_grown::grown::Grown;
-use scc_grown::numbers::pointer_at;
-use scc_grown::program::{function_of, local_in, local_of, member_of};
-use scc_grown::spots::{LocalOf, SpotId};
-use scc_plaintree::{Base, Plain, PlainBase, PlainLeft, PlainMember, PlainPart, Reach};
+use scc_elab_state::frames::Frame;
+use scc_elab_state::grown::Grown;
+use scc_elab_state::numbers::pointer_at;
+use scc_elab_state::program::{function_of, local_in, local_of, member_of};
+use scc_elab_state::spots::{LocalOf, SpotId};
+use scc_plain_tree::{Base, Plain, PlainBase, PlainLeft, PlainMember, PlainPart, Reach};
 
 /// Begins a location: what it is based on, then its parts.
 pub fn locate<'t>(

@@ -5,14 +5,14 @@ use crate::walk::{RAW, location_of, value_of};
 use crate::worth::stored;
 use scc_base::{Code, NoMemory, Place, Stop, lost, push};
 use scc_bits::Kind;
-use scc_grown::frames::Frame;
-use scc_grown::grown::Grown;
-use scc_grown::numbers::{put_number, zero_of};
-use scc_grown::program::{class_of, function_of};
-use scc_grown::spots::SpotId;
-use scc_grown::things::ThingSort;
-use scc_grown::work::{Stack, Work};
-use scc_plaintree::{Base, Plain, PlainArg, PlainLeft, PlainStmt};
+use scc_elab_state::frames::Frame;
+use scc_elab_state::grown::Grown;
+use scc_elab_state::numbers::{put_number, zero_of};
+use scc_elab_state::program::{class_of, function_of};
+use scc_elab_state::spots::SpotId;
+use scc_elab_state::things::ThingSort;
+use scc_elab_state::work::{Stack, Work};
+use scc_plain_tree::{Base, Plain, PlainArg, PlainLeft, PlainStmt};
 
 /// Makes one thing. Of an object of a class the members and the constructor are still to be done.
 pub fn make_one<'t>(

@@ -2,11 +2,11 @@
 use crate::args::size_of;
 use crate::make::slice_of;
 use scc_base::{NoMemory, PathPart, Stop, lost};
-use scc_grown::grown::Grown;
-use scc_grown::program::{class_of, function_of};
-use scc_grown::spots::SpotId;
-use scc_grown::work::{Each, Form, Stack, Work};
-use scc_plaintree::{Base, Plain, PlainArg, PlainMember, PlainNode, PlainStmt, Reach};
+use scc_elab_state::grown::Grown;
+use scc_elab_state::program::{class_of, function_of};
+use scc_elab_state::spots::SpotId;
+use scc_elab_state::work::{Each, Form, Stack, Work};
+use scc_plain_tree::{Base, Plain, PlainArg, PlainMember, PlainNode, PlainStmt, Reach};
 
 /// The members of a class from one on.
 pub fn next_member<'t>(

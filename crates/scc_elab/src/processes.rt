@@ -2,11 +2,11 @@
 use crate::bind::object_at;
 use crate::walk::{FIRM, location_of, value_of};
 use scc_base::{Code, NoMemory, Place, Stop, lost, push};
-use scc_grown::grown::Grown;
-use scc_grown::program::function_of;
-use scc_grown::records::{Record, ResetAt, Runs, Sensed};
-use scc_grown::things::ThingSort;
-use scc_plaintree::{Plain, PlainExpr, PlainLeft, PlainSense};
+use scc_elab_state::grown::Grown;
+use scc_elab_state::program::function_of;
+use scc_elab_state::records::{Record, ResetAt, Runs, Sensed};
+use scc_elab_state::things::ThingSort;
+use scc_plain_tree::{Plain, PlainExpr, PlainLeft, PlainSense};
 
 /// Declares a process. Refused as E404 where its function has a parameter or result, or runs for this object already.
 pub fn declare(

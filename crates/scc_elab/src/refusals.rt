@@ -1,6 +1,6 @@
 //! A look at an answer: a design that is whole, or a refusal of construction. Another answer is never given.
 ghost use Rattle.std.specs.Prelude.{◌≡◌, ◌≤◌, true, length, IfOk, IfErr};
-ghost use Rattle.scc_design.specs.Whole.{is_whole_design as is_whole};
+ghost use Rattle.scc_elab_design.specs.Whole.{is_whole_design as is_whole};
 ghost use Rattle.scc_elab.specs.Refusals as refusals;
 ghost use Rattle.scc_elab.specs.Roots.{are_rooted as rooted, processes_fit as fit};
 ghost use Rattle.scc_elab.specs.Storage.{storage_of};
@@ -8,7 +8,7 @@ ghost use Rattle.scc_elab.specs.Storage.{storage_of};
 use crate::roots::{are_rooted, processes_fit};
 use crate::whole::is_whole_design;
 use scc_base::{Code, Refusal, Stop, lost};
-use scc_design::Design;
+use scc_elab_design::Design;
 
 fn is_construction(many: bool, code: Code) -> bool
     ensures { result ≡ refusals.is_construction many code }

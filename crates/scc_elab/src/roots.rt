@@ -4,7 +4,7 @@ ghost use Rattle.std.specs.List.{list_all};
 ghost use Rattle.scc_elab.specs.Roots as roots;
 
 use scc_base::PathPart;
-use scc_design::{Edge, Object, ObjectNode, Process, Reset, Sort};
+use scc_elab_design::{Edge, Object, ObjectNode, Process, Reset, Sort};
 
 fn is_index(part: PathPart) -> bool
     ensures { result ≡ roots.is_index part }

@@ -9,12 +9,12 @@ use crate::walk::{FIRM, RAW, location_of, value_of};
 use crate::worth::{bit_number, stored};
 use scc_base::{Code, NoMemory, Place, Stop, lost};
 use scc_bits::Value;
-use scc_grown::grown::Grown;
-use scc_grown::numbers::{clear, number_at, put_number, put_pointer};
-use scc_grown::spots::{LocalOf, SpotId};
-use scc_grown::things::ThingSort;
-use scc_grown::work::{Stack, Work};
-use scc_plaintree::{Plain, PlainExpr, PlainLeft, PlainNode, PlainPick, PlainStmt, PlainTarget};
+use scc_elab_state::grown::Grown;
+use scc_elab_state::numbers::{clear, number_at, put_number, put_pointer};
+use scc_elab_state::spots::{LocalOf, SpotId};
+use scc_elab_state::things::ThingSort;
+use scc_elab_state::work::{Stack, Work};
+use scc_plain_tree::{Plain, PlainExpr, PlainLeft, PlainNode, PlainPick, PlainStmt, PlainTarget};
 
 /// Does all that is to be done.
 pub fn run<'t>(stack: &mut Stack<'t>, p: &'t Plain, g: &mut Grown) -> Result<(), Stop> {

@@ -3,10 +3,10 @@ use crate::locate::{behind, element, locate, parts};
 use crate::worth::{apply, enter};
 use scc_base::{NoMemory, Stop, lost, push};
 use scc_bits::Value;
-use scc_grown::frames::Frame;
-use scc_grown::grown::Grown;
-use scc_grown::spots::SpotId;
-use scc_plaintree::{Base, Plain, PlainExpr, PlainLeft};
+use scc_elab_state::frames::Frame;
+use scc_elab_state::grown::Grown;
+use scc_elab_state::spots::SpotId;
+use scc_plain_tree::{Base, Plain, PlainExpr, PlainLeft};
 use std::alloc::Global;
 
 /// How a location is taken.

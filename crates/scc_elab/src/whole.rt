@@ -1,9 +1,9 @@
 //! A look at a design: whether its numbers name what is there.
 ghost use Rattle.std.specs.Prelude.{◌≡◌, length};
 ghost use Rattle.std.specs.List.{list_all};
-ghost use Rattle.scc_design.specs.Whole as whole;
+ghost use Rattle.scc_elab_design.specs.Whole as whole;
 
-use scc_design::{Design, Edge, Object, ObjectNode, Process, Reset, Target};
+use scc_elab_design::{Design, Edge, Object, ObjectNode, Process, Reset, Target};
 
 // Whether a node is a signal, or a port that is its own root.
 fn is_own_root(k: u32, node: ObjectNode) -> bool

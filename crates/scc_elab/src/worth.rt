@@ -2,9 +2,9 @@
 use crate::walk::{FIRM, Task, Walk};
 use scc_base::{Code, NoMemory, Stop, lost};
 use scc_bits::{Kind, Op, Value, Word, width};
-use scc_grown::grown::Grown;
-use scc_grown::numbers::{number_at, zero_of};
-use scc_plaintree::{Plain, PlainExpr, PlainExprNode, PlainLeft, PlainPick};
+use scc_elab_state::grown::Grown;
+use scc_elab_state::numbers::{number_at, zero_of};
+use scc_plain_tree::{Plain, PlainExpr, PlainExprNode, PlainLeft, PlainPick};
 
 /// Begins an expression: its parts from left to right, then the expression itself. Refused as E404 where it reads a port or signal.
 pub fn enter<'t>(e: &'t PlainExpr, w: &mut Walk<'t>) -> Result<(), Stop> {

@@ -10,21 +10,21 @@ use Rattle.scc_reading.specs.Reading.{Fault, and_then, ◌>>=◌, ◌>>◌, pure
 use Rattle.scc_reading.proofs.Leaves.{ok_is}
 use Rattle.scc_reading.proofs.Repeat.{repeat_again}
 use Rattle.scc_reading.proofs.Loop.{Turns, turns_of}
-use Rattle.scc_terminals.specs.declared.halt.Halt.{Halt}
-use Rattle.scc_terminals.specs.declared.terminal.Seen.{Seen}
-use Rattle.scc_terminals.specs.Answer.{Fails}
-use Rattle.scc_syntax.specs.Bodies.{Body, body_of, field_of, with_fields}
-use Rattle.scc_syntax.specs.Fields.{Again, fields_onto}
-use Rattle.scc_terminals.specs.Marks as m
-use Rattle.scc_terminals.specs.Names.{Names}
-use Rattle.scc_syntax.specs.ParseExpressions as e
-use Rattle.scc_syntax.specs.ParseFile as p
-use Rattle.scc_syntax.specs.ParseStatements.{inner}
-use Rattle.scc_terminals.specs.declared.part.TypeRead.{TypeRead}
-use Rattle.scc_terminals.specs.Text.{Text, Parser, mark, next_is}
-use Rattle.scc_terminals.specs.Text as text
-use Rattle.scc_grammarsound.proofs.Loops.{fails_through}
-use Rattle.scc_grammarsound.proofs.SoundFile.{ROneDecl, sound_one_decl}
+use Rattle.scc_grammar_terminals.specs.declared.halt.Halt.{Halt}
+use Rattle.scc_grammar_terminals.specs.declared.terminal.Seen.{Seen}
+use Rattle.scc_grammar_terminals.specs.Answer.{Fails}
+use Rattle.scc_grammar_spec.specs.Bodies.{Body, body_of, field_of, with_fields}
+use Rattle.scc_grammar_spec.specs.Fields.{Again, fields_onto}
+use Rattle.scc_grammar_terminals.specs.Marks as m
+use Rattle.scc_grammar_terminals.specs.Names.{Names}
+use Rattle.scc_grammar_spec.specs.ParseExpressions as e
+use Rattle.scc_grammar_spec.specs.ParseFile as p
+use Rattle.scc_grammar_spec.specs.ParseStatements.{inner}
+use Rattle.scc_grammar_terminals.specs.declared.part.TypeRead.{TypeRead}
+use Rattle.scc_grammar_terminals.specs.Text.{Text, Parser, mark, next_is}
+use Rattle.scc_grammar_terminals.specs.Text as text
+use Rattle.scc_grammar_sound.proofs.Loops.{fails_through}
+use Rattle.scc_grammar_sound.proofs.SoundFile.{ROneDecl, sound_one_decl}
 
 module _ (names : Names) (n : ℕ) (b : Body) (ty : Ty) where
   abbrev q : Parser Decl

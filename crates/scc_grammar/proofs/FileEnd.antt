@@ -2,11 +2,11 @@
 use Rattle.std.specs.Prelude.{◌≡◌, true, false, [], ◌∷◌, Ok, Err, refl}
 use Rattle.std.proofs.Common.{ap}
 use Rattle.scc_reading.specs.Reading.{and_then, pure, is_next, at_end, unexpected, repeat_on}
-use Rattle.scc_terminals.specs.declared.terminal.Seen.{Seen}
-use Rattle.scc_syntax.specs.Bodies.{Body, begun}
-use Rattle.scc_terminals.specs.Names.{no_names}
-use Rattle.scc_syntax.specs.ParseFile as f
-use Rattle.scc_terminals.specs.Text.{Text}
+use Rattle.scc_grammar_terminals.specs.declared.terminal.Seen.{Seen}
+use Rattle.scc_grammar_spec.specs.Bodies.{Body, begun}
+use Rattle.scc_grammar_terminals.specs.Names.{no_names}
+use Rattle.scc_grammar_spec.specs.ParseFile as f
+use Rattle.scc_grammar_terminals.specs.Text.{Text}
 
 pub goes_on : {A : Type 0} (a : A) (ts : Text) → is_next (λ _. true) ts ≡ true → at_end {T = Seen} a ts ≡ Err (unexpected ts)
 goes_on a [] h = cc

@@ -1,19 +1,19 @@
 -- The loops of the code that reads members and files.
 use Rattle.std.specs.Prelude.{◌≡◌, ℕ, Bool, true, false, not, [], ◌∷◌, length, ◌<◌, Ok, refl}
-use Rattle.scc_terminals.specs.Marks as m
-use Rattle.scc_syntax.specs.ParseFile as p
-use Rattle.scc_syntax.specs.ParseFile.{is_member, is_part}
-use Rattle.scc_terminals.specs.Answer.{Fails}
-use Rattle.scc_terminals.specs.declared.halt.Halt.{Halt}
-use Rattle.scc_terminals.specs.declared.terminal.Seen.{Seen}
-use Rattle.scc_terminals.specs.declared.terminal.Terminal.{Terminal}
-use Rattle.scc_terminals.specs.declared.terminal.Terminal.TheVariants as t
-use Rattle.scc_syntax.specs.Bodies.{Body}
-use Rattle.scc_terminals.specs.Text.{Text, Parser, Outcome, next_is}
+use Rattle.scc_grammar_terminals.specs.Marks as m
+use Rattle.scc_grammar_spec.specs.ParseFile as p
+use Rattle.scc_grammar_spec.specs.ParseFile.{is_member, is_part}
+use Rattle.scc_grammar_terminals.specs.Answer.{Fails}
+use Rattle.scc_grammar_terminals.specs.declared.halt.Halt.{Halt}
+use Rattle.scc_grammar_terminals.specs.declared.terminal.Seen.{Seen}
+use Rattle.scc_grammar_terminals.specs.declared.terminal.Terminal.{Terminal}
+use Rattle.scc_grammar_terminals.specs.declared.terminal.Terminal.TheVariants as t
+use Rattle.scc_grammar_spec.specs.Bodies.{Body}
+use Rattle.scc_grammar_terminals.specs.Text.{Text, Parser, Outcome, next_is}
 use Rattle.scc_reading.specs.Reading.{is_next, repeat_on}
 use Rattle.scc_reading.proofs.Loop.{TurnsOn, turns_on_of}
-use Rattle.scc_grammarsound.proofs.Loops.{fails_through}
-use Rattle.scc_grammarsound.proofs.SoundFile.{RMember, sound_member, RPart, sound_part}
+use Rattle.scc_grammar_sound.proofs.Loops.{fails_through}
+use Rattle.scc_grammar_sound.proofs.SoundFile.{RMember, sound_member, RPart, sound_part}
 
 -- a loop that keeps the parts in its state
 pub record LoopOn {S : Type 0} (test : S → Seen → Bool) (q : S → Parser S) : Type 0 where

@@ -10,16 +10,16 @@ use Rattle.scc_tree.specs.declared.item.FileTree.{FileTree}
 use Rattle.scc_tree.specs.declared.item.Item.{Item}
 use Rattle.scc_reading.specs.Claim.{IsRead, IsUnexpected, IsTooDeep, Verdict}
 use Rattle.scc_reading.proofs.OneFault.{read_not_unexpected, read_not_deep}
-use Rattle.scc_terminals.specs.declared.halt.Halt.{Halt}
-use Rattle.scc_terminals.specs.declared.halt.Halt.TheVariants as halt
-use Rattle.scc_terminals.specs.Answer.{Fails, head_place}
-use Rattle.scc_syntax.specs.LevelsOfItems.{depth}
+use Rattle.scc_grammar_terminals.specs.declared.halt.Halt.{Halt}
+use Rattle.scc_grammar_terminals.specs.declared.halt.Halt.TheVariants as halt
+use Rattle.scc_grammar_terminals.specs.Answer.{Fails, head_place}
+use Rattle.scc_grammar_spec.specs.LevelsOfItems.{depth}
 use Rattle.scc_grammar.specs.Claim.{text_of, IsReadFile, place_at, FaultAt, ReadsOnly, stop_of}
-use Rattle.scc_syntax.specs.Items.{Reads}
-use Rattle.scc_syntax.specs.ParseFile.{program}
-use Rattle.scc_terminals.specs.Text.{Text}
-use Rattle.scc_grammarcomplete.proofs.Unique.{one_tree}
-use Rattle.scc_grammarcomplete.proofs.Whole.{verdict_of}
+use Rattle.scc_grammar_spec.specs.Items.{Reads}
+use Rattle.scc_grammar_spec.specs.ParseFile.{program}
+use Rattle.scc_grammar_terminals.specs.Text.{Text}
+use Rattle.scc_grammar_complete.proofs.Unique.{one_tree}
+use Rattle.scc_grammar_complete.proofs.Whole.{verdict_of}
 
 head_or : (r : Text) (end : Place) → unwrap_or (head_place r) end ≡ place_at r end
 head_or [] end = refl

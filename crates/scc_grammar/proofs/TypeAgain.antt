@@ -7,22 +7,22 @@ use Rattle.scc_tree.specs.declared.ty.TyArg.{TyArg}
 use Rattle.scc_tree.specs.declared.ty.TyNode.TheVariants as ty
 use Rattle.scc_reading.specs.Reading.{and_then, ◌>>=◌, pure, is_next, by_test, take_at}
 use Rattle.scc_reading.proofs.Leaves.{ok_is}
-use Rattle.scc_terminals.specs.declared.part.TypeRead.{TypeRead}
-use Rattle.scc_terminals.specs.declared.terminal.Terminal.{Terminal}
-use Rattle.scc_terminals.specs.declared.terminal.Terminal.TheVariants as t
-use Rattle.scc_syntax.specs.Fields.{Again}
-use Rattle.scc_terminals.specs.First.{name_start}
-use Rattle.scc_terminals.specs.Inner.{Inner}
-use Rattle.scc_terminals.specs.Marks as m
-use Rattle.scc_terminals.specs.Names.{Names, is_type, is_template}
-use Rattle.scc_terminals.specs.Nodes.{base_of}
-use Rattle.scc_syntax.specs.ParseExpressions as e
-use Rattle.scc_syntax.specs.ParseExpressions.{named_type, constant_type}
-use Rattle.scc_syntax.specs.ParseItems as i
-use Rattle.scc_syntax.specs.ParseItems.{named_of}
-use Rattle.scc_syntax.specs.ParseStatements.{inner}
-use Rattle.scc_terminals.specs.Text as text
-use Rattle.scc_terminals.specs.Text.{Text, Parser, at, mark, next_is, name_at, placed_at, identifier}
+use Rattle.scc_grammar_terminals.specs.declared.part.TypeRead.{TypeRead}
+use Rattle.scc_grammar_terminals.specs.declared.terminal.Terminal.{Terminal}
+use Rattle.scc_grammar_terminals.specs.declared.terminal.Terminal.TheVariants as t
+use Rattle.scc_grammar_spec.specs.Fields.{Again}
+use Rattle.scc_grammar_terminals.specs.First.{name_start}
+use Rattle.scc_grammar_terminals.specs.Inner.{Inner}
+use Rattle.scc_grammar_terminals.specs.Marks as m
+use Rattle.scc_grammar_terminals.specs.Names.{Names, is_type, is_template}
+use Rattle.scc_grammar_terminals.specs.Nodes.{base_of}
+use Rattle.scc_grammar_spec.specs.ParseExpressions as e
+use Rattle.scc_grammar_spec.specs.ParseExpressions.{named_type, constant_type}
+use Rattle.scc_grammar_spec.specs.ParseItems as i
+use Rattle.scc_grammar_spec.specs.ParseItems.{named_of}
+use Rattle.scc_grammar_spec.specs.ParseStatements.{inner}
+use Rattle.scc_grammar_terminals.specs.Text as text
+use Rattle.scc_grammar_terminals.specs.Text.{Text, Parser, at, mark, next_is, name_at, placed_at, identifier}
 
 module _ (names : Names) (n : ℕ) where
   abbrev j : Inner

@@ -9,12 +9,12 @@ use Rattle.scc_tokens.specs.declared.joining.Joined.{Joined}
 use Rattle.scc_tree.specs.declared.item.FileTree.{FileTree}
 use Rattle.scc_tree.specs.declared.item.Item.{Item}
 use Rattle.scc_reading.specs.Claim.{IsRead, IsUnexpected, IsTooDeep}
-use Rattle.scc_terminals.specs.declared.halt.Halt.{Halt}
-use Rattle.scc_terminals.specs.declared.halt.Halt.TheVariants as halt
-use Rattle.scc_syntax.specs.Items.{Reads}
-use Rattle.scc_syntax.specs.LevelsOfItems.{depth}
-use Rattle.scc_terminals.specs.Text.{Text}
-use Rattle.scc_terminals.specs.View.{seen_all}
+use Rattle.scc_grammar_terminals.specs.declared.halt.Halt.{Halt}
+use Rattle.scc_grammar_terminals.specs.declared.halt.Halt.TheVariants as halt
+use Rattle.scc_grammar_spec.specs.Items.{Reads}
+use Rattle.scc_grammar_spec.specs.LevelsOfItems.{depth}
+use Rattle.scc_grammar_terminals.specs.Text.{Text}
+use Rattle.scc_grammar_terminals.specs.View.{seen_all}
 
 abbrev pub text_of : Joined → Text
 text_of j = seen_all j.tokens

@@ -1,25 +1,25 @@
 //! Classes and modules (C++, [class]; IEEE 1666-2011, section 5.2).
 ghost use Rattle.std.specs.Prelude.{◌≡◌};
-ghost use Rattle.scc_terminals.specs.Answer.{Gives};
-ghost use Rattle.scc_syntax.specs.Bodies as b;
-ghost use Rattle.scc_terminals.specs.Names.{no_names};
-ghost use Rattle.scc_syntax.specs.ParseFile as p;
+ghost use Rattle.scc_grammar_terminals.specs.Answer.{Gives};
+ghost use Rattle.scc_grammar_spec.specs.Bodies as b;
+ghost use Rattle.scc_grammar_terminals.specs.Names.{no_names};
+ghost use Rattle.scc_grammar_spec.specs.ParseFile as p;
 
 use crate::member::{Members, all_members};
 use scc_base::{List, Name, Place};
-use scc_declarationgrammar::class_head::{bases, class_word, declare, special};
-use scc_leafgrammar::first::name_at;
-use scc_terminals::marks::{brace_close, brace_open, paren_close, paren_open, semicolon};
-use scc_terminals::next::begins_module_word;
-use scc_terminals::reader::{Read, Reader};
-use scc_terminals::table::Table;
-use scc_terminals::terminal::Seen;
-use scc_terminals::words::module_word;
+use scc_grammar_declarations::class_head::{bases, class_word, declare, special};
+use scc_grammar_leaves::first::name_at;
+use scc_grammar_terminals::marks::{brace_close, brace_open, paren_close, paren_open, semicolon};
+use scc_grammar_terminals::next::begins_module_word;
+use scc_grammar_terminals::reader::{Read, Reader};
+use scc_grammar_terminals::table::Table;
+use scc_grammar_terminals::terminal::Seen;
+use scc_grammar_terminals::words::module_word;
 use scc_tree::{ClassTree, Item, ItemNode, Param, TyArg};
 use std::alloc::Global;
 
 // The members of a class, in braces.
-#[tactic(auto, unfolding(scc_syntax::specs::ParseFile::class_body))]
+#[tactic(auto, unfolding(scc_grammar_spec::specs::ParseFile::class_body))]
 fn class_body<'a>(
     alloc: Global,
     names: &mut Table,
@@ -65,7 +65,7 @@ fn class_item(
 }
 
 // A module, behind its word.
-#[tactic(auto, unfolding(scc_syntax::specs::ParseFile::module_class))]
+#[tactic(auto, unfolding(scc_grammar_spec::specs::ParseFile::module_class))]
 fn module_class<'a>(
     alloc: Global,
     names: &mut Table,
@@ -84,7 +84,7 @@ fn module_class<'a>(
 }
 
 // A class, behind its word.
-#[tactic(auto, unfolding(scc_syntax::specs::ParseFile::plain_class))]
+#[tactic(auto, unfolding(scc_grammar_spec::specs::ParseFile::plain_class))]
 fn plain_class<'a>(
     alloc: Global,
     names: &mut Table,
@@ -108,7 +108,7 @@ fn plain_class<'a>(
 }
 
 /// A class or a module, behind the parameters of a template where it has some.
-#[tactic(auto, unfolding(scc_syntax::specs::ParseFile::class_at))]
+#[tactic(auto, unfolding(scc_grammar_spec::specs::ParseFile::class_at))]
 pub fn class_at<'a>(
     alloc: Global,
     names: &mut Table,

@@ -1,26 +1,26 @@
 //! Files.
 ghost use Rattle.std.specs.Prelude.{◌≡◌, [], Some, true};
-ghost use Rattle.scc_terminals.specs.Answer.{Gives};
-ghost use Rattle.scc_syntax.specs.Bodies as b;
-ghost use Rattle.scc_syntax.specs.ParseFile as p;
-ghost use Rattle.scc_syntax.specs.ParseItems as i;
-ghost use Rattle.scc_terminals.specs.Text.{next_is, next_says, pick};
+ghost use Rattle.scc_grammar_terminals.specs.Answer.{Gives};
+ghost use Rattle.scc_grammar_spec.specs.Bodies as b;
+ghost use Rattle.scc_grammar_spec.specs.ParseFile as p;
+ghost use Rattle.scc_grammar_spec.specs.ParseItems as i;
+ghost use Rattle.scc_grammar_terminals.specs.Text.{next_is, next_says, pick};
 ghost use Rattle.scc_reading.specs.Reading.{and_then, choose, is_next, pure, repeat_on, token};
 
 use crate::class::class_at;
 use crate::member::Members;
 use crate::outside::{fronted, outside};
 use scc_base::List;
-use scc_declarationgrammar::class_head::begins_class;
-use scc_declarationgrammar::enumeration::{alias, enumeration};
-use scc_declarationgrammar::front::fronts;
-use scc_declarationgrammar::template::template;
-use scc_terminals::halt::{Halt, place_of};
-use scc_terminals::marks::semicolon;
-use scc_terminals::reader::{Read, Reader};
-use scc_terminals::table::Table;
-use scc_terminals::terminal::{Seen, Terminal};
-use scc_terminals::words::{library, namespace};
+use scc_grammar_declarations::class_head::begins_class;
+use scc_grammar_declarations::enumeration::{alias, enumeration};
+use scc_grammar_declarations::front::fronts;
+use scc_grammar_declarations::template::template;
+use scc_grammar_terminals::halt::{Halt, place_of};
+use scc_grammar_terminals::marks::semicolon;
+use scc_grammar_terminals::reader::{Read, Reader};
+use scc_grammar_terminals::table::Table;
+use scc_grammar_terminals::terminal::{Seen, Terminal};
+use scc_grammar_terminals::words::{library, namespace};
 use scc_tree::{Item, Param};
 use std::alloc::Global;
 
@@ -66,7 +66,7 @@ fn begins_word(ts: &[Seen]) -> bool
 }
 
 // A declaration that begins with a word of its own.
-#[tactic(auto, unfolding(scc_syntax::specs::ParseFile::part_by, scc_syntax::specs::ParseItems::item_by))]
+#[tactic(auto, unfolding(scc_grammar_spec::specs::ParseFile::part_by, scc_grammar_spec::specs::ParseItems::item_by))]
 fn worded_part<'a>(
     alloc: Global,
     names: &mut Table,
@@ -126,7 +126,7 @@ fn worded_part<'a>(
 }
 
 // One declaration of a file.
-#[tactic(auto, unfolding(scc_syntax::specs::ParseFile::part))]
+#[tactic(auto, unfolding(scc_grammar_spec::specs::ParseFile::part))]
 fn part<'a>(
     alloc: Global,
     names: &mut Table,
@@ -180,7 +180,7 @@ fn parts<'a>(
 }
 
 /// The declarations of a whole file.
-#[tactic(auto, unfolding(scc_syntax::specs::ParseFile::program, scc_syntax::specs::ParseFile::file))]
+#[tactic(auto, unfolding(scc_grammar_spec::specs::ParseFile::program, scc_grammar_spec::specs::ParseFile::file))]
 pub fn program(alloc: Global, ts: &[Seen]) -> Result<List<Item>, Halt>
     ensures { Gives (λ items. (items, [])) result (p.program 128 ts.now) }
 {

@@ -1,20 +1,20 @@
 //! Functions and constructors, behind their names.
-ghost use Rattle.scc_terminals.specs.Answer.{Gives};
-ghost use Rattle.scc_syntax.specs.ParseItems as p;
+ghost use Rattle.scc_grammar_terminals.specs.Answer.{Gives};
+ghost use Rattle.scc_grammar_spec.specs.ParseItems as p;
 
 use scc_base::{List, Name, Place};
-use scc_declarationgrammar::function::{constructor_of, function_item, function_of};
-use scc_declarationgrammar::initialisers::inits;
-use scc_declarationgrammar::parameters::{prms, qualifier};
-use scc_statementgrammar::stmt::block_of;
-use scc_terminals::marks::{paren_close, paren_open, semicolon};
-use scc_terminals::next::begins_semicolon;
-use scc_terminals::reader::{Read, Reader};
-use scc_terminals::terminal::Seen;
+use scc_grammar_declarations::function::{constructor_of, function_item, function_of};
+use scc_grammar_declarations::initialisers::inits;
+use scc_grammar_declarations::parameters::{prms, qualifier};
+use scc_grammar_statements::stmt::block_of;
+use scc_grammar_terminals::marks::{paren_close, paren_open, semicolon};
+use scc_grammar_terminals::next::begins_semicolon;
+use scc_grammar_terminals::reader::{Read, Reader};
+use scc_grammar_terminals::terminal::Seen;
 use scc_tree::{Item, Stmt, Ty};
 
 /// A body, or the end of a declaration without one.
-#[tactic(auto, unfolding(scc_syntax::specs::ParseItems::body))]
+#[tactic(auto, unfolding(scc_grammar_spec::specs::ParseItems::body))]
 pub fn body<'a>(c: Reader, ts: &'a [Seen]) -> Read<'a, Option<List<Stmt>>>
     ensures { Gives (λ x. (x.0, x.1.now)) result (p.body c.entry.levels c.entry.names.now ts.now) }
 {
@@ -27,7 +27,7 @@ pub fn body<'a>(c: Reader, ts: &'a [Seen]) -> Read<'a, Option<List<Stmt>>>
 }
 
 /// The rest of a function, behind its name.
-#[tactic(auto, unfolding(scc_syntax::specs::ParseItems::function_rest))]
+#[tactic(auto, unfolding(scc_grammar_spec::specs::ParseItems::function_rest))]
 pub fn function_rest<'a>(
     c: Reader,
     gives: Option<Ty>,
@@ -48,7 +48,7 @@ pub fn function_rest<'a>(
 }
 
 /// The rest of a constructor, behind its name.
-#[tactic(auto, unfolding(scc_syntax::specs::ParseItems::constructor_rest))]
+#[tactic(auto, unfolding(scc_grammar_spec::specs::ParseItems::constructor_rest))]
 pub fn constructor_rest<'a>(c: Reader, x: (Name, Place), ts: &'a [Seen]) -> Read<'a, Item>
     ensures { Gives (λ x. (x.0, x.1.now)) result (p.constructor_rest c.entry.levels c.entry.names.now x ts.now) }
 {

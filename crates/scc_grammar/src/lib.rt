@@ -11,4 +11,4 @@ mod parsing;
 
 pub use laws::one_tree;
 pub use parsing::parse;
-pub use scc_terminals::terminal::{Holder, Seen, Terminal};
+pub use scc_grammar_terminals::terminal::{Holder, Seen, Terminal};

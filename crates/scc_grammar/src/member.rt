@@ -1,39 +1,39 @@
 //! Members of classes (C++, [class.mem]).
 ghost use Rattle.std.specs.Prelude.{◌≡◌, ◌∷◌, ◌++◌, [], Ok, IfOk, true};
-ghost use Rattle.scc_terminals.specs.Answer.{Gives};
-ghost use Rattle.scc_syntax.specs.Bodies as b;
-ghost use Rattle.scc_syntax.specs.Fields.{Again, fields_onto};
-ghost use Rattle.scc_terminals.specs.Marks as m;
-ghost use Rattle.scc_syntax.specs.ParseFile as p;
-ghost use Rattle.scc_syntax.specs.ParseItems as i;
-ghost use Rattle.scc_syntax.specs.ParseItems.{MemberStart as start};
-ghost use Rattle.scc_terminals.specs.Text.{mark, next_is};
+ghost use Rattle.scc_grammar_terminals.specs.Answer.{Gives};
+ghost use Rattle.scc_grammar_spec.specs.Bodies as b;
+ghost use Rattle.scc_grammar_spec.specs.Fields.{Again, fields_onto};
+ghost use Rattle.scc_grammar_terminals.specs.Marks as m;
+ghost use Rattle.scc_grammar_spec.specs.ParseFile as p;
+ghost use Rattle.scc_grammar_spec.specs.ParseItems as i;
+ghost use Rattle.scc_grammar_spec.specs.ParseItems.{MemberStart as start};
+ghost use Rattle.scc_grammar_terminals.specs.Text.{mark, next_is};
 ghost use Rattle.scc_tree.specs.declared.ty.Ty as typing;
 ghost use Rattle.scc_reading.specs.Reading.{is_next, repeat};
 
 use crate::function::{body, constructor_rest, function_rest};
 use scc_base::{List, Name, NoMemory, Place};
-use scc_declarationgrammar::enumeration::{alias, enumeration};
-use scc_declarationgrammar::front::{before_constant, fronts, is_first_name};
-use scc_declarationgrammar::function::{
+use scc_grammar_declarations::enumeration::{alias, enumeration};
+use scc_grammar_declarations::front::{before_constant, fronts, is_first_name};
+use scc_grammar_declarations::function::{
     constant_rest, constant_twice, constructor_of, function_item, named_args, named_of,
 };
-use scc_declarationgrammar::initialisers::inits;
-use scc_expressiongrammar::types::{base_at, type_at};
-use scc_leafgrammar::first::name_at;
-use scc_leafgrammar::types::{constant_type, is_constant};
-use scc_statementgrammar::local::{decl, sizes};
-use scc_terminals::halt::{Halt, place_of};
-use scc_terminals::marks::{colon, comma, paren_close, paren_open, semicolon};
-use scc_terminals::next::{
+use scc_grammar_declarations::initialisers::inits;
+use scc_grammar_expressions::types::{base_at, type_at};
+use scc_grammar_leaves::first::name_at;
+use scc_grammar_leaves::types::{constant_type, is_constant};
+use scc_grammar_statements::local::{decl, sizes};
+use scc_grammar_terminals::halt::{Halt, place_of};
+use scc_grammar_terminals::marks::{colon, comma, paren_close, paren_open, semicolon};
+use scc_grammar_terminals::next::{
     begins_assign, begins_comma, begins_constant, begins_not_brace_close, begins_paren_open,
     begins_void_word,
 };
-use scc_terminals::part::TypeRead;
-use scc_terminals::reader::{Read, Reader};
-use scc_terminals::table::Table;
-use scc_terminals::terminal::{Seen, Terminal};
-use scc_terminals::words::{constant, void_word};
+use scc_grammar_terminals::part::TypeRead;
+use scc_grammar_terminals::reader::{Read, Reader};
+use scc_grammar_terminals::table::Table;
+use scc_grammar_terminals::terminal::{Seen, Terminal};
+use scc_grammar_terminals::words::{constant, void_word};
 use scc_tree::{Decl, Field, Hold, Item, Ty};
 use std::alloc::Global;
 
@@ -97,7 +97,7 @@ fn more_fields<'a>(c: Reader, members: &mut Members, typed: &[Seen], ts: &'a [Se
 }
 
 /// The rest of fields of a type, which the tokens `typed` begin with, behind the first one.
-#[tactic(auto, unfolding(scc_syntax::specs::ParseFile::fields_rest))]
+#[tactic(auto, unfolding(scc_grammar_spec::specs::ParseFile::fields_rest))]
 fn fields_rest<'a>(
     c: Reader,
     members: &mut Members,
@@ -116,7 +116,7 @@ fn fields_rest<'a>(
 }
 
 // Fields of a type, behind the first one's name.
-#[tactic(auto, unfolding(scc_syntax::specs::ParseFile::fields_named))]
+#[tactic(auto, unfolding(scc_grammar_spec::specs::ParseFile::fields_named))]
 fn fields_named<'a>(
     c: Reader,
     members: &mut Members,
@@ -138,7 +138,7 @@ fn fields_named<'a>(
     fields_rest(c, members, typed, ty, first, rest)
 }
 
-#[tactic(auto, unfolding(scc_syntax::specs::ParseFile::member_function))]
+#[tactic(auto, unfolding(scc_grammar_spec::specs::ParseFile::member_function))]
 fn member_function<'a>(
     c: Reader,
     members: &mut Members,
@@ -153,7 +153,7 @@ fn member_function<'a>(
     Ok(((), rest))
 }
 
-#[tactic(auto, unfolding(scc_syntax::specs::ParseFile::member_constant))]
+#[tactic(auto, unfolding(scc_grammar_spec::specs::ParseFile::member_constant))]
 fn member_constant<'a>(
     c: Reader,
     members: &mut Members,
@@ -178,7 +178,7 @@ fn no_front(found: &[bool]) -> bool
 }
 
 // Behind the name behind a type.
-#[tactic(auto, unfolding(scc_syntax::specs::ParseFile::member_named))]
+#[tactic(auto, unfolding(scc_grammar_spec::specs::ParseFile::member_named))]
 fn member_named<'a>(
     c: Reader,
     members: &mut Members,
@@ -200,7 +200,7 @@ fn member_named<'a>(
     member_function(c, members, Some(ty), x, ts)
 }
 
-#[tactic(auto, unfolding(scc_syntax::specs::ParseFile::named_member))]
+#[tactic(auto, unfolding(scc_grammar_spec::specs::ParseFile::named_member))]
 fn named_member<'a>(
     c: Reader,
     members: &mut Members,
@@ -238,7 +238,7 @@ fn is_held(found: &[bool], ts: &[Seen]) -> bool
 }
 
 // Behind a type.
-#[tactic(auto, unfolding(scc_syntax::specs::ParseFile::member_typed))]
+#[tactic(auto, unfolding(scc_grammar_spec::specs::ParseFile::member_typed))]
 fn member_typed<'a>(
     c: Reader,
     members: &mut Members,
@@ -258,7 +258,7 @@ fn member_typed<'a>(
 }
 
 // Behind a `const`, which stands at the place and before these tokens.
-#[tactic(auto, using(crate::proofs::TypeAgain::again_constant), unfolding(scc_syntax::specs::ParseFile::constant_member))]
+#[tactic(auto, using(crate::proofs::TypeAgain::again_constant), unfolding(scc_grammar_spec::specs::ParseFile::constant_member))]
 fn constant_member<'a>(
     c: Reader,
     members: &mut Members,
@@ -282,7 +282,7 @@ fn constant_member<'a>(
 }
 
 // What begins with a name.
-#[tactic(auto, using(crate::proofs::TypeAgain::again_named), unfolding(scc_syntax::specs::ParseFile::member_name))]
+#[tactic(auto, using(crate::proofs::TypeAgain::again_named), unfolding(scc_grammar_spec::specs::ParseFile::member_name))]
 fn member_name<'a>(c: Reader, members: &mut Members, ts: &'a [Seen]) -> Read<'a, ()>
     ensures { Gives (λ r. (b.body_of c.entry.names.now members.new.items members.new.fields, r.1.now)) result (p.member_name c.entry.levels (b.body_of c.entry.names.now members.old.items members.old.fields) ts.now) }
 {
@@ -300,7 +300,7 @@ fn member_name<'a>(c: Reader, members: &mut Members, ts: &'a [Seen]) -> Read<'a,
 }
 
 // Behind `static` and `inline`.
-#[tactic(auto, using(crate::proofs::TypeAgain::again_base), unfolding(scc_syntax::specs::ParseFile::member_fronted))]
+#[tactic(auto, using(crate::proofs::TypeAgain::again_base), unfolding(scc_grammar_spec::specs::ParseFile::member_fronted))]
 fn member_fronted<'a>(
     c: Reader,
     members: &mut Members,
@@ -326,7 +326,7 @@ fn member_fronted<'a>(
 }
 
 // Behind `public`, `private` or `protected`.
-#[tactic(auto, unfolding(scc_syntax::specs::ParseFile::member_by))]
+#[tactic(auto, unfolding(scc_grammar_spec::specs::ParseFile::member_by))]
 fn access<'a>(c: Reader, members: &mut Members, w: Place, ts: &'a [Seen]) -> Read<'a, ()>
     ensures { Gives (λ r. (b.body_of c.entry.names.now members.new.items members.new.fields, r.1.now)) result (p.member_by c.entry.levels (b.body_of c.entry.names.now members.old.items members.old.fields) i.access_start w ts.now) }
 {
@@ -335,7 +335,7 @@ fn access<'a>(c: Reader, members: &mut Members, w: Place, ts: &'a [Seen]) -> Rea
 }
 
 // Behind `SC_HAS_PROCESS`.
-#[tactic(auto, unfolding(scc_syntax::specs::ParseFile::member_by))]
+#[tactic(auto, unfolding(scc_grammar_spec::specs::ParseFile::member_by))]
 fn has_process<'a>(c: Reader, members: &mut Members, w: Place, ts: &'a [Seen]) -> Read<'a, ()>
     ensures { Gives (λ r. (b.body_of c.entry.names.now members.new.items members.new.fields, r.1.now)) result (p.member_by c.entry.levels (b.body_of c.entry.names.now members.old.items members.old.fields) i.has_process_start w ts.now) }
 {
@@ -347,7 +347,7 @@ fn has_process<'a>(c: Reader, members: &mut Members, w: Place, ts: &'a [Seen]) -
 }
 
 // Behind `SC_CTOR`.
-#[tactic(auto, unfolding(scc_syntax::specs::ParseFile::member_by))]
+#[tactic(auto, unfolding(scc_grammar_spec::specs::ParseFile::member_by))]
 fn module_constructor<'a>(
     c: Reader,
     members: &mut Members,
@@ -367,7 +367,7 @@ fn module_constructor<'a>(
 }
 
 // Behind `explicit`.
-#[tactic(auto, unfolding(scc_syntax::specs::ParseFile::member_by))]
+#[tactic(auto, unfolding(scc_grammar_spec::specs::ParseFile::member_by))]
 fn explicit<'a>(c: Reader, members: &mut Members, w: Place, ts: &'a [Seen]) -> Read<'a, ()>
     ensures { Gives (λ r. (b.body_of c.entry.names.now members.new.items members.new.fields, r.1.now)) result (p.member_by c.entry.levels (b.body_of c.entry.names.now members.old.items members.old.fields) i.explicit_start w ts.now) }
 {
@@ -378,7 +378,7 @@ fn explicit<'a>(c: Reader, members: &mut Members, w: Place, ts: &'a [Seen]) -> R
 }
 
 // Behind `typedef`.
-#[tactic(auto, unfolding(scc_syntax::specs::ParseFile::member_by, scc_syntax::specs::ParseItems::item_by))]
+#[tactic(auto, unfolding(scc_grammar_spec::specs::ParseFile::member_by, scc_grammar_spec::specs::ParseItems::item_by))]
 fn member_alias<'a>(
     alloc: Global,
     names: &mut Table,
@@ -395,7 +395,7 @@ fn member_alias<'a>(
 }
 
 // Behind `enum`.
-#[tactic(auto, unfolding(scc_syntax::specs::ParseFile::member_by, scc_syntax::specs::ParseItems::item_by))]
+#[tactic(auto, unfolding(scc_grammar_spec::specs::ParseFile::member_by, scc_grammar_spec::specs::ParseItems::item_by))]
 fn member_enumeration<'a>(
     alloc: Global,
     names: &mut Table,
@@ -412,7 +412,7 @@ fn member_enumeration<'a>(
 }
 
 /// A member.
-#[tactic(auto, unfolding(scc_syntax::specs::ParseFile::member, scc_syntax::specs::ParseFile::member_by))]
+#[tactic(auto, unfolding(scc_grammar_spec::specs::ParseFile::member, scc_grammar_spec::specs::ParseFile::member_by))]
 fn member<'a>(
     alloc: Global,
     names: &mut Table,
@@ -485,7 +485,7 @@ fn member<'a>(
 }
 
 /// Members, up to the brace that closes them.
-#[tactic(auto, unfolding(scc_syntax::specs::ParseFile::members))]
+#[tactic(auto, unfolding(scc_grammar_spec::specs::ParseFile::members))]
 pub fn all_members<'a>(
     alloc: Global,
     names: &mut Table,

@@ -1,35 +1,35 @@
 //! Functions, constants and bodies outside their class, in files.
-ghost use Rattle.scc_terminals.specs.Answer.{Gives};
-ghost use Rattle.scc_syntax.specs.ParseItems as p;
+ghost use Rattle.scc_grammar_terminals.specs.Answer.{Gives};
+ghost use Rattle.scc_grammar_spec.specs.ParseItems as p;
 
 use crate::function::function_rest;
 use scc_base::{List, Name, Place};
-use scc_declarationgrammar::enumeration::begins_name;
-use scc_declarationgrammar::front::{before_constant, before_outside, is_first_name};
-use scc_declarationgrammar::function::{
+use scc_grammar_declarations::enumeration::begins_name;
+use scc_grammar_declarations::front::{before_constant, before_outside, is_first_name};
+use scc_grammar_declarations::function::{
     constant_rest, constant_twice, constructor_of, function_of, named_args, named_of, or_none,
     outside_item,
 };
-use scc_declarationgrammar::initialisers::inits;
-use scc_declarationgrammar::parameters::{prms, qualifier};
-use scc_expressiongrammar::types::{base_at, type_at};
-use scc_leafgrammar::first::name_at;
-use scc_leafgrammar::types::{constant_type, is_constant};
-use scc_statementgrammar::stmt::block_of;
-use scc_terminals::halt::{Halt, place_of};
-use scc_terminals::marks::{paren_close, paren_open, scope};
-use scc_terminals::next::{
+use scc_grammar_declarations::initialisers::inits;
+use scc_grammar_declarations::parameters::{prms, qualifier};
+use scc_grammar_expressions::types::{base_at, type_at};
+use scc_grammar_leaves::first::name_at;
+use scc_grammar_leaves::types::{constant_type, is_constant};
+use scc_grammar_statements::stmt::block_of;
+use scc_grammar_terminals::halt::{Halt, place_of};
+use scc_grammar_terminals::marks::{paren_close, paren_open, scope};
+use scc_grammar_terminals::next::{
     begins_assign, begins_constant, begins_inline_word, begins_paren_open, begins_scope,
     begins_void_word,
 };
-use scc_terminals::part::TypeRead;
-use scc_terminals::reader::{Read, Reader};
-use scc_terminals::terminal::Seen;
-use scc_terminals::words::{constant, inline_word, void_word};
+use scc_grammar_terminals::part::TypeRead;
+use scc_grammar_terminals::reader::{Read, Reader};
+use scc_grammar_terminals::terminal::Seen;
+use scc_grammar_terminals::words::{constant, inline_word, void_word};
 use scc_tree::{Item, Param, Ty, TyArg};
 
 /// The rest of a function outside its class, behind the class's name.
-#[tactic(auto, unfolding(scc_syntax::specs::ParseItems::outside_function))]
+#[tactic(auto, unfolding(scc_grammar_spec::specs::ParseItems::outside_function))]
 fn outside_function<'a>(
     c: Reader,
     of_template: List<Param>,
@@ -53,7 +53,7 @@ fn outside_function<'a>(
 }
 
 /// The rest of a constructor outside its class, behind the class's name and its arguments.
-#[tactic(auto, unfolding(scc_syntax::specs::ParseItems::outside_constructor))]
+#[tactic(auto, unfolding(scc_grammar_spec::specs::ParseItems::outside_constructor))]
 fn outside_constructor<'a>(
     c: Reader,
     of_template: List<Param>,
@@ -76,7 +76,7 @@ fn outside_constructor<'a>(
 }
 
 // Behind the name behind a type, or `void`.
-#[tactic(auto, unfolding(scc_syntax::specs::ParseItems::named_function))]
+#[tactic(auto, unfolding(scc_grammar_spec::specs::ParseItems::named_function))]
 fn named_function<'a>(
     c: Reader,
     found: &[bool],
@@ -96,7 +96,7 @@ fn named_function<'a>(
 }
 
 // Behind a type.
-#[tactic(auto, unfolding(scc_syntax::specs::ParseItems::typed))]
+#[tactic(auto, unfolding(scc_grammar_spec::specs::ParseItems::typed))]
 fn typed<'a>(c: Reader, found: &[bool], of: TypeRead, ts: &'a [Seen]) -> Read<'a, Item>
     ensures { Gives (λ x. (x.0, x.1.now)) result (p.typed c.entry.levels c.entry.names.now found.now of ts.now) }
 {
@@ -111,7 +111,7 @@ fn typed<'a>(c: Reader, found: &[bool], of: TypeRead, ts: &'a [Seen]) -> Read<'a
 }
 
 // Behind a `const`, which stands at the place.
-#[tactic(auto, unfolding(scc_syntax::specs::ParseItems::constant_by))]
+#[tactic(auto, unfolding(scc_grammar_spec::specs::ParseItems::constant_by))]
 fn constant_by<'a>(c: Reader, found: &[bool], q: Place, ts: &'a [Seen]) -> Read<'a, Item>
     ensures { Gives (λ x. (x.0, x.1.now)) result (p.constant_by c.entry.levels c.entry.names.now found.now q ts.now) }
 {
@@ -124,7 +124,7 @@ fn constant_by<'a>(c: Reader, found: &[bool], q: Place, ts: &'a [Seen]) -> Read<
 }
 
 // What begins with a name.
-#[tactic(auto, unfolding(scc_syntax::specs::ParseItems::by_name))]
+#[tactic(auto, unfolding(scc_grammar_spec::specs::ParseItems::by_name))]
 fn by_name<'a>(c: Reader, ts: &'a [Seen]) -> Read<'a, Item>
     ensures { Gives (λ x. (x.0, x.1.now)) result (p.by_name c.entry.levels c.entry.names.now ts.now) }
 {
@@ -140,7 +140,7 @@ fn by_name<'a>(c: Reader, ts: &'a [Seen]) -> Read<'a, Item>
 }
 
 /// A function, a constant or a body outside its class, behind `static` and `inline`.
-#[tactic(auto, unfolding(scc_syntax::specs::ParseItems::fronted))]
+#[tactic(auto, unfolding(scc_grammar_spec::specs::ParseItems::fronted))]
 pub fn fronted<'a>(c: Reader, found: &[bool], ts: &'a [Seen]) -> Read<'a, Item>
     ensures { Gives (λ x. (x.0, x.1.now)) result (p.fronted c.entry.levels c.entry.names.now found.now ts.now) }
 {
@@ -161,7 +161,7 @@ pub fn fronted<'a>(c: Reader, found: &[bool], ts: &'a [Seen]) -> Read<'a, Item>
 }
 
 // Behind the parameters of a template, and `inline`.
-#[tactic(auto, unfolding(scc_syntax::specs::ParseItems::outside_result))]
+#[tactic(auto, unfolding(scc_grammar_spec::specs::ParseItems::outside_result))]
 fn outside_result<'a>(c: Reader, params: List<Param>, ts: &'a [Seen]) -> Read<'a, Item>
     ensures { Gives (λ x. (x.0, x.1.now)) result (p.outside_result c.entry.levels c.entry.names.now params ts.now) }
 {
@@ -175,7 +175,7 @@ fn outside_result<'a>(c: Reader, params: List<Param>, ts: &'a [Seen]) -> Read<'a
     outside_function(c, params, Some(of.ty), x, rest)
 }
 
-#[tactic(auto, unfolding(scc_syntax::specs::ParseItems::outside_name))]
+#[tactic(auto, unfolding(scc_grammar_spec::specs::ParseItems::outside_name))]
 fn outside_name<'a>(c: Reader, params: List<Param>, ts: &'a [Seen]) -> Read<'a, Item>
     ensures { Gives (λ x. (x.0, x.1.now)) result (p.outside_name c.entry.levels c.entry.names.now params ts.now) }
 {
@@ -193,7 +193,7 @@ fn outside_name<'a>(c: Reader, params: List<Param>, ts: &'a [Seen]) -> Read<'a, 
 }
 
 /// A body outside its class, behind the parameters of a template.
-#[tactic(auto, unfolding(scc_syntax::specs::ParseItems::outside))]
+#[tactic(auto, unfolding(scc_grammar_spec::specs::ParseItems::outside))]
 pub fn outside<'a>(c: Reader, params: List<Param>, ts: &'a [Seen]) -> Read<'a, Item>
     ensures { Gives (λ x. (x.0, x.1.now)) result (p.outside c.entry.levels c.entry.names.now params ts.now) }
 {

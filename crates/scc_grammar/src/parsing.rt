@@ -3,14 +3,14 @@ ghost use Rattle.std.specs.Prelude.{◌≡◌, IfOk, IfErr, List, Ok, Err};
 ghost use Rattle.scc_reading.specs.Claim.{IsRead};
 ghost use Rattle.scc_tree.specs.declared.item.Item.{Item};
 ghost use Rattle.scc_grammar.specs.Claim.{IsReadFile, FaultAt, ReadsOnly, stop_of, text_of};
-ghost use Rattle.scc_syntax.specs.LevelsOfItems.{depth};
-ghost use Rattle.scc_syntax.specs.Items.{Reads};
+ghost use Rattle.scc_grammar_spec.specs.LevelsOfItems.{depth};
+ghost use Rattle.scc_grammar_spec.specs.Items.{Reads};
 ghost use Rattle.scc_base.specs.declared.refusal.Stop.TheVariants as stop;
 
 use crate::file::program;
 use scc_base::{Code, Place, Refusal, Stop};
-use scc_terminals::halt::Halt;
-use scc_terminals::view::see;
+use scc_grammar_terminals::halt::Halt;
+use scc_grammar_terminals::view::see;
 use scc_tokens::Joined;
 use scc_tree::FileTree;
 use std::alloc::Global;

@@ -1,7 +1,7 @@
 //! Blocks with other numbers of variables.
 use scc_base::{List, NoMemory};
-use scc_renumber::{Ids, renumbered, renumbered_expr};
 use scc_svtree::{SvBlock, SvLoad, SvReset, SvSet};
+use scc_svtree_renumber::{Ids, renumbered, renumbered_expr};
 use std::alloc::Global;
 
 /// How deep expressions nest beside their first operands.

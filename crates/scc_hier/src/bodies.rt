@@ -6,10 +6,10 @@ use crate::ports::Parts;
 use crate::tree::{Tree, put, put_in, row, rows};
 use indexmap::IndexSet;
 use scc_base::{List, NoMemory, Text, lost, push};
-use scc_hiertext::{HierModule, Instance};
-use scc_renumber::UNDECLARED;
+use scc_hier_text::{HierModule, Instance};
 use scc_svtext::print;
 use scc_svtree::{Dir, SvBlock, SvModule, SvVar, VarId};
+use scc_svtree_renumber::UNDECLARED;
 use std::alloc::Global;
 
 /// Modules apart from their names, none of them twice.

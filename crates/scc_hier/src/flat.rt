@@ -1,7 +1,7 @@
 //! Modules with instances as one module.
 use crate::block::{ids_in, renumbered_block};
 use scc_base::{List, NoMemory, Text, lost, push};
-use scc_hiertext::{Hier, HierModule, Instance};
+use scc_hier_text::{Hier, HierModule, Instance};
 use scc_svtree::{Dir, SvBlock, SvModule, SvVar, VarId};
 use std::alloc::Global;
 

@@ -17,5 +17,5 @@ pub use flat::flatten;
 pub use module::hier;
 pub use paths::Paths;
 pub use plan::{HierPlan, HierPort};
-pub use scc_hiertext::{Hier, HierModule, Instance};
+pub use scc_hier_text::{Hier, HierModule, Instance};
 pub use tree::walk;

@@ -4,7 +4,7 @@ use crate::plan::HierPlan;
 use crate::ports::parts_of;
 use crate::tree::{at, put, put_in, rows, tree_of};
 use scc_base::{List, NoMemory, Text, lost, push};
-use scc_hiertext::{Hier, HierModule, Instance};
+use scc_hier_text::{Hier, HierModule, Instance};
 use scc_svtree::SvModule;
 use std::alloc::Global;
 

@@ -1,6 +1,6 @@
 //! Copies of locations and expressions: names become cells as far as indices are static.
 ghost use Rattle.std.specs.Prelude.{◌<◌, IfSome};
-ghost use Rattle.scc_plaintree.specs.declared.expr.PlainExpr.{size-PlainExpr};
+ghost use Rattle.scc_plain_tree.specs.declared.expr.PlainExpr.{size-PlainExpr};
 
 use crate::scope::{Growing, Here, Scope};
 use scc_base::{Boxed, List, NoMemory, Path, Place, lost};
@@ -8,8 +8,8 @@ use scc_core::{
     CellName, Copies, CoreBase, CoreExpr, CoreExprNode, CoreLeft, CorePart, CorePick, LEVELS,
     NameStep, Spot, deeper,
 };
-use scc_plainfacts::{first_base, pointers};
-use scc_plaintree::{
+use scc_inline_facts::{first_base, pointers};
+use scc_plain_tree::{
     Base, PlainBase, PlainExpr, PlainExprNode, PlainLeft, PlainPart, PlainPick, Reach,
 };
 use std::alloc::Global;

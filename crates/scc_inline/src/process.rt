@@ -8,9 +8,9 @@ use scc_core::{
     CellName, Core, CoreBase, CoreLeft, CoreNode, CoreProcess, CoreStmt, Edge2, Reset2, Sort2,
     numbered,
 };
-use scc_design::{Design, Process, Sort};
-use scc_plainfacts::{DEPTH, Facts, ObjectCells, all_facts, object_cells, vectors};
-use scc_plaintree::Plain;
+use scc_elab_design::{Design, Process, Sort};
+use scc_inline_facts::{DEPTH, Facts, ObjectCells, all_facts, object_cells, vectors};
+use scc_plain_tree::Plain;
 use std::alloc::Global;
 
 /// The core of a design: its cells, and the bodies of its processes with their calls copied. E601 where such a body has

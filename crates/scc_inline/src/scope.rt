@@ -6,8 +6,8 @@ use scc_core::{
     Cell, CellName, CellSort, CoreBase, CoreExpr, CoreExprNode, CoreLeft, CoreNode, CoreStmt,
     Counters, Known, Places, Spot, VectorSize2, numbered,
 };
-use scc_plainfacts::Facts;
-use scc_plaintree::{Base, Plain, PlainFunction, PlainMember, Reach};
+use scc_inline_facts::Facts;
+use scc_plain_tree::{Base, Plain, PlainFunction, PlainMember, Reach};
 use std::alloc::Global;
 
 /// What is copied from.

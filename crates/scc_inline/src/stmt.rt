@@ -7,8 +7,8 @@ use scc_base::{Boxed, Code, List, NoMemory, Place, Stop, lost};
 use scc_core::{
     CoreBase, CoreExpr, CoreLeft, CoreNode, CorePart, CoreStmt, Count, Pointed, deeper, pointers,
 };
-use scc_plainfacts::alone;
-use scc_plaintree::{
+use scc_inline_facts::alone;
+use scc_plain_tree::{
     PlainArg, PlainCount, PlainExpr, PlainFunction, PlainLeft, PlainNode, PlainStmt, PlainTarget,
     Reach,
 };

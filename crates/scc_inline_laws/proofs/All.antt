@@ -1,28 +1,28 @@
 -- A design and its copy mean the same.
 use Rattle.std.proofs.Common.{◌≡◌, ℕ, zero, suc, ◌+◌, Bool, true, false, List, [], ◌∷◌, map, Option, Some, None, option_map, option_and_then, unwrap_or, slice_get, refl, sym, ap, ◌∙◌, subst, arith}
 use Rattle.scc_base.specs.declared.refusal.Refusal.{Refusal}
-use Rattle.scc_meaning.specs.Location.{Location, Root}
-use Rattle.scc_running.specs.Design as running
-use Rattle.scc_running.specs.Run.{FitsThing}
-use Rattle.scc_running.specs.Start.{IsProper, HoldsConstant}
-use Rattle.scc_running.specs.Same.{Turn, AllProper, AllTheSame, SameDesign, at_first}
-use Rattle.scc_meaning_core.specs.Program as prog
-use Rattle.scc_meaning_core.specs.First.{or_else, first_of, first_numbered}
-use Rattle.scc_meaning_core.specs.Resolved.{Tried, Made, Stopped}
-use Rattle.scc_meaning_core.specs.Source as source
-use Rattle.scc_meaning_core.specs.Source.{at_top, source_of, processes_from}
-use Rattle.scc_meaning_blocks.specs.Comes.{Keeps}
-use Rattle.scc_meaning_plain.specs.Program.{Plain, Function}
-use Rattle.scc_meaning_plain.specs.Design as design
-use Rattle.scc_meaning_plain.specs.Design.{Design}
-use Rattle.scc_meaning_plain.specs.Meant as meant
-use Rattle.scc_meaning_plain.specs.Meant.{design_of}
-use Rattle.scc_meaning_plain.specs.Numbering.{levels}
-use Rattle.scc_meaning_plain.specs.Inlined.{home_of, here_of, copied_program, copied_process, copied_from, too_large}
-use Rattle.scc_meaning_plain.specs.Static.{inlined, first_copied}
+use Rattle.scc_semantics.specs.Location.{Location, Root}
+use Rattle.scc_semantics.specs.Design as running
+use Rattle.scc_semantics.specs.Run.{FitsThing}
+use Rattle.scc_semantics.specs.Start.{IsProper, HoldsConstant}
+use Rattle.scc_semantics.specs.Same.{Turn, AllProper, AllTheSame, SameDesign, at_first}
+use Rattle.scc_core_spec.specs.Program as prog
+use Rattle.scc_core_spec.specs.First.{or_else, first_of, first_numbered}
+use Rattle.scc_core_spec.specs.Resolved.{Tried, Made, Stopped}
+use Rattle.scc_core_spec.specs.Source as source
+use Rattle.scc_core_spec.specs.Source.{at_top, source_of, processes_from}
+use Rattle.scc_blocks_spec.specs.Comes.{Keeps}
+use Rattle.scc_elab_spec.specs.Program.{Plain, Function}
+use Rattle.scc_elab_spec.specs.Design as design
+use Rattle.scc_elab_spec.specs.Design.{Design}
+use Rattle.scc_elab_spec.specs.Meant as meant
+use Rattle.scc_elab_spec.specs.Meant.{design_of}
+use Rattle.scc_elab_spec.specs.Numbering.{levels}
+use Rattle.scc_inline_spec.specs.Inlined.{home_of, here_of, copied_program, copied_process, copied_from, too_large}
+use Rattle.scc_inline_spec.specs.Static.{inlined, first_copied}
 use Rattle.scc_inline_laws.specs.OrderlyDesign.{IsOrderly, IsOrderlyProcess}
-use Rattle.scc_meaning_plain.specs.Cells.{path_of}
-use Rattle.scc_meaning_plain.specs.Spoken.{function_body}
+use Rattle.scc_elab_spec.specs.Cells.{path_of}
+use Rattle.scc_elab_spec.specs.Spoken.{function_body}
 use Rattle.scc_inline_process_laws.specs.Standing.{KeepsOver, KeepsAlways}
 use Rattle.scc_inline_process_laws.specs.Whole.{IsReady, own_names, spoken_design, copied_design, spoken_process, copied_as_process}
 use Rattle.scc_inline_process_laws.proofs.Kept.{kept_always}

@@ -4,12 +4,12 @@ use Rattle.std.specs.Prelude.{pos, negsuc}
 use Rattle.std.specs.List.{list_any, range_with_len}
 use Rattle.std.proofs.lemmas.Bool.{eq-eqb, eqb-true, lt-ltb, ltb-true}
 use Rattle.std.proofs.Math.Nat.{mod-eq_of_lt}
-use Rattle.scc_kinds.specs.declared.kind.Kind.TheVariants as kind
-use Rattle.scc_kinds.specs.Numbers.{low}
-use Rattle.scc_meaning.specs.Location.{Part, Member, Element, same_path}
-use Rattle.scc_meaning.specs.Value.{index_of}
-use Rattle.scc_meaning_plain.specs.Bodies.{elements}
-use Rattle.scc_meaning_plain.specs.Worth.{is_inside}
+use Rattle.scc_bits_kinds.specs.declared.kind.Kind.TheVariants as kind
+use Rattle.scc_bits_kinds.specs.Numbers.{low}
+use Rattle.scc_semantics.specs.Location.{Part, Member, Element, same_path}
+use Rattle.scc_semantics.specs.Scene.{index_of}
+use Rattle.scc_elab_spec.specs.Bodies.{elements}
+use Rattle.scc_elab_spec.specs.Worth.{is_inside}
 use Rattle.scc_inline_laws.specs.Orderly.{AreSmall}
 
 abbrev pub Each : {A : Type 0} → (A → Type 0) → List A → Type 0

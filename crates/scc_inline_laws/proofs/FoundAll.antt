@@ -4,17 +4,17 @@ use Rattle.std.specs.Prelude.{find}
 use Rattle.std.specs.Option.{option_or}
 use Rattle.std.specs.List.{list_any}
 use Rattle.std.proofs.lemmas.List.Folds.{find-append}
-use Rattle.scc_meaning.specs.Location.{Location, Root, Part, same_root, same_path}
-use Rattle.scc_meaning.specs.Location as location
-use Rattle.scc_running.specs.Same.{is_own}
-use Rattle.scc_meaning_core.specs.Program as prog
-use Rattle.scc_meaning_core.specs.Source.{process_named, cell_there}
-use Rattle.scc_meaning_plain.specs.Program.{Plain, Member}
-use Rattle.scc_meaning_plain.specs.Design as design
-use Rattle.scc_meaning_plain.specs.Design.{Design}
-use Rattle.scc_meaning_plain.specs.Cells.{object_cells}
-use Rattle.scc_meaning_plain.specs.Numbering.{numbered}
-use Rattle.scc_meaning_plain.specs.Inlined.{home_of, copied_program, copied_from, copied_process, process_path, member_of_root, own_cells, all_cells}
+use Rattle.scc_semantics.specs.Location.{Location, Root, Part, same_root, same_path}
+use Rattle.scc_semantics.specs.Location as location
+use Rattle.scc_semantics.specs.Same.{is_own}
+use Rattle.scc_core_spec.specs.Program as prog
+use Rattle.scc_core_spec.specs.Source.{process_named, cell_there}
+use Rattle.scc_elab_spec.specs.Program.{Plain, Member}
+use Rattle.scc_elab_spec.specs.Design as design
+use Rattle.scc_elab_spec.specs.Design.{Design}
+use Rattle.scc_elab_spec.specs.Cells.{object_cells}
+use Rattle.scc_elab_spec.specs.Numbering.{numbered}
+use Rattle.scc_inline_spec.specs.Inlined.{home_of, copied_program, copied_from, copied_process, process_path, member_of_root, own_cells, all_cells}
 use Rattle.scc_inline_laws.specs.OrderlyDesign.{IsOrderly}
 use Rattle.scc_inline_laws.proofs.Owned.{own-home, owned-numbered}
 use Rattle.scc_inline_laws.proofs.Listed.{root-same}

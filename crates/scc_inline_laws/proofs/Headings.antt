@@ -1,24 +1,24 @@
 -- A design and its copy have the same ports, and their processes the same sorts.
 use Rattle.std.proofs.Common.{◌≡◌, ◌⊎◌, inl, inr, ℕ, zero, suc, ◌+◌, Bool, true, false, not, ◌&&◌, cond, List, [], ◌∷◌, ◌++◌, map, length, filter, filter_map, take, Option, Some, None, option_map, option_and_then, unwrap_or, is_some, slice_get, if◌then◌else◌, refl, sym, ap, ◌∙◌, subst, arith}
 use Rattle.std.specs.List.{cons_option}
-use Rattle.scc_kinds.specs.declared.kind.Kind.TheVariants as kind
-use Rattle.scc_meaning.specs.Location.{Location, Root, Part}
-use Rattle.scc_meaning.specs.Location as location
-use Rattle.scc_meaning.specs.Design as thing
-use Rattle.scc_running.specs.Design as running
-use Rattle.scc_meaning_core.specs.Program as prog
-use Rattle.scc_meaning_core.specs.Static.{Cells, fixed_word}
-use Rattle.scc_meaning_core.specs.Source as source
-use Rattle.scc_meaning_core.specs.Source.{at_top, cell_location}
-use Rattle.scc_meaning_plain.specs.Program.{Plain, Member}
-use Rattle.scc_meaning_plain.specs.Design as design
-use Rattle.scc_meaning_plain.specs.Design.{Design, Object, Node, Module, Port, Signal, Variable, Pointer, is_module}
-use Rattle.scc_meaning_plain.specs.Types.{is_direct}
-use Rattle.scc_meaning_plain.specs.Cells.{object_cell, object_cells, cells_from, cell_number, path_of, is_top, parent, port_sort, cell_of, is_fixed, target_of}
-use Rattle.scc_meaning_plain.specs.Meant as meant
-use Rattle.scc_meaning_plain.specs.Numbering.{numbered}
-use Rattle.scc_meaning_plain.specs.Bodies.{elements, number_kind}
-use Rattle.scc_meaning_plain.specs.Inlined.{member_of_root, own_cell, own_cells, all_cells, process_path, copied_process}
+use Rattle.scc_bits_kinds.specs.declared.kind.Kind.TheVariants as kind
+use Rattle.scc_semantics.specs.Location.{Location, Root, Part}
+use Rattle.scc_semantics.specs.Location as location
+use Rattle.scc_semantics.specs.Places as thing
+use Rattle.scc_semantics.specs.Design as running
+use Rattle.scc_core_spec.specs.Program as prog
+use Rattle.scc_core_spec.specs.Static.{Cells, fixed_word}
+use Rattle.scc_core_spec.specs.Source as source
+use Rattle.scc_core_spec.specs.Source.{at_top, cell_location}
+use Rattle.scc_elab_spec.specs.Program.{Plain, Member}
+use Rattle.scc_elab_spec.specs.Design as design
+use Rattle.scc_elab_spec.specs.Design.{Design, Object, Node, Module, Port, Signal, Variable, Pointer, is_module}
+use Rattle.scc_elab_spec.specs.Types.{is_direct}
+use Rattle.scc_elab_spec.specs.Cells.{object_cell, object_cells, cells_from, cell_number, path_of, is_top, parent, port_sort, cell_of, is_fixed, target_of}
+use Rattle.scc_elab_spec.specs.Meant as meant
+use Rattle.scc_elab_spec.specs.Numbering.{numbered}
+use Rattle.scc_elab_spec.specs.Bodies.{elements, number_kind}
+use Rattle.scc_inline_spec.specs.Inlined.{member_of_root, own_cell, own_cells, all_cells, process_path, copied_process}
 use Rattle.scc_states_laws.proofs.Values.{some_same}
 use Rattle.scc_inline_process_laws.specs.Own.{OwnMoves}
 use Rattle.scc_inline_laws.specs.OrderlyDesign.{IsThing, AreThings, IsEdge, IsReset}

@@ -3,17 +3,17 @@ use Rattle.std.proofs.Common.{◌≡◌, ◌⊎◌, inl, inr, ℕ, zero, suc, �
 use Rattle.std.specs.List.{list_any, range_with_len}
 use Rattle.std.proofs.lemmas.Bool.{eq-eqb, eqb-true}
 use Rattle.std.proofs.lemmas.Option.{slice_get_within}
-use Rattle.scc_kinds.specs.declared.kind.Kind.{Kind}
-use Rattle.scc_meaning.specs.Location.{Root, same_root, same_calls}
-use Rattle.scc_meaning.specs.Location as location
-use Rattle.scc_running.specs.Same.{is_own}
-use Rattle.scc_meaning_blocks.specs.Passed.{IsHome}
-use Rattle.scc_meaning_plain.specs.Term.{Left, Local, Answer, This, Follow, Member, Index}
-use Rattle.scc_meaning_plain.specs.Program.{Code, End, Declare, Assign, Point, Write, Call, If, Loop, Block, Exit, Return, Wait, Make, Bind, Process, Sensitive, Quiet, Reset, Function, Plain}
-use Rattle.scc_meaning_plain.specs.Design as design
-use Rattle.scc_meaning_plain.specs.Design.{Design}
-use Rattle.scc_meaning_plain.specs.Numbering.{Calling, declares, body_declares, call_declares, first_locals, result_root, whole_local, once, numbered, levels}
-use Rattle.scc_meaning_plain.specs.Inlined.{home_of}
+use Rattle.scc_bits_kinds.specs.declared.kind.Kind.{Kind}
+use Rattle.scc_semantics.specs.Location.{Root, same_root, same_calls}
+use Rattle.scc_semantics.specs.Location as location
+use Rattle.scc_semantics.specs.Same.{is_own}
+use Rattle.scc_blocks_spec.specs.Passed.{IsHome}
+use Rattle.scc_elab_spec.specs.Term.{Left, Local, Answer, This, Follow, Member, Index}
+use Rattle.scc_elab_spec.specs.Program.{Code, End, Declare, Assign, Point, Write, Call, If, Loop, Block, Exit, Return, Wait, Make, Bind, Process, Sensitive, Quiet, Reset, Function, Plain}
+use Rattle.scc_elab_spec.specs.Design as design
+use Rattle.scc_elab_spec.specs.Design.{Design}
+use Rattle.scc_elab_spec.specs.Numbering.{Calling, declares, body_declares, call_declares, first_locals, result_root, whole_local, once, numbered, levels}
+use Rattle.scc_inline_spec.specs.Inlined.{home_of}
 use Rattle.scc_inline_laws.specs.Orderly.{IsOrderlyCode, IsOrderlyLeft, IsOrderlyFunction}
 use Rattle.scc_inline_laws.specs.OrderlyDesign.{IsOrderly, IsOrderlyProcess}
 use Rattle.scc_inline_laws.proofs.Elements.{Each, each-append, each-map, each-range}

@@ -4,31 +4,31 @@ use Rattle.std.specs.List.{range_with_len}
 use Rattle.std.proofs.lemmas.Option.{slice_get_within}
 use Rattle.std.proofs.Math.Nat.{le-max_left, le-max_right}
 use Rattle.scc_base.specs.declared.refusal.Place.{Place}
-use Rattle.scc_kinds.specs.declared.kind.Kind.{Kind}
-use Rattle.scc_meaning.specs.Location.{Location, Root, Part, Element}
-use Rattle.scc_meaning.specs.Location as location
-use Rattle.scc_meaning.specs.Design.{Places, Thing}
-use Rattle.scc_meaning.specs.Design as thing
-use Rattle.scc_meaning.specs.Value.{Names}
-use Rattle.scc_meaning_core.specs.Term as core
-use Rattle.scc_meaning_core.specs.Resolved.{placed}
-use Rattle.scc_meaning_core.specs.Named.{cell_at, steps_of}
-use Rattle.scc_meaning_core.specs.Fold.{named, extended, member_of, element_of, element_or, in_range, static_index, size_of}
-use Rattle.scc_meaning_core.specs.Source.{Home}
-use Rattle.scc_meaning_plain.specs.Term.{Term, Literal, Load, Read, Convert, Unary, Binary, Choose, Bit, Range, Join, Left, Local, Answer, This, Follow, Index, Pick, Whole, OneBit, Bits, Target, Null, Address, Copy, Argument, Value, Leads, ModuleName}
-use Rattle.scc_meaning_plain.specs.Term as term
-use Rattle.scc_meaning_plain.specs.Program.{Base, Number, Code, End, Declare, Assign, Point, Write, Call, If, Loop, Block, Exit, Return, Wait, Make, Bind, Process, Sensitive, Quiet, Reset, Function, Plain, Member}
-use Rattle.scc_meaning_plain.specs.Program as plain
-use Rattle.scc_meaning_plain.specs.Design as design
-use Rattle.scc_meaning_plain.specs.Design.{Design}
-use Rattle.scc_meaning_plain.specs.Types.{is_direct, is_reference, declared_at, points_at, sizes_at}
-use Rattle.scc_meaning_plain.specs.Worth.{is_inside, member_name}
-use Rattle.scc_meaning_plain.specs.Meant.{function_of, local_of, number_there, thing_at, pointer_at}
-use Rattle.scc_meaning_plain.specs.Numbering.{declares, callee, body_declares, call_declares, first_locals, result_root, whole_local, function_at, numbered, number_of, levels}
-use Rattle.scc_meaning_plain.specs.Copied.{Here, located, copied, refer, size_here, local_root, local_name, answer_name}
-use Rattle.scc_meaning_plain.specs.Copied as copied
-use Rattle.scc_meaning_plain.specs.Bodies.{elements, inside, object_of, result_name, callee_of, soften}
-use Rattle.scc_meaning_plain.specs.Inlined.{here_of, home_of}
+use Rattle.scc_bits_kinds.specs.declared.kind.Kind.{Kind}
+use Rattle.scc_semantics.specs.Location.{Location, Root, Part, Element}
+use Rattle.scc_semantics.specs.Location as location
+use Rattle.scc_semantics.specs.Places.{Places, Thing}
+use Rattle.scc_semantics.specs.Places as thing
+use Rattle.scc_semantics.specs.Scene.{Names}
+use Rattle.scc_core_spec.specs.Term as core
+use Rattle.scc_core_spec.specs.Resolved.{placed}
+use Rattle.scc_core_spec.specs.Named.{cell_at, steps_of}
+use Rattle.scc_core_spec.specs.Fold.{named, extended, member_of, element_of, element_or, in_range, static_index, size_of}
+use Rattle.scc_core_spec.specs.Source.{Home}
+use Rattle.scc_elab_spec.specs.Term.{Term, Literal, Load, Read, Convert, Unary, Binary, Choose, Bit, Range, Join, Left, Local, Answer, This, Follow, Index, Pick, Whole, OneBit, Bits, Target, Null, Address, Copy, Argument, Value, Leads, ModuleName}
+use Rattle.scc_elab_spec.specs.Term as term
+use Rattle.scc_elab_spec.specs.Program.{Base, Number, Code, End, Declare, Assign, Point, Write, Call, If, Loop, Block, Exit, Return, Wait, Make, Bind, Process, Sensitive, Quiet, Reset, Function, Plain, Member}
+use Rattle.scc_elab_spec.specs.Program as plain
+use Rattle.scc_elab_spec.specs.Design as design
+use Rattle.scc_elab_spec.specs.Design.{Design}
+use Rattle.scc_elab_spec.specs.Types.{is_direct, is_reference, declared_at, points_at, sizes_at}
+use Rattle.scc_elab_spec.specs.Worth.{is_inside, member_name}
+use Rattle.scc_elab_spec.specs.Meant.{function_of, local_of, number_there, thing_at, pointer_at}
+use Rattle.scc_elab_spec.specs.Numbering.{declares, callee, body_declares, call_declares, first_locals, result_root, whole_local, function_at, numbered, number_of, levels}
+use Rattle.scc_elab_spec.specs.Copied.{Here, located, copied, refer, size_here, local_root, local_name, answer_name}
+use Rattle.scc_elab_spec.specs.Copied as copied
+use Rattle.scc_elab_spec.specs.Bodies.{elements, inside, object_of, result_name, callee_of, soften}
+use Rattle.scc_inline_spec.specs.Inlined.{here_of, home_of}
 use Rattle.scc_inline_process_laws.specs.Sound.{IsKinded, IsKindedLeft, IsHomed, IsObject, IsSoundTerm, IsSoundLeft}
 use Rattle.scc_inline_process_laws.specs.SoundCode.{IsSoundPick, IsSoundTarget, IsNumberAt, IsPointerAt, AllPlaced, IsPlaced, AllSmall, IsSoundObject, AreSoundArguments, IsSoundAnswer, IsSoundReturn, IsSoundCode, IsSoundCall, IsFirm, element_of_local}
 use Rattle.scc_inline_laws.specs.Orderly.{IsOrderlyLocal, Takes, is_object, IsOrderlyTerm, IsOrderlyLeft, IsOrderlyPick, IsOrderlyTarget, IsOrderlyObject, AreOrderlyArguments, IsOrderlyReturn, IsOrderlyCode, IsOrderlyFunction}

@@ -5,30 +5,30 @@ use Rattle.std.specs.Option.{option_or}
 use Rattle.std.specs.List.{list_any}
 use Rattle.std.proofs.lemmas.Bool.{eqb-true, eq-eqb}
 use Rattle.std.proofs.lemmas.List.Folds.{find-append}
-use Rattle.scc_kinds.specs.declared.kind.Kind.{Kind}
-use Rattle.scc_meaning.specs.Location.{Location, Root, Part, same_root, same_path, same_part}
-use Rattle.scc_meaning.specs.Location as location
-use Rattle.scc_meaning.specs.Design.{Thing, Places}
-use Rattle.scc_meaning.specs.Design as thing
-use Rattle.scc_running.specs.Same.{is_own}
-use Rattle.scc_meaning_core.specs.Program as prog
-use Rattle.scc_meaning_core.specs.Static.{fixed_word}
-use Rattle.scc_meaning_core.specs.Source as source
-use Rattle.scc_meaning_core.specs.Source.{at_top, cell_there, target_there}
-use Rattle.scc_meaning_plain.specs.Program.{Base, Number, Function, Plain, Member}
-use Rattle.scc_meaning_plain.specs.Program as plain
-use Rattle.scc_meaning_plain.specs.Design as design
-use Rattle.scc_meaning_plain.specs.Design.{Design, Object, Node, Module, Port, Signal, Variable, Pointer}
-use Rattle.scc_meaning_plain.specs.Types.{is_direct}
-use Rattle.scc_meaning_plain.specs.Cells.{object_cell, object_cells, path_of, is_top, parent, port_sort, target_of, is_fixed, cell_of}
-use Rattle.scc_meaning_plain.specs.Meant as meant
-use Rattle.scc_meaning_plain.specs.Meant.{function_of, local_of, number_there, thing_at, pointer_at, target_at, fixed_at}
-use Rattle.scc_meaning_plain.specs.Worth.{is_inside}
-use Rattle.scc_meaning_plain.specs.Numbering.{numbered, function_at}
-use Rattle.scc_meaning_plain.specs.Bodies.{number_kind}
-use Rattle.scc_meaning_plain.specs.Inlined.{member_of_root, answer_member, all_cells, too_large}
+use Rattle.scc_bits_kinds.specs.declared.kind.Kind.{Kind}
+use Rattle.scc_semantics.specs.Location.{Location, Root, Part, same_root, same_path, same_part}
+use Rattle.scc_semantics.specs.Location as location
+use Rattle.scc_semantics.specs.Places.{Thing, Places}
+use Rattle.scc_semantics.specs.Places as thing
+use Rattle.scc_semantics.specs.Same.{is_own}
+use Rattle.scc_core_spec.specs.Program as prog
+use Rattle.scc_core_spec.specs.Static.{fixed_word}
+use Rattle.scc_core_spec.specs.Source as source
+use Rattle.scc_core_spec.specs.Source.{at_top, cell_there, target_there}
+use Rattle.scc_elab_spec.specs.Program.{Base, Number, Function, Plain, Member}
+use Rattle.scc_elab_spec.specs.Program as plain
+use Rattle.scc_elab_spec.specs.Design as design
+use Rattle.scc_elab_spec.specs.Design.{Design, Object, Node, Module, Port, Signal, Variable, Pointer}
+use Rattle.scc_elab_spec.specs.Types.{is_direct}
+use Rattle.scc_elab_spec.specs.Cells.{object_cell, object_cells, path_of, is_top, parent, port_sort, target_of, is_fixed, cell_of}
+use Rattle.scc_elab_spec.specs.Meant as meant
+use Rattle.scc_elab_spec.specs.Meant.{function_of, local_of, number_there, thing_at, pointer_at, target_at, fixed_at}
+use Rattle.scc_elab_spec.specs.Worth.{is_inside}
+use Rattle.scc_elab_spec.specs.Numbering.{numbered, function_at}
+use Rattle.scc_elab_spec.specs.Bodies.{number_kind}
+use Rattle.scc_inline_spec.specs.Inlined.{member_of_root, answer_member, all_cells, too_large}
 use Rattle.scc_states_laws.proofs.Values.{some_same, map_is, then_is}
-use Rattle.scc_meaning_plain.proofs.Chains.{and-first, and-second}
+use Rattle.scc_elab_spec.proofs.Chains.{and-first, and-second}
 use Rattle.scc_inline_laws.specs.Orderly.{IsOrderlyLocal}
 use Rattle.scc_inline_laws.specs.OrderlyDesign.{IsOrderly}
 use Rattle.scc_inline_process_laws.specs.Whole.{spoken_design, copied_design}

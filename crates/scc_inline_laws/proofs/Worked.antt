@@ -1,10 +1,10 @@
 -- The method of `m = pick(1) + pick(0)` meets what is asked of it.
 use Rattle.std.proofs.Common.{◌≡◌, ℕ, false, [], Option, Some, None, refl}
-use Rattle.scc_meaning_plain.specs.Worked.{program, made, method, pick, int, here}
-use Rattle.scc_meaning_plain.specs.Design as design
-use Rattle.scc_meaning_plain.specs.Inlined.{here_of, home_of}
-use Rattle.scc_meaning_plain.specs.Numbering.{levels}
-use Rattle.scc_meaning.specs.Location.{Location}
+use Rattle.scc_elab_spec.specs.Worked.{program, made, method, pick, int, here}
+use Rattle.scc_elab_spec.specs.Design as design
+use Rattle.scc_inline_spec.specs.Inlined.{here_of, home_of}
+use Rattle.scc_elab_spec.specs.Numbering.{levels}
+use Rattle.scc_semantics.specs.Location.{Location}
 use Rattle.scc_inline_laws.specs.WorkedProcess.{process}
 use Rattle.scc_inline_process_laws.specs.Relation.{IsSoundAt}
 use Rattle.scc_inline_process_laws.specs.Whole.{spoken_design, own_names}

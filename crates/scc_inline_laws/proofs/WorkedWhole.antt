@@ -1,29 +1,29 @@
 -- The program `m = pick(1) + pick(0)` is orderly, and its core means the same.
 use Rattle.std.proofs.Common.{◌≡◌, ℕ, zero, suc, Bool, true, false, List, [], ◌∷◌, Option, Some, None, option_and_then, slice_get, if◌then◌else◌, refl, sym, ap, ◌∙◌, subst}
 use Rattle.std.specs.Prelude.{find}
-use Rattle.scc_meaning.specs.Location.{Location}
-use Rattle.scc_running.specs.Design.{Process}
-use Rattle.scc_running.specs.Same.{SameDesign}
-use Rattle.scc_running.specs.Steady.{plain_body}
-use Rattle.scc_meaning_core.specs.Static.{Cells, fixed_word}
-use Rattle.scc_meaning_core.specs.Program as prog
-use Rattle.scc_meaning_core.specs.Resolved.{Made}
-use Rattle.scc_meaning_core.specs.Source.{source_of, cell_there}
-use Rattle.scc_meaning_plain.specs.Program.{Function, Member, Number}
-use Rattle.scc_meaning_plain.specs.Design as design
-use Rattle.scc_meaning_plain.specs.Design.{Object, Pointer}
-use Rattle.scc_meaning_plain.specs.Meant.{design_of, is_pointer}
-use Rattle.scc_meaning_plain.specs.Inlined.{home_of, here_of, copied_program}
-use Rattle.scc_meaning_plain.specs.Static.{inlined}
-use Rattle.scc_meaning_plain.specs.Worked.{program, made, method, pick, int, member}
+use Rattle.scc_semantics.specs.Location.{Location}
+use Rattle.scc_semantics.specs.Design.{Process}
+use Rattle.scc_semantics.specs.Same.{SameDesign}
+use Rattle.scc_semantics.specs.Steady.{plain_body}
+use Rattle.scc_core_spec.specs.Static.{Cells, fixed_word}
+use Rattle.scc_core_spec.specs.Program as prog
+use Rattle.scc_core_spec.specs.Resolved.{Made}
+use Rattle.scc_core_spec.specs.Source.{source_of, cell_there}
+use Rattle.scc_elab_spec.specs.Program.{Function, Member, Number}
+use Rattle.scc_elab_spec.specs.Design as design
+use Rattle.scc_elab_spec.specs.Design.{Object, Pointer}
+use Rattle.scc_elab_spec.specs.Meant.{design_of, is_pointer}
+use Rattle.scc_inline_spec.specs.Inlined.{home_of, here_of, copied_program}
+use Rattle.scc_inline_spec.specs.Static.{inlined}
+use Rattle.scc_elab_spec.specs.Worked.{program, made, method, pick, int, member}
 use Rattle.scc_inline_laws.specs.Orderly.{IsOrderlyFunction, IsOrderlyLocal}
 use Rattle.scc_inline_laws.specs.OrderlyDesign.{IsOrderly, IsOrderlyProcess, CountsCall}
 use Rattle.scc_inline_laws.specs.WorkedProcess.{process}
 use Rattle.scc_inline_process_laws.specs.Whole.{copied_as_process}
-use Rattle.scc_meaning_core.specs.Term as core
-use Rattle.scc_meaning_plain.specs.Numbering.{levels}
-use Rattle.scc_meaning_plain.specs.Copied.{Here}
-use Rattle.scc_meaning_plain.specs.Bodies.{inside}
+use Rattle.scc_core_spec.specs.Term as core
+use Rattle.scc_elab_spec.specs.Numbering.{levels}
+use Rattle.scc_elab_spec.specs.Copied.{Here}
+use Rattle.scc_elab_spec.specs.Bodies.{inside}
 use Rattle.scc_inline_laws.proofs.Elements.{Each}
 use Rattle.scc_inline_laws.proofs.All.{inlined-same}
 use Rattle.scc_inline_laws.proofs.Plain.{plain-keeps}

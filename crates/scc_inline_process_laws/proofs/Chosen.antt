@@ -1,24 +1,24 @@
 -- What is not refused as chosen by an index that isn't static is chosen statically, where no counter stands around.
 use Rattle.std.proofs.Common.{◌≡◌, ℕ, Bool, true, false, ◌&&◌, List, [], Option, Some, None, is_some, option_map, unwrap_or, if◌then◌else◌, refl, sym, ap, ◌∙◌, subst}
 use Rattle.scc_base.specs.declared.refusal.Place.{Place}
-use Rattle.scc_meaning_core.specs.Term as core
-use Rattle.scc_meaning_core.specs.Program as prog
-use Rattle.scc_meaning_core.specs.Static.{Cells, static}
-use Rattle.scc_meaning_core.specs.Named.{cell_at, steps_of}
-use Rattle.scc_meaning_core.specs.Counted.{Counter, counting, counting_left, counter_at, literal_or}
-use Rattle.scc_meaning_core.specs.Fold.{named, member_of, element_of, element_or, in_range, static_index, size_of}
-use Rattle.scc_meaning_core.specs.Source.{Home}
-use Rattle.scc_meaning.specs.Value.{index_of}
-use Rattle.scc_meaning_plain.specs.Term.{Left, Local, Answer, This, Follow, Index}
-use Rattle.scc_meaning_plain.specs.Term as term
-use Rattle.scc_meaning_plain.specs.Program as plain
-use Rattle.scc_meaning_plain.specs.Types.{declared_at, points_at, sizes_at, is_reference}
-use Rattle.scc_meaning_plain.specs.Worth.{member_name}
-use Rattle.scc_meaning_plain.specs.Static.{is_static}
-use Rattle.scc_meaning_plain.specs.Copied as copied
-use Rattle.scc_meaning_plain.specs.Copied.{Here, located, refer, size_here, local_name}
-use Rattle.scc_meaning_plain.specs.Bodies.{result_name}
-use Rattle.scc_meaning_plain.proofs.Chains.{and-first, and-second}
+use Rattle.scc_core_spec.specs.Term as core
+use Rattle.scc_core_spec.specs.Program as prog
+use Rattle.scc_core_spec.specs.Static.{Cells, static}
+use Rattle.scc_core_spec.specs.Named.{cell_at, steps_of}
+use Rattle.scc_core_spec.specs.Counted.{Counter, counting, counting_left, counter_at, literal_or}
+use Rattle.scc_core_spec.specs.Fold.{named, member_of, element_of, element_or, in_range, static_index, size_of}
+use Rattle.scc_core_spec.specs.Source.{Home}
+use Rattle.scc_semantics.specs.Scene.{index_of}
+use Rattle.scc_elab_spec.specs.Term.{Left, Local, Answer, This, Follow, Index}
+use Rattle.scc_elab_spec.specs.Term as term
+use Rattle.scc_elab_spec.specs.Program as plain
+use Rattle.scc_elab_spec.specs.Types.{declared_at, points_at, sizes_at, is_reference}
+use Rattle.scc_elab_spec.specs.Worth.{member_name}
+use Rattle.scc_inline_spec.specs.Static.{is_static}
+use Rattle.scc_elab_spec.specs.Copied as copied
+use Rattle.scc_elab_spec.specs.Copied.{Here, located, refer, size_here, local_name}
+use Rattle.scc_elab_spec.specs.Bodies.{result_name}
+use Rattle.scc_elab_spec.proofs.Chains.{and-first, and-second}
 use Rattle.scc_inline_process_laws.specs.Sound.{IsSoundLeft}
 use Rattle.scc_inline_process_laws.specs.Chosen.{IsChosenStatically}
 

@@ -1,22 +1,22 @@
 -- An object that static indices choose stays while its function runs, whatever pointers lead to it.
 use Rattle.std.proofs.Common.{◌≡◌, ℕ, zero, suc, ◌≤◌, ◌<◌, Bool, true, false, ◌&&◌, List, [], ◌∷◌, length, Option, Some, None, option_map, if◌then◌else◌, slice_get, refl, sym, ap, ◌∙◌, subst, arith}
 use Rattle.std.proofs.lemmas.Bool.{lt-ltb}
-use Rattle.scc_meaning.specs.Location.{Location, Member, Element, within}
-use Rattle.scc_meaning.specs.Location as location
-use Rattle.scc_meaning.specs.Body as body
-use Rattle.scc_meaning.specs.Design.{Places}
-use Rattle.scc_meaning.specs.Store.{Store}
-use Rattle.scc_meaning.specs.Value.{Names, expr_kind, index_of, pointed}
-use Rattle.scc_running.specs.Value.{locate, value, behind}
-use Rattle.scc_meaning_core.specs.Source.{Home}
-use Rattle.scc_meaning_plain.specs.Term.{Term, Left, Local, Answer, This, Follow, Index}
-use Rattle.scc_meaning_plain.specs.Term as term
-use Rattle.scc_meaning_plain.specs.Program as plain
-use Rattle.scc_meaning_plain.specs.Types.{declared_at, is_reference}
-use Rattle.scc_meaning_plain.specs.Worth.{member_name}
-use Rattle.scc_meaning_plain.specs.Spoken as spoken
-use Rattle.scc_meaning_plain.specs.Copied.{Here, local_root, copied}
-use Rattle.scc_meaning_plain.specs.Bodies.{result_name}
+use Rattle.scc_semantics.specs.Location.{Location, Member, Element, within}
+use Rattle.scc_semantics.specs.Location as location
+use Rattle.scc_semantics.specs.Expressions as body
+use Rattle.scc_semantics.specs.Places.{Places}
+use Rattle.scc_semantics.specs.Store.{Store}
+use Rattle.scc_semantics.specs.Scene.{Names, expr_kind, index_of, pointed}
+use Rattle.scc_semantics.specs.Value.{locate, value, behind}
+use Rattle.scc_core_spec.specs.Source.{Home}
+use Rattle.scc_elab_spec.specs.Term.{Term, Left, Local, Answer, This, Follow, Index}
+use Rattle.scc_elab_spec.specs.Term as term
+use Rattle.scc_elab_spec.specs.Program as plain
+use Rattle.scc_elab_spec.specs.Types.{declared_at, is_reference}
+use Rattle.scc_elab_spec.specs.Worth.{member_name}
+use Rattle.scc_elab_spec.specs.Spoken as spoken
+use Rattle.scc_elab_spec.specs.Copied.{Here, local_root, copied}
+use Rattle.scc_elab_spec.specs.Bodies.{result_name}
 use Rattle.scc_inline_process_laws.specs.SoundCode.{SameOutside, LeadsUp, IsWithin, is_outside, Knows, Stands, plain_scene, IsFirm}
 use Rattle.scc_inline_process_laws.specs.Chosen.{IsChosenStatically}
 use Rattle.scc_inline_process_laws.proofs.Located.{copied-same}

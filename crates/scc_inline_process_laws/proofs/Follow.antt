@@ -1,34 +1,34 @@
 -- A copied body follows the function with its calls.
 use Rattle.std.proofs.Common.{◌≡◌, ℕ, zero, suc, ◌≤◌, ◌<◌, Bool, true, false, List, [], ◌∷◌, ◌++◌, map, length, Option, Some, None, option_map, unwrap_or, slice_get, is_some, if◌then◌else◌, refl, sym, ap, ◌∙◌, subst, arith}
 use Rattle.scc_base.specs.declared.refusal.Place.{Place}
-use Rattle.scc_kinds.specs.declared.kind.Kind.{Kind}
-use Rattle.scc_meaning.specs.Location.{Location, Element}
-use Rattle.scc_meaning.specs.Location as location
-use Rattle.scc_meaning.specs.Body as body
-use Rattle.scc_meaning.specs.Body.{Expr}
-use Rattle.scc_meaning.specs.Design.{Places, Thing, Number}
-use Rattle.scc_meaning.specs.Store.{Store, changed}
-use Rattle.scc_meaning.specs.Value.{Names, Scene, followed}
-use Rattle.scc_running.specs.Body as machine
-use Rattle.scc_running.specs.Body.{Body}
-use Rattle.scc_running.specs.Value as running
-use Rattle.scc_running.specs.Value.{Held, locate, value, picked, put_at, with_words, with_targets, called, local, answer}
-use Rattle.scc_running.specs.Machine.{Frames, Stop, Go, Mark, Inner, BehindBlock, BehindCall, Outcome, unless_stuck, pointed_at, cleared, pick, leave, return, one_less}
-use Rattle.scc_running.specs.Machine as steps
-use Rattle.scc_meaning_core.specs.Term as core
-use Rattle.scc_meaning_core.specs.Code as stmt
-use Rattle.scc_meaning_core.specs.Source as source
-use Rattle.scc_meaning_core.specs.Source.{Home, location_of, expr_of, aimed}
-use Rattle.scc_meaning_plain.specs.Term.{Term, Left, Local, Answer, This, Follow, Index, Pick, Whole, Target, Argument, Value, Leads, ModuleName}
-use Rattle.scc_meaning_plain.specs.Term as term
-use Rattle.scc_meaning_plain.specs.Program.{Code, End, Declare, Assign, Point, Write, Call, If, Loop, Block, Exit, Return, Wait, Make, Bind, Process, Sensitive, Quiet, Reset, Function, Member}
-use Rattle.scc_meaning_plain.specs.Types.{is_direct}
-use Rattle.scc_meaning_plain.specs.Copied as copied
-use Rattle.scc_meaning_plain.specs.Copied.{Here, local_name, local_root, answer_name}
-use Rattle.scc_meaning_plain.specs.Bodies.{result_name, object_of, pointed, cell_of, inside, passed, zeroed, elements, sizes_of, is_first, local_as_whole}
-use Rattle.scc_meaning_plain.specs.Bodies as bodies
-use Rattle.scc_meaning_plain.specs.Inlined.{body_of, call_of}
-use Rattle.scc_meaning_plain.specs.Spoken as spoken
+use Rattle.scc_bits_kinds.specs.declared.kind.Kind.{Kind}
+use Rattle.scc_semantics.specs.Location.{Location, Element}
+use Rattle.scc_semantics.specs.Location as location
+use Rattle.scc_semantics.specs.Expressions as body
+use Rattle.scc_semantics.specs.Expressions.{Expr}
+use Rattle.scc_semantics.specs.Places.{Places, Thing, Number}
+use Rattle.scc_semantics.specs.Store.{Store, changed}
+use Rattle.scc_semantics.specs.Scene.{Names, Scene, followed}
+use Rattle.scc_semantics.specs.Body as machine
+use Rattle.scc_semantics.specs.Body.{Body}
+use Rattle.scc_semantics.specs.Value as running
+use Rattle.scc_semantics.specs.Value.{Held, locate, value, picked, put_at, with_words, with_targets, called, local, answer}
+use Rattle.scc_semantics.specs.Machine.{Frames, Stop, Go, Mark, Inner, BehindBlock, BehindCall, Outcome, unless_stuck, pointed_at, cleared, pick, leave, return, one_less}
+use Rattle.scc_semantics.specs.Machine as steps
+use Rattle.scc_core_spec.specs.Term as core
+use Rattle.scc_core_spec.specs.Code as stmt
+use Rattle.scc_core_spec.specs.Source as source
+use Rattle.scc_core_spec.specs.Source.{Home, location_of, expr_of, aimed}
+use Rattle.scc_elab_spec.specs.Term.{Term, Left, Local, Answer, This, Follow, Index, Pick, Whole, Target, Argument, Value, Leads, ModuleName}
+use Rattle.scc_elab_spec.specs.Term as term
+use Rattle.scc_elab_spec.specs.Program.{Code, End, Declare, Assign, Point, Write, Call, If, Loop, Block, Exit, Return, Wait, Make, Bind, Process, Sensitive, Quiet, Reset, Function, Member}
+use Rattle.scc_elab_spec.specs.Types.{is_direct}
+use Rattle.scc_elab_spec.specs.Copied as copied
+use Rattle.scc_elab_spec.specs.Copied.{Here, local_name, local_root, answer_name}
+use Rattle.scc_elab_spec.specs.Bodies.{result_name, object_of, pointed, cell_of, inside, passed, zeroed, elements, sizes_of, is_first, local_as_whole}
+use Rattle.scc_elab_spec.specs.Bodies as bodies
+use Rattle.scc_inline_spec.specs.Inlined.{body_of, call_of}
+use Rattle.scc_elab_spec.specs.Spoken as spoken
 use Rattle.scc_inline_process_laws.specs.Sound.{names_of, IsHomed, IsSoundTerm, IsSoundLeft}
 use Rattle.scc_inline_process_laws.specs.SoundCode.{Targets, SameOutside, LeadsUp, Moves, Knows, core_scene, plain_scene, IsSoundPick, IsSoundTarget, IsSoundObject, IsSoundCode, IsSoundCall, IsSoundAnswer, AreSoundArguments, AllPlaced}
 use Rattle.scc_inline_process_laws.specs.Relation.{here, spoken_body, machine_code, copied_body, IsSteady, IsSoundAt, Below, below_halt, below_inner, below_block, below_call, Alike, alike_stop, alike_end, alike_on, alike_clear, alike_enter, alike_begin}

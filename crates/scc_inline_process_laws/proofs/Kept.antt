@@ -1,27 +1,27 @@
 -- Along all resumes of a core that keeps what is fixed, what is static is known and no pointer is assigned but at its declaration.
 use Rattle.std.proofs.Common.{◌≡◌, ◌⊎◌, inl, inr, ℕ, zero, suc, Bool, true, false, List, [], ◌∷◌, Option, Some, None, if◌then◌else◌, slice_get, refl, sym, ap, subst, ◌∙◌}
-use Rattle.scc_meaning.specs.Location.{Location}
-use Rattle.scc_meaning.specs.Value.{Names}
-use Rattle.scc_meaning.specs.Store.{Store}
-use Rattle.scc_running.specs.Body.{Body, End, Assign, Point, Clear, If, Block, Loop, Exit, Call, Begin, Pass, Return, Wait}
-use Rattle.scc_running.specs.Design.{Design, Process}
-use Rattle.scc_running.specs.Value.{Held}
-use Rattle.scc_running.specs.Machine.{Frames, Stop, Go, Next, Outcome, Suspended, Ended, Stuck, Unfinished, act, idle, run, after}
-use Rattle.scc_running.specs.Process.{first_frames}
-use Rattle.scc_running.specs.Start.{IsProper}
-use Rattle.scc_running.specs.Same.{Turn, Middle, is_own, is_others, leading, left_in, resumed, AllProper, at_first}
-use Rattle.scc_meaning_core.specs.Program as prog
-use Rattle.scc_meaning_core.specs.Source.{Home, source_of}
-use Rattle.scc_meaning_blocks.specs.Comes.{Comes, Keeps, begins, goes_on, resumes, restarts, repeats, elsewhere, next_waits, next_points, fresh}
-use Rattle.scc_meaning_plain.specs.Copied.{Here}
+use Rattle.scc_semantics.specs.Location.{Location}
+use Rattle.scc_semantics.specs.Scene.{Names}
+use Rattle.scc_semantics.specs.Store.{Store}
+use Rattle.scc_semantics.specs.Body.{Body, End, Assign, Point, Clear, If, Block, Loop, Exit, Call, Begin, Pass, Return, Wait}
+use Rattle.scc_semantics.specs.Design.{Design, Process}
+use Rattle.scc_semantics.specs.Value.{Held}
+use Rattle.scc_semantics.specs.Machine.{Frames, Stop, Go, Next, Outcome, Suspended, Ended, Stuck, Unfinished, act, idle, run, after}
+use Rattle.scc_semantics.specs.Process.{first_frames}
+use Rattle.scc_semantics.specs.Start.{IsProper}
+use Rattle.scc_semantics.specs.Same.{Turn, Middle, is_own, is_others, leading, left_in, resumed, AllProper, at_first}
+use Rattle.scc_core_spec.specs.Program as prog
+use Rattle.scc_core_spec.specs.Source.{Home, source_of}
+use Rattle.scc_blocks_spec.specs.Comes.{Comes, Keeps, begins, goes_on, resumes, restarts, repeats, elsewhere, next_waits, next_points, fresh}
+use Rattle.scc_elab_spec.specs.Copied.{Here}
 use Rattle.scc_states_laws.proofs.Resuming.{Steps, leads, waits, stops, steps, IsSuspended}
 use Rattle.scc_inline_process_laws.specs.Own.{OwnMoves}
 use Rattle.scc_inline_process_laws.specs.SoundCode.{Knows, core_scene}
 use Rattle.scc_inline_process_laws.specs.Sound.{IsKinded}
-use Rattle.scc_running.specs.Value.{value}
-use Rattle.scc_meaning_core.specs.Term as core
-use Rattle.scc_meaning_core.specs.Static.{static}
-use Rattle.scc_meaning_core.specs.Source.{expr_of}
+use Rattle.scc_semantics.specs.Value.{value}
+use Rattle.scc_core_spec.specs.Term as core
+use Rattle.scc_core_spec.specs.Static.{static}
+use Rattle.scc_core_spec.specs.Source.{expr_of}
 use Rattle.scc_inline_process_laws.specs.Relation.{Declares, IsKept, KeepsFrom}
 use Rattle.scc_inline_process_laws.specs.Standing.{KeepsOver}
 use Rattle.scc_inline_process_laws.proofs.Known.{static_is}

@@ -2,27 +2,27 @@
 use Rattle.std.proofs.Common.{◌≡◌, ◌⊎◌, inl, inr, ℕ, suc, ◌+◌, Bool, true, false, not, ◌&&◌, nat_eq, nat_lt, List, [], ◌∷◌, ◌++◌, map, Option, Some, None, is_some, refl, sym, ap, subst, ◌∙◌, arith}
 use Rattle.std.specs.Prelude.{slice_get, option_map, option_and_then, find, if◌then◌else◌}
 use Rattle.std.proofs.lemmas.Bool.{eqb-true, eq-eqb}
-use Rattle.scc_kinds.specs.declared.kind.Kind.{Kind}
-use Rattle.scc_kinds.specs.Kinds.{width_of, number_of, stored}
-use Rattle.scc_kinds.specs.Bits.{part, joined}
+use Rattle.scc_bits_kinds.specs.declared.kind.Kind.{Kind}
+use Rattle.scc_bits_kinds.specs.Kinds.{width_of, number_of, stored}
+use Rattle.scc_bits_kinds.specs.Bits.{part, joined}
 use Rattle.scc_bits.specs.Values.{applied, kind_of as operator_kind}
-use Rattle.scc_meaning.specs.Location.{Location, Root, Top, Part, Member, Element, within, same, same_root, same_path}
-use Rattle.scc_meaning.specs.Location as location
-use Rattle.scc_meaning.specs.Store.{Store}
-use Rattle.scc_meaning.specs.Value.{Names, Scene, expr_kind, kind_or, loaded, followed, index_of, chosen, bit_at, with_two}
-use Rattle.scc_meaning.specs.Body.{Expr}
-use Rattle.scc_running.specs.Value.{locate, value}
-use Rattle.scc_running.specs.Value as machine
-use Rattle.scc_running.specs.Same.{is_own}
-use Rattle.scc_meaning_core.specs.Term.{Term, Literal, Load, Read, Convert, Unary, Binary, Choose, Bit, Range, Join, Left, Cell, Prefix, Null, Follow, Index, kind_of, CellName, Own}
-use Rattle.scc_meaning_core.specs.Term as term
-use Rattle.scc_meaning_core.specs.Program.{Program, Sort, Input, Output, Variable, Local, Pointer, Port, is_pointer}
-use Rattle.scc_meaning_core.specs.Program as program
-use Rattle.scc_meaning_core.specs.Named.{Step, Named, At, Ours, Open, part_step, own_steps, steps_of, fits, is_open, names_cell}
-use Rattle.scc_meaning_core.specs.Static.{Cells, static, pattern, first_of, found, held, held_at, fixed_word, index_step, grown}
-use Rattle.scc_meaning_core.specs.Source.{Home, at_top, location_in, location_of, cell_left, cell_there, cell_location, thing_of, source_of, expr_of, left_of, process_named}
+use Rattle.scc_semantics.specs.Location.{Location, Root, Top, Part, Member, Element, within, same, same_root, same_path}
+use Rattle.scc_semantics.specs.Location as location
+use Rattle.scc_semantics.specs.Store.{Store}
+use Rattle.scc_semantics.specs.Scene.{Names, Scene, expr_kind, kind_or, loaded, followed, index_of, chosen, bit_at, with_two}
+use Rattle.scc_semantics.specs.Expressions.{Expr}
+use Rattle.scc_semantics.specs.Value.{locate, value}
+use Rattle.scc_semantics.specs.Value as machine
+use Rattle.scc_semantics.specs.Same.{is_own}
+use Rattle.scc_core_spec.specs.Term.{Term, Literal, Load, Read, Convert, Unary, Binary, Choose, Bit, Range, Join, Left, Cell, Prefix, Null, Follow, Index, kind_of, CellName, Own}
+use Rattle.scc_core_spec.specs.Term as term
+use Rattle.scc_core_spec.specs.Program.{Program, Sort, Input, Output, Variable, Local, Pointer, Port, is_pointer}
+use Rattle.scc_core_spec.specs.Program as program
+use Rattle.scc_core_spec.specs.Named.{Step, Named, At, Ours, Open, part_step, own_steps, steps_of, fits, is_open, names_cell}
+use Rattle.scc_core_spec.specs.Static.{Cells, static, pattern, first_of, found, held, held_at, fixed_word, index_step, grown}
+use Rattle.scc_core_spec.specs.Source.{Home, at_top, location_in, location_of, cell_left, cell_there, cell_location, thing_of, source_of, expr_of, left_of, process_named}
 use Rattle.scc_states_laws.proofs.Values.{some_same, map_is, then_is, two_is}
-use Rattle.scc_meaning_plain.proofs.Chains.{and-first, and-second}
+use Rattle.scc_elab_spec.proofs.Chains.{and-first, and-second}
 use Rattle.scc_inline_process_laws.specs.Sound.{IsKinded, IsKindedLeft}
 use Rattle.scc_inline_process_laws.specs.Own.{OwnMoves}
 

@@ -1,23 +1,23 @@
 -- A process and its copy show the same over every list of resumes.
 use Rattle.std.proofs.Common.{◌≡◌, ℕ, zero, suc, ◌≤◌, ◌*◌, Bool, true, false, not, ◌&&◌, nat_eq, nat_lt, length, List, [], ◌∷◌, map, Option, Some, None, if◌then◌else◌, refl, sym, ap, ◌∙◌, subst, arith}
-use Rattle.scc_meaning.specs.Location.{Location, Root}
-use Rattle.scc_meaning.specs.Location as location
-use Rattle.scc_meaning.specs.Design.{Places}
-use Rattle.scc_meaning.specs.Value.{Names}
-use Rattle.scc_running.specs.Body as machine
-use Rattle.scc_running.specs.Body.{Body}
-use Rattle.scc_running.specs.Value.{Held}
-use Rattle.scc_running.specs.Design.{Design, Process}
-use Rattle.scc_running.specs.Machine.{Frames, Stop, Go, Inner, Outcome, Suspended, Ended, Stuck, Unfinished, run}
-use Rattle.scc_running.specs.Process.{first_frames}
-use Rattle.scc_running.specs.Same.{Turn, Seen, Middle, is_others, seen_of, leading, left_in, resumed, at_first, MeansTheSame}
-use Rattle.scc_running_laws.proofs.Means.{Similar, means-by}
-use Rattle.scc_meaning_plain.proofs.Chains.{and-first, and-second}
-use Rattle.scc_meaning_core.specs.Term as core
-use Rattle.scc_meaning_core.specs.Source.{Home}
-use Rattle.scc_meaning_plain.specs.Program.{Function}
-use Rattle.scc_meaning_plain.specs.Copied.{Here}
-use Rattle.scc_meaning_plain.specs.Spoken as spoken
+use Rattle.scc_semantics.specs.Location.{Location, Root}
+use Rattle.scc_semantics.specs.Location as location
+use Rattle.scc_semantics.specs.Places.{Places}
+use Rattle.scc_semantics.specs.Scene.{Names}
+use Rattle.scc_semantics.specs.Body as machine
+use Rattle.scc_semantics.specs.Body.{Body}
+use Rattle.scc_semantics.specs.Value.{Held}
+use Rattle.scc_semantics.specs.Design.{Design, Process}
+use Rattle.scc_semantics.specs.Machine.{Frames, Stop, Go, Inner, Outcome, Suspended, Ended, Stuck, Unfinished, run}
+use Rattle.scc_semantics.specs.Process.{first_frames}
+use Rattle.scc_semantics.specs.Same.{Turn, Seen, Middle, is_others, seen_of, leading, left_in, resumed, at_first, MeansTheSame}
+use Rattle.scc_semantics_laws.proofs.Means.{Similar, means-by}
+use Rattle.scc_elab_spec.proofs.Chains.{and-first, and-second}
+use Rattle.scc_core_spec.specs.Term as core
+use Rattle.scc_core_spec.specs.Source.{Home}
+use Rattle.scc_elab_spec.specs.Program.{Function}
+use Rattle.scc_elab_spec.specs.Copied.{Here}
+use Rattle.scc_elab_spec.specs.Spoken as spoken
 use Rattle.scc_inline_process_laws.specs.SoundCode.{Targets, is_outside, SameOutside, LeadsUp}
 use Rattle.scc_inline_process_laws.specs.Relation.{here, IsSteady, IsSoundAt, below_halt, Alike, alike_stop, alike_on, AlikeOutcome, KeepsFrom}
 use Rattle.scc_inline_process_laws.specs.Standing.{first_spoken, first_copied, Standing, standing_first, standing_on, StandsAlike, KeepsOver, KeepsAlways}

@@ -1,34 +1,34 @@
 -- Locations and values: what the plain function finds, its copy finds.
 use Rattle.std.proofs.Common.{◌≡◌, ℕ, zero, suc, Bool, true, false, ◌&&◌, nat_lt, List, [], ◌∷◌, ◌++◌, map, Option, Some, None, option_map, option_and_then, unwrap_or, if◌then◌else◌, slice_get, refl, sym, ap, ◌∙◌, subst}
 use Rattle.scc_base.specs.declared.refusal.Place.{Place}
-use Rattle.scc_kinds.specs.declared.kind.Kind.{Kind}
-use Rattle.scc_kinds.specs.Kinds.{width_of, number_of, stored}
-use Rattle.scc_kinds.specs.Bits.{part, joined}
+use Rattle.scc_bits_kinds.specs.declared.kind.Kind.{Kind}
+use Rattle.scc_bits_kinds.specs.Kinds.{width_of, number_of, stored}
+use Rattle.scc_bits_kinds.specs.Bits.{part, joined}
 use Rattle.scc_bits.specs.Values.{applied, kind_of as operator_kind}
-use Rattle.scc_meaning.specs.Location.{Location, Root, Part, Member, Element, within}
-use Rattle.scc_meaning.specs.Location as location
-use Rattle.scc_meaning.specs.Body as body
-use Rattle.scc_meaning.specs.Body.{Expr}
-use Rattle.scc_meaning.specs.Design.{Places}
-use Rattle.scc_meaning.specs.Store.{Store}
-use Rattle.scc_meaning.specs.Value.{Names, Scene, expr_kind, kind_or, loaded, sensed, pointed, index_of, chosen, bit_at, with_two, followed}
-use Rattle.scc_running.specs.Value.{locate, value, behind}
-use Rattle.scc_meaning_core.specs.Term as core
-use Rattle.scc_meaning_core.specs.Term.{CellName, Own}
-use Rattle.scc_meaning_core.specs.Static.{static}
-use Rattle.scc_meaning_core.specs.Fold.{named, extended, member_of, element_of, element_or, in_range, static_index, size_of}
-use Rattle.scc_meaning_core.specs.Resolved.{placed}
-use Rattle.scc_meaning_core.specs.Source.{Home, location_of, left_of, expr_of}
-use Rattle.scc_meaning_plain.specs.Term.{Term, Literal, Load, Read, Convert, Unary, Binary, Choose, Bit, Range, Join, Left, Local, Answer, This, Follow, Index, kind_of}
-use Rattle.scc_meaning_plain.specs.Term as term
-use Rattle.scc_meaning_plain.specs.Program as plain
-use Rattle.scc_meaning_plain.specs.Types.{declared_at, is_reference, points_at, sizes_at}
-use Rattle.scc_meaning_plain.specs.Worth.{member_name}
-use Rattle.scc_meaning_plain.specs.Spoken as spoken
-use Rattle.scc_meaning_plain.specs.Copied.{Here, located, copied, refer, size_here, local_root, local_name, answer_name}
-use Rattle.scc_meaning_plain.specs.Bodies.{result_name, callee_of}
-use Rattle.scc_meaning_plain.specs.Typed.{IsTyped}
-use Rattle.scc_meaning_plain.proofs.Valued.{kind_is}
+use Rattle.scc_semantics.specs.Location.{Location, Root, Part, Member, Element, within}
+use Rattle.scc_semantics.specs.Location as location
+use Rattle.scc_semantics.specs.Expressions as body
+use Rattle.scc_semantics.specs.Expressions.{Expr}
+use Rattle.scc_semantics.specs.Places.{Places}
+use Rattle.scc_semantics.specs.Store.{Store}
+use Rattle.scc_semantics.specs.Scene.{Names, Scene, expr_kind, kind_or, loaded, sensed, pointed, index_of, chosen, bit_at, with_two, followed}
+use Rattle.scc_semantics.specs.Value.{locate, value, behind}
+use Rattle.scc_core_spec.specs.Term as core
+use Rattle.scc_core_spec.specs.Term.{CellName, Own}
+use Rattle.scc_core_spec.specs.Static.{static}
+use Rattle.scc_core_spec.specs.Fold.{named, extended, member_of, element_of, element_or, in_range, static_index, size_of}
+use Rattle.scc_core_spec.specs.Resolved.{placed}
+use Rattle.scc_core_spec.specs.Source.{Home, location_of, left_of, expr_of}
+use Rattle.scc_elab_spec.specs.Term.{Term, Literal, Load, Read, Convert, Unary, Binary, Choose, Bit, Range, Join, Left, Local, Answer, This, Follow, Index, kind_of}
+use Rattle.scc_elab_spec.specs.Term as term
+use Rattle.scc_elab_spec.specs.Program as plain
+use Rattle.scc_elab_spec.specs.Types.{declared_at, is_reference, points_at, sizes_at}
+use Rattle.scc_elab_spec.specs.Worth.{member_name}
+use Rattle.scc_elab_spec.specs.Spoken as spoken
+use Rattle.scc_elab_spec.specs.Copied.{Here, located, copied, refer, size_here, local_root, local_name, answer_name}
+use Rattle.scc_elab_spec.specs.Bodies.{result_name, callee_of}
+use Rattle.scc_elab_spec.specs.Typed.{IsTyped}
+use Rattle.scc_elab_spec.proofs.Valued.{kind_is}
 use Rattle.scc_inline_process_laws.specs.Sound.{names_of, IsKinded, IsHomed, IsObject, IsSoundTerm, IsSoundLeft}
 use Rattle.scc_inline_process_laws.proofs.Named.{named-same}
 use Rattle.scc_inline_process_laws.proofs.Kinded.{kinded-copied, kind-copied}

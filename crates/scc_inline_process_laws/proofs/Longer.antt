@@ -1,12 +1,12 @@
 -- A run that is over with some statements is the same with more.
 use Rattle.std.proofs.Common.{◌≡◌, ℕ, zero, suc, ◌≤◌, Option, Some, None, refl, sym, ap, ◌∙◌, subst, arith}
-use Rattle.scc_meaning.specs.Location.{Location}
-use Rattle.scc_meaning.specs.Design.{Places}
-use Rattle.scc_meaning.specs.Body.{Argument, Value, Place}
-use Rattle.scc_running.specs.Body.{Body, End, Assign, Point, Clear, If, Block, Loop, Exit, Call, Begin, Pass, Return, Wait}
-use Rattle.scc_meaning.specs.Value.{Scene, followed}
-use Rattle.scc_running.specs.Value.{Held, locate, value, target_of, put_at}
-use Rattle.scc_running.specs.Machine.{Frames, Stop, Go, Inner, pointed_at, Outcome, Suspended, Ended, Stuck, Unfinished, Next, unless_stuck, act, idle, run}
+use Rattle.scc_semantics.specs.Location.{Location}
+use Rattle.scc_semantics.specs.Places.{Places}
+use Rattle.scc_semantics.specs.Expressions.{Argument, Value, Place}
+use Rattle.scc_semantics.specs.Body.{Body, End, Assign, Point, Clear, If, Block, Loop, Exit, Call, Begin, Pass, Return, Wait}
+use Rattle.scc_semantics.specs.Scene.{Scene, followed}
+use Rattle.scc_semantics.specs.Value.{Held, locate, value, target_of, put_at}
+use Rattle.scc_semantics.specs.Machine.{Frames, Stop, Go, Inner, pointed_at, Outcome, Suspended, Ended, Stuck, Unfinished, Next, unless_stuck, act, idle, run}
 
 abbrev pub Over : Outcome → Type 0
 Over (Suspended f h) = Unit {0}

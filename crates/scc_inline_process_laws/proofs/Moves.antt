@@ -1,20 +1,20 @@
 -- Frames stay alike where only pointers inside change, and where blocks and functions are left.
 use Rattle.std.proofs.Common.{◌≡◌, ℕ, zero, suc, ◌≤◌, ◌<◌, Bool, true, false, ◌&&◌, nat_lt, nat_eq, List, [], ◌∷◌, length, Option, Some, None, if◌then◌else◌, refl, sym, ap, ◌∙◌, subst, arith}
 use Rattle.std.proofs.lemmas.Bool.{ltb-true, lt-ltb, eq-eqb}
-use Rattle.scc_meaning.specs.Location.{Location, Root, Part, same, same_root, same_calls, same_path}
-use Rattle.scc_meaning.specs.Location as location
-use Rattle.scc_meaning.specs.Design.{Places}
-use Rattle.scc_meaning.specs.Store.{Store, changed}
-use Rattle.scc_meaning.specs.Value.{Names}
-use Rattle.scc_running.specs.Body as machine
-use Rattle.scc_running.specs.Value.{Held}
-use Rattle.scc_running.specs.Machine.{Frames, Stop, Go, Mark, Inner, BehindBlock, BehindCall, leave, return, waiting, pointed_at}
-use Rattle.scc_meaning_core.specs.Term as core
-use Rattle.scc_meaning_core.specs.Source.{Home}
+use Rattle.scc_semantics.specs.Location.{Location, Root, Part, same, same_root, same_calls, same_path}
+use Rattle.scc_semantics.specs.Location as location
+use Rattle.scc_semantics.specs.Places.{Places}
+use Rattle.scc_semantics.specs.Store.{Store, changed}
+use Rattle.scc_semantics.specs.Scene.{Names}
+use Rattle.scc_semantics.specs.Body as machine
+use Rattle.scc_semantics.specs.Value.{Held}
+use Rattle.scc_semantics.specs.Machine.{Frames, Stop, Go, Mark, Inner, BehindBlock, BehindCall, leave, return, waiting, pointed_at}
+use Rattle.scc_core_spec.specs.Term as core
+use Rattle.scc_core_spec.specs.Source.{Home}
 use Rattle.scc_base.specs.declared.refusal.Place.{Place}
-use Rattle.scc_meaning_plain.specs.Program.{Code, Function, Wait}
-use Rattle.scc_meaning_plain.specs.Copied.{Here}
-use Rattle.scc_meaning_plain.proofs.Chains.{and-first, and-second}
+use Rattle.scc_elab_spec.specs.Program.{Code, Function, Wait}
+use Rattle.scc_elab_spec.specs.Copied.{Here}
+use Rattle.scc_elab_spec.proofs.Chains.{and-first, and-second}
 use Rattle.scc_inline_process_laws.specs.Sound.{names_of}
 use Rattle.scc_inline_process_laws.specs.SoundCode.{Targets, is_outside, SameOutside, LeadsUp, Moves, Knows}
 use Rattle.scc_inline_process_laws.specs.Relation.{here, spoken_body, copied_body, IsSteady, IsSoundAt, Below, below_halt, below_inner, below_block, below_call, Alike, alike_stop, alike_end, alike_on, alike_clear, alike_enter, alike_begin}

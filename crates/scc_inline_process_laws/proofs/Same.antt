@@ -1,27 +1,27 @@
 -- What a copy finds at a state where its object stands and what is static holds.
 use Rattle.std.proofs.Common.{◌≡◌, ℕ, zero, suc, ◌≤◌, Bool, true, false, List, [], ◌∷◌, length, Option, Some, None, option_map, unwrap_or, slice_get, refl, sym, ap, ◌∙◌, subst, arith}
-use Rattle.scc_kinds.specs.declared.kind.Kind.{Kind}
-use Rattle.scc_kinds.specs.Kinds.{width_of}
-use Rattle.scc_meaning.specs.Location.{Location}
-use Rattle.scc_meaning.specs.Body as body
-use Rattle.scc_meaning.specs.Design.{Places}
-use Rattle.scc_meaning.specs.Store.{Store}
-use Rattle.scc_meaning.specs.Value.{Names, Scene, expr_kind, with_bit, index_of, pointed as pointed_there}
-use Rattle.scc_running.specs.Body as machine
-use Rattle.scc_running.specs.Body.{Body}
-use Rattle.scc_running.specs.Value as running
-use Rattle.scc_running.specs.Value.{locate, value, picked, behind}
-use Rattle.scc_meaning_core.specs.Term as core
-use Rattle.scc_meaning_core.specs.Source as source
-use Rattle.scc_meaning_core.specs.Source.{Home, left_of, expr_of, location_of, aimed}
+use Rattle.scc_bits_kinds.specs.declared.kind.Kind.{Kind}
+use Rattle.scc_bits_kinds.specs.Kinds.{width_of}
+use Rattle.scc_semantics.specs.Location.{Location}
+use Rattle.scc_semantics.specs.Expressions as body
+use Rattle.scc_semantics.specs.Places.{Places}
+use Rattle.scc_semantics.specs.Store.{Store}
+use Rattle.scc_semantics.specs.Scene.{Names, Scene, expr_kind, with_bit, index_of, pointed as pointed_there}
+use Rattle.scc_semantics.specs.Body as machine
+use Rattle.scc_semantics.specs.Body.{Body}
+use Rattle.scc_semantics.specs.Value as running
+use Rattle.scc_semantics.specs.Value.{locate, value, picked, behind}
+use Rattle.scc_core_spec.specs.Term as core
+use Rattle.scc_core_spec.specs.Source as source
+use Rattle.scc_core_spec.specs.Source.{Home, left_of, expr_of, location_of, aimed}
 use Rattle.scc_base.specs.declared.refusal.Place.{Place}
-use Rattle.scc_meaning_plain.specs.Term.{Term, Left, Pick, Whole, OneBit, Bits, Target, Null, Address, Copy}
-use Rattle.scc_meaning_plain.specs.Program.{Function}
-use Rattle.scc_meaning_plain.specs.Types.{points_at}
-use Rattle.scc_meaning_plain.specs.Copied as copied
-use Rattle.scc_meaning_plain.specs.Copied.{Here, located, local_name, local_root, answer_name}
-use Rattle.scc_meaning_plain.specs.Bodies.{result_name, soften, object_of, pointed, cell_of}
-use Rattle.scc_meaning_plain.specs.Spoken as spoken
+use Rattle.scc_elab_spec.specs.Term.{Term, Left, Pick, Whole, OneBit, Bits, Target, Null, Address, Copy}
+use Rattle.scc_elab_spec.specs.Program.{Function}
+use Rattle.scc_elab_spec.specs.Types.{points_at}
+use Rattle.scc_elab_spec.specs.Copied as copied
+use Rattle.scc_elab_spec.specs.Copied.{Here, located, local_name, local_root, answer_name}
+use Rattle.scc_elab_spec.specs.Bodies.{result_name, soften, object_of, pointed, cell_of}
+use Rattle.scc_elab_spec.specs.Spoken as spoken
 use Rattle.scc_inline_process_laws.specs.Sound.{names_of, IsHomed, IsSoundTerm, IsSoundLeft}
 use Rattle.scc_inline_process_laws.specs.SoundCode.{Targets, SameOutside, LeadsUp, Knows, core_scene, plain_scene, IsSoundPick, IsSoundTarget, IsSoundObject, IsFirm}
 use Rattle.scc_inline_process_laws.specs.Relation.{here, IsSteady}

@@ -1,22 +1,22 @@
 -- Steps of two machines side by side: one step may be stuck, and then both are.
 use Rattle.std.proofs.Common.{◌≡◌, ℕ, zero, suc, ◌≤◌, Bool, true, false, List, [], ◌∷◌, ◌++◌, map, Option, Some, None, option_map, refl, sym, ap, ◌∙◌, subst, arith}
 use Rattle.std.proofs.lemmas.List.{append_assoc}
-use Rattle.scc_kinds.specs.declared.kind.Kind.{Kind}
-use Rattle.scc_kinds.specs.declared.kind.Kind.TheVariants as kind
-use Rattle.scc_kinds.specs.Kinds.{width_of}
-use Rattle.scc_meaning.specs.Location.{Location, Part, Element, within}
-use Rattle.scc_meaning.specs.Body as body
-use Rattle.scc_meaning.specs.Body.{Pick, Whole, OneBit, Bits}
-use Rattle.scc_meaning.specs.Design.{Places, Thing, Number, Signal, Port}
-use Rattle.scc_meaning.specs.Store.{Store, changed}
-use Rattle.scc_meaning.specs.Value.{Names, Scene, expr_kind, followed, with_bit, index_of}
-use Rattle.scc_running.specs.Body as machine
-use Rattle.scc_running.specs.Value.{Held, locate, value, behind, put_at, picked, with_words, with_targets, asked}
-use Rattle.scc_running.specs.Machine.{Frames, Go, Mark, Outcome, unless_stuck, pointed_at, run, after}
-use Rattle.scc_meaning_core.specs.Source.{Home}
-use Rattle.scc_meaning_plain.specs.Copied.{Here}
-use Rattle.scc_meaning_plain.specs.Program.{Function}
-use Rattle.scc_meaning_plain.specs.Spoken as spoken
+use Rattle.scc_bits_kinds.specs.declared.kind.Kind.{Kind}
+use Rattle.scc_bits_kinds.specs.declared.kind.Kind.TheVariants as kind
+use Rattle.scc_bits_kinds.specs.Kinds.{width_of}
+use Rattle.scc_semantics.specs.Location.{Location, Part, Element, within}
+use Rattle.scc_semantics.specs.Expressions as body
+use Rattle.scc_semantics.specs.Expressions.{Pick, Whole, OneBit, Bits}
+use Rattle.scc_semantics.specs.Places.{Places, Thing, Number, Signal, Port}
+use Rattle.scc_semantics.specs.Store.{Store, changed}
+use Rattle.scc_semantics.specs.Scene.{Names, Scene, expr_kind, followed, with_bit, index_of}
+use Rattle.scc_semantics.specs.Body as machine
+use Rattle.scc_semantics.specs.Value.{Held, locate, value, behind, put_at, picked, with_words, with_targets, asked}
+use Rattle.scc_semantics.specs.Machine.{Frames, Go, Mark, Outcome, unless_stuck, pointed_at, run, after}
+use Rattle.scc_core_spec.specs.Source.{Home}
+use Rattle.scc_elab_spec.specs.Copied.{Here}
+use Rattle.scc_elab_spec.specs.Program.{Function}
+use Rattle.scc_elab_spec.specs.Spoken as spoken
 use Rattle.scc_inline_process_laws.specs.Relation.{AlikeOutcome, IsKept, KeepsFrom}
 use Rattle.scc_inline_process_laws.specs.SoundCode.{AllSmall, Targets, SameOutside}
 

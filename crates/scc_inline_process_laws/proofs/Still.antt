@@ -1,26 +1,26 @@
 -- Copied bodies mean the same as functions with their calls.
 use Rattle.std.proofs.Common.{◌≡◌, ℕ, zero, suc, ◌≤◌, ◌*◌, Bool, true, false, List, [], ◌∷◌, ◌++◌, map, length, Option, Some, None, option_map, unwrap_or, slice_get, if◌then◌else◌, refl, sym, ap, ◌∙◌, subst, arith}
 use Rattle.scc_base.specs.declared.refusal.Place.{Place}
-use Rattle.scc_meaning.specs.Location.{Location}
-use Rattle.scc_meaning.specs.Body as body
-use Rattle.scc_meaning.specs.Design.{Places}
-use Rattle.scc_meaning.specs.Value.{Names}
-use Rattle.scc_running.specs.Body as machine
-use Rattle.scc_running.specs.Value.{Held}
-use Rattle.scc_running.specs.Machine.{Frames, Stop, Go, Mark, Inner, BehindBlock, BehindCall, Outcome, Suspended, Ended, Stuck, Unfinished, Next, act, run, idle, unless_stuck}
-use Rattle.scc_running.specs.Machine as steps
-use Rattle.scc_meaning_core.specs.Term as core
-use Rattle.scc_meaning_core.specs.Code as stmt
-use Rattle.scc_meaning_core.specs.Source.{Home, aimed}
-use Rattle.scc_meaning_plain.specs.Term.{Left, Local, Argument, Value, Leads, ModuleName}
-use Rattle.scc_meaning_plain.specs.Program.{Code, End, Declare, Assign, Point, Write, Call, If, Loop, Block, Exit, Return, Wait, Make, Bind, Process, Sensitive, Quiet, Reset, Function, Member}
-use Rattle.scc_meaning_plain.specs.Types.{is_direct}
-use Rattle.scc_meaning_plain.specs.Copied as copied
-use Rattle.scc_meaning_plain.specs.Copied.{Here, local_name}
-use Rattle.scc_meaning_plain.specs.Bodies.{result_name, object_of, pointed, cell_of, inside, passed, zeroed, elements, sizes_of, is_first, number_kind}
-use Rattle.scc_meaning_plain.specs.Bodies as bodies
-use Rattle.scc_meaning_plain.specs.Inlined.{body_of, call_of}
-use Rattle.scc_meaning_plain.specs.Spoken as spoken
+use Rattle.scc_semantics.specs.Location.{Location}
+use Rattle.scc_semantics.specs.Expressions as body
+use Rattle.scc_semantics.specs.Places.{Places}
+use Rattle.scc_semantics.specs.Scene.{Names}
+use Rattle.scc_semantics.specs.Body as machine
+use Rattle.scc_semantics.specs.Value.{Held}
+use Rattle.scc_semantics.specs.Machine.{Frames, Stop, Go, Mark, Inner, BehindBlock, BehindCall, Outcome, Suspended, Ended, Stuck, Unfinished, Next, act, run, idle, unless_stuck}
+use Rattle.scc_semantics.specs.Machine as steps
+use Rattle.scc_core_spec.specs.Term as core
+use Rattle.scc_core_spec.specs.Code as stmt
+use Rattle.scc_core_spec.specs.Source.{Home, aimed}
+use Rattle.scc_elab_spec.specs.Term.{Left, Local, Argument, Value, Leads, ModuleName}
+use Rattle.scc_elab_spec.specs.Program.{Code, End, Declare, Assign, Point, Write, Call, If, Loop, Block, Exit, Return, Wait, Make, Bind, Process, Sensitive, Quiet, Reset, Function, Member}
+use Rattle.scc_elab_spec.specs.Types.{is_direct}
+use Rattle.scc_elab_spec.specs.Copied as copied
+use Rattle.scc_elab_spec.specs.Copied.{Here, local_name}
+use Rattle.scc_elab_spec.specs.Bodies.{result_name, object_of, pointed, cell_of, inside, passed, zeroed, elements, sizes_of, is_first, number_kind}
+use Rattle.scc_elab_spec.specs.Bodies as bodies
+use Rattle.scc_inline_spec.specs.Inlined.{body_of, call_of}
+use Rattle.scc_elab_spec.specs.Spoken as spoken
 use Rattle.scc_inline_process_laws.specs.SoundCode.{Targets, LeadsUp}
 use Rattle.scc_inline_process_laws.specs.Relation.{Below, below_halt, below_inner, below_block, below_call, Alike, alike_stop, alike_end, alike_on, alike_clear, alike_enter, alike_begin}
 use Rattle.scc_inline_process_laws.proofs.Same.{cleft, aim-is}

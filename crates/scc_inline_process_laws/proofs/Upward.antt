@@ -1,22 +1,22 @@
 -- What a left side names is no deeper than its function, where pointers lead to nothing deeper than they are.
 use Rattle.std.proofs.Common.{◌≡◌, ℕ, zero, suc, ◌≤◌, ◌<◌, Bool, true, false, ◌&&◌, nat_lt, nat_eq, List, [], ◌∷◌, length, Option, Some, None, option_map, if◌then◌else◌, slice_get, refl, sym, ap, ◌∙◌, subst, arith}
 use Rattle.std.proofs.lemmas.Bool.{ltb-true, lt-ltb}
-use Rattle.scc_meaning.specs.Location.{Location, Root, Part, Member, Element, within, same, same_root, same_calls, same_path}
-use Rattle.scc_meaning.specs.Location as location
-use Rattle.scc_meaning.specs.Body as body
-use Rattle.scc_meaning.specs.Design.{Places}
-use Rattle.scc_meaning.specs.Store.{Store, changed}
-use Rattle.scc_meaning.specs.Value.{Names, expr_kind, index_of, pointed}
-use Rattle.scc_running.specs.Value.{locate, value, behind, target_of}
-use Rattle.scc_meaning_core.specs.Source.{Home}
-use Rattle.scc_meaning_plain.specs.Term.{Term, Left, Local, Answer, This, Follow, Index, Target, Null, Address, Copy}
-use Rattle.scc_meaning_plain.specs.Term as term
-use Rattle.scc_meaning_plain.specs.Program as plain
-use Rattle.scc_meaning_plain.specs.Types.{declared_at, is_reference}
-use Rattle.scc_meaning_plain.specs.Worth.{member_name}
-use Rattle.scc_meaning_plain.specs.Spoken as spoken
-use Rattle.scc_meaning_plain.specs.Copied.{Here, local_root}
-use Rattle.scc_meaning_plain.proofs.Chains.{and-first, and-second}
+use Rattle.scc_semantics.specs.Location.{Location, Root, Part, Member, Element, within, same, same_root, same_calls, same_path}
+use Rattle.scc_semantics.specs.Location as location
+use Rattle.scc_semantics.specs.Expressions as body
+use Rattle.scc_semantics.specs.Places.{Places}
+use Rattle.scc_semantics.specs.Store.{Store, changed}
+use Rattle.scc_semantics.specs.Scene.{Names, expr_kind, index_of, pointed}
+use Rattle.scc_semantics.specs.Value.{locate, value, behind, target_of}
+use Rattle.scc_core_spec.specs.Source.{Home}
+use Rattle.scc_elab_spec.specs.Term.{Term, Left, Local, Answer, This, Follow, Index, Target, Null, Address, Copy}
+use Rattle.scc_elab_spec.specs.Term as term
+use Rattle.scc_elab_spec.specs.Program as plain
+use Rattle.scc_elab_spec.specs.Types.{declared_at, is_reference}
+use Rattle.scc_elab_spec.specs.Worth.{member_name}
+use Rattle.scc_elab_spec.specs.Spoken as spoken
+use Rattle.scc_elab_spec.specs.Copied.{Here, local_root}
+use Rattle.scc_elab_spec.proofs.Chains.{and-first, and-second}
 use Rattle.scc_inline_process_laws.specs.SoundCode.{Targets, LeadsUp, IsWithin, is_outside, plain_scene}
 use Rattle.scc_inline_process_laws.proofs.Moves.{outside-wider, same_length, local-outside, answer-outside}
 

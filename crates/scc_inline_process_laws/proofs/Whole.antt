@@ -1,24 +1,24 @@
 -- The copy of a process means the same.
 use Rattle.std.proofs.Common.{◌≡◌, ℕ, Bool, true, List, [], Option, Some, None, option_map, unwrap_or, slice_get, refl, sym, ap, ◌∙◌, subst}
-use Rattle.scc_meaning.specs.Location.{Location, Root, Part}
-use Rattle.scc_meaning.specs.Location as location
-use Rattle.scc_meaning_plain.specs.Meant.{at_path, target_at}
-use Rattle.scc_running.specs.Body as machine
-use Rattle.scc_running.specs.Machine.{Frames, Stop, Go, Inner}
-use Rattle.scc_running.specs.Process.{first_frames}
-use Rattle.scc_running.specs.Same.{MeansTheSame, at_first}
-use Rattle.scc_meaning_core.specs.Term as core
-use Rattle.scc_meaning_core.specs.Code as stmt
-use Rattle.scc_meaning_core.specs.Source as source
-use Rattle.scc_meaning_core.specs.Source.{at_top}
-use Rattle.scc_meaning_plain.specs.Program.{Function, Plain}
-use Rattle.scc_meaning_plain.specs.Design as design
-use Rattle.scc_meaning_plain.specs.Design.{Design}
-use Rattle.scc_meaning_plain.specs.Cells.{path_of}
-use Rattle.scc_meaning_plain.specs.Numbering.{levels}
-use Rattle.scc_meaning_plain.specs.Copied.{Here}
-use Rattle.scc_meaning_plain.specs.Spoken as spoken
-use Rattle.scc_meaning_plain.specs.Inlined.{here_of, home_of, body_of, call_of, copied_program}
+use Rattle.scc_semantics.specs.Location.{Location, Root, Part}
+use Rattle.scc_semantics.specs.Location as location
+use Rattle.scc_elab_spec.specs.Meant.{at_path, target_at}
+use Rattle.scc_semantics.specs.Body as machine
+use Rattle.scc_semantics.specs.Machine.{Frames, Stop, Go, Inner}
+use Rattle.scc_semantics.specs.Process.{first_frames}
+use Rattle.scc_semantics.specs.Same.{MeansTheSame, at_first}
+use Rattle.scc_core_spec.specs.Term as core
+use Rattle.scc_core_spec.specs.Code as stmt
+use Rattle.scc_core_spec.specs.Source as source
+use Rattle.scc_core_spec.specs.Source.{at_top}
+use Rattle.scc_elab_spec.specs.Program.{Function, Plain}
+use Rattle.scc_elab_spec.specs.Design as design
+use Rattle.scc_elab_spec.specs.Design.{Design}
+use Rattle.scc_elab_spec.specs.Cells.{path_of}
+use Rattle.scc_elab_spec.specs.Numbering.{levels}
+use Rattle.scc_elab_spec.specs.Copied.{Here}
+use Rattle.scc_elab_spec.specs.Spoken as spoken
+use Rattle.scc_inline_spec.specs.Inlined.{here_of, home_of, body_of, call_of, copied_program}
 use Rattle.scc_inline_process_laws.specs.SoundCode.{Targets, LeadsUp, is_outside}
 use Rattle.scc_inline_process_laws.specs.Relation.{IsSteady}
 use Rattle.scc_inline_process_laws.specs.Standing.{first_spoken, first_copied, StandsAlike, Standing, standing_first}

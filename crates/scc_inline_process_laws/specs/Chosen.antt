@@ -1,13 +1,13 @@
 -- Objects of calls that static indices choose.
 use Rattle.std.specs.Prelude.{◌≡◌, ℕ, Some, None, Option}
-use Rattle.scc_meaning_core.specs.Source.{Home}
-use Rattle.scc_meaning_core.specs.Static.{static}
-use Rattle.scc_meaning_plain.specs.Term.{Left, Local, Answer, This, Follow, Index}
-use Rattle.scc_meaning_plain.specs.Term as term
-use Rattle.scc_meaning_plain.specs.Copied.{Here, copied}
-use Rattle.scc_meaning_plain.specs.Bodies.{result_name}
+use Rattle.scc_core_spec.specs.Source.{Home}
+use Rattle.scc_core_spec.specs.Static.{static}
+use Rattle.scc_elab_spec.specs.Term.{Left, Local, Answer, This, Follow, Index}
+use Rattle.scc_elab_spec.specs.Term as term
+use Rattle.scc_elab_spec.specs.Copied.{Here, copied}
+use Rattle.scc_elab_spec.specs.Bodies.{result_name}
 use Rattle.scc_inline_process_laws.specs.Sound.{IsSoundTerm, IsKindedLeft}
-use Rattle.scc_meaning_plain.specs.Typed.{IsTyped}
+use Rattle.scc_elab_spec.specs.Typed.{IsTyped}
 
 -- each index of a location is static
 abbrev pub IsChosenStatically : Home → Here → Left → Type 0

@@ -1,26 +1,26 @@
 -- Frames of a process against those of its copy: each list of statements has its copy; the block of a call stands for the call.
 use Rattle.std.specs.Prelude.{◌≡◌, ℕ, zero, suc, true, false, List, [], ◌∷◌, length, Option, Some, None}
 use Rattle.scc_base.specs.declared.refusal.Place.{Place}
-use Rattle.scc_kinds.specs.declared.kind.Kind.{Kind}
-use Rattle.scc_meaning.specs.Location.{Location}
-use Rattle.scc_meaning.specs.Design.{Places}
-use Rattle.scc_meaning.specs.Store.{Store}
-use Rattle.scc_meaning.specs.Value.{Names}
-use Rattle.scc_running.specs.Body.{Body}
-use Rattle.scc_running.specs.Body as machine
-use Rattle.scc_running.specs.Value.{Held, locate}
-use Rattle.scc_running.specs.Machine.{Frames, Stop, Go, Mark, Inner, BehindBlock, BehindCall, Outcome, Suspended, Ended, Stuck, Unfinished, after}
-use Rattle.scc_meaning_core.specs.Term as core
-use Rattle.scc_meaning_core.specs.Code as stmt
-use Rattle.scc_meaning_core.specs.Source.{Home, left_of}
-use Rattle.scc_meaning_core.specs.Source as source
-use Rattle.scc_meaning_plain.specs.Term.{Argument}
-use Rattle.scc_meaning_plain.specs.Program.{Code, Function, Member}
-use Rattle.scc_meaning_plain.specs.Types.{is_direct}
-use Rattle.scc_meaning_plain.specs.Copied.{Here, answer_name, local_root}
-use Rattle.scc_meaning_plain.specs.Bodies.{inside, result_name, passed, cell_of, cleared}
-use Rattle.scc_meaning_plain.specs.Inlined.{body_of, call_of}
-use Rattle.scc_meaning_plain.specs.Spoken as spoken
+use Rattle.scc_bits_kinds.specs.declared.kind.Kind.{Kind}
+use Rattle.scc_semantics.specs.Location.{Location}
+use Rattle.scc_semantics.specs.Places.{Places}
+use Rattle.scc_semantics.specs.Store.{Store}
+use Rattle.scc_semantics.specs.Scene.{Names}
+use Rattle.scc_semantics.specs.Body.{Body}
+use Rattle.scc_semantics.specs.Body as machine
+use Rattle.scc_semantics.specs.Value.{Held, locate}
+use Rattle.scc_semantics.specs.Machine.{Frames, Stop, Go, Mark, Inner, BehindBlock, BehindCall, Outcome, Suspended, Ended, Stuck, Unfinished, after}
+use Rattle.scc_core_spec.specs.Term as core
+use Rattle.scc_core_spec.specs.Code as stmt
+use Rattle.scc_core_spec.specs.Source.{Home, left_of}
+use Rattle.scc_core_spec.specs.Source as source
+use Rattle.scc_elab_spec.specs.Term.{Argument}
+use Rattle.scc_elab_spec.specs.Program.{Code, Function, Member}
+use Rattle.scc_elab_spec.specs.Types.{is_direct}
+use Rattle.scc_elab_spec.specs.Copied.{Here, answer_name, local_root}
+use Rattle.scc_elab_spec.specs.Bodies.{inside, result_name, passed, cell_of, cleared}
+use Rattle.scc_inline_spec.specs.Inlined.{body_of, call_of}
+use Rattle.scc_elab_spec.specs.Spoken as spoken
 use Rattle.scc_inline_process_laws.specs.Sound.{names_of, IsHomed}
 use Rattle.scc_inline_process_laws.specs.SoundCode.{Targets, SameOutside, LeadsUp, IsWithin, Knows, core_scene, IsSoundCode, IsSoundCall, AreSoundArguments, IsSoundAnswer, AllPlaced}
 

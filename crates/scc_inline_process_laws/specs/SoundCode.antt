@@ -2,23 +2,23 @@
 -- their function, calls go less deep than the copies, arguments fit parameters, and an object that is chosen stays the same while its function runs.
 use Rattle.std.specs.Prelude.{◌≡◌, ℕ, zero, suc, ◌<◌, nat_lt, nat_eq, ◌&&◌, Bool, true, false, List, [], ◌∷◌, map, length, Option, Some, None, slice_get, if◌then◌else◌}
 use Rattle.scc_base.specs.declared.refusal.Place.{Place}
-use Rattle.scc_kinds.specs.declared.kind.Kind.{Kind}
-use Rattle.scc_kinds.specs.declared.kind.Kind.TheVariants as kind
-use Rattle.scc_meaning.specs.Location.{Location, Root, Element}
-use Rattle.scc_meaning.specs.Location as location
-use Rattle.scc_meaning.specs.Design.{Places, Thing, Number}
-use Rattle.scc_meaning.specs.Store.{Store}
-use Rattle.scc_meaning.specs.Value.{Names, Scene, index_of}
-use Rattle.scc_running.specs.Value.{locate, value}
-use Rattle.scc_meaning_core.specs.Term as core
-use Rattle.scc_meaning_core.specs.Static.{static}
-use Rattle.scc_meaning_core.specs.Source.{Home, expr_of, left_of}
-use Rattle.scc_meaning_plain.specs.Term.{Term, Left, Local, Pick, Whole, OneBit, Bits, Target, Null, Address, Copy, Argument, Value, Leads, ModuleName}
-use Rattle.scc_meaning_plain.specs.Program.{Code, End, Declare, Assign, Point, Write, Call, If, Loop, Block, Exit, Return, Wait, Make, Bind, Process, Sensitive, Quiet, Reset, Function, Member}
-use Rattle.scc_meaning_plain.specs.Types.{is_direct}
-use Rattle.scc_meaning_plain.specs.Copied.{Here, local_root}
-use Rattle.scc_meaning_plain.specs.Bodies.{elements, inside, object_of, result_name}
-use Rattle.scc_meaning_plain.specs.Spoken as spoken
+use Rattle.scc_bits_kinds.specs.declared.kind.Kind.{Kind}
+use Rattle.scc_bits_kinds.specs.declared.kind.Kind.TheVariants as kind
+use Rattle.scc_semantics.specs.Location.{Location, Root, Element}
+use Rattle.scc_semantics.specs.Location as location
+use Rattle.scc_semantics.specs.Places.{Places, Thing, Number}
+use Rattle.scc_semantics.specs.Store.{Store}
+use Rattle.scc_semantics.specs.Scene.{Names, Scene, index_of}
+use Rattle.scc_semantics.specs.Value.{locate, value}
+use Rattle.scc_core_spec.specs.Term as core
+use Rattle.scc_core_spec.specs.Static.{static}
+use Rattle.scc_core_spec.specs.Source.{Home, expr_of, left_of}
+use Rattle.scc_elab_spec.specs.Term.{Term, Left, Local, Pick, Whole, OneBit, Bits, Target, Null, Address, Copy, Argument, Value, Leads, ModuleName}
+use Rattle.scc_elab_spec.specs.Program.{Code, End, Declare, Assign, Point, Write, Call, If, Loop, Block, Exit, Return, Wait, Make, Bind, Process, Sensitive, Quiet, Reset, Function, Member}
+use Rattle.scc_elab_spec.specs.Types.{is_direct}
+use Rattle.scc_elab_spec.specs.Copied.{Here, local_root}
+use Rattle.scc_elab_spec.specs.Bodies.{elements, inside, object_of, result_name}
+use Rattle.scc_elab_spec.specs.Spoken as spoken
 use Rattle.scc_inline_process_laws.specs.Sound.{names_of, IsKinded, IsHomed, IsSoundTerm, IsSoundLeft}
 
 abbrev pub Targets : Type 0

@@ -1,18 +1,18 @@
 -- Where a process and its copy stand between resumes, and what is asked of the copy's runs.
 use Rattle.std.specs.Prelude.{◌≡◌, ℕ, List, [], ◌∷◌, Option, if◌then◌else◌}
-use Rattle.scc_meaning.specs.Location.{Location}
-use Rattle.scc_meaning.specs.Design.{Places}
-use Rattle.scc_meaning.specs.Value.{Names}
-use Rattle.scc_running.specs.Body as machine
-use Rattle.scc_running.specs.Body.{Body}
-use Rattle.scc_running.specs.Design.{Design, Process}
-use Rattle.scc_running.specs.Machine.{Frames, Stop, Go, Inner}
-use Rattle.scc_running.specs.Process.{first_frames}
-use Rattle.scc_running.specs.Same.{Turn, Middle, leading, left_in, resumed, AllProper}
-use Rattle.scc_meaning_core.specs.Term as core
-use Rattle.scc_meaning_core.specs.Source.{Home}
-use Rattle.scc_meaning_plain.specs.Program.{Function}
-use Rattle.scc_meaning_plain.specs.Copied.{Here}
+use Rattle.scc_semantics.specs.Location.{Location}
+use Rattle.scc_semantics.specs.Places.{Places}
+use Rattle.scc_semantics.specs.Scene.{Names}
+use Rattle.scc_semantics.specs.Body as machine
+use Rattle.scc_semantics.specs.Body.{Body}
+use Rattle.scc_semantics.specs.Design.{Design, Process}
+use Rattle.scc_semantics.specs.Machine.{Frames, Stop, Go, Inner}
+use Rattle.scc_semantics.specs.Process.{first_frames}
+use Rattle.scc_semantics.specs.Same.{Turn, Middle, leading, left_in, resumed, AllProper}
+use Rattle.scc_core_spec.specs.Term as core
+use Rattle.scc_core_spec.specs.Source.{Home}
+use Rattle.scc_elab_spec.specs.Program.{Function}
+use Rattle.scc_elab_spec.specs.Copied.{Here}
 use Rattle.scc_inline_process_laws.specs.Sound.{names_of}
 use Rattle.scc_inline_process_laws.specs.SoundCode.{Targets, LeadsUp}
 use Rattle.scc_inline_process_laws.specs.Relation.{here, spoken_body, copied_body, Alike, KeepsFrom}

@@ -1,22 +1,22 @@
 -- A process of a design and its copy: what is asked of both.
 use Rattle.std.specs.Prelude.{◌≡◌, ℕ, [], Option, Some, None, slice_get}
-use Rattle.scc_meaning.specs.Location.{Location}
-use Rattle.scc_meaning.specs.Value.{Names}
-use Rattle.scc_running.specs.Design as running
-use Rattle.scc_running.specs.Same.{at_first}
-use Rattle.scc_meaning_core.specs.Program as prog
-use Rattle.scc_meaning_core.specs.Source as source
-use Rattle.scc_meaning_core.specs.Source.{Home, at_top, source_of, sort_of}
-use Rattle.scc_meaning_plain.specs.Program.{Function, Plain}
-use Rattle.scc_meaning_plain.specs.Design as design
-use Rattle.scc_meaning_plain.specs.Design.{Design}
-use Rattle.scc_meaning_plain.specs.Cells.{path_of}
-use Rattle.scc_meaning_plain.specs.Meant as meant
-use Rattle.scc_meaning_plain.specs.Meant.{design_of, at_path}
-use Rattle.scc_meaning_plain.specs.Spoken.{function_body}
-use Rattle.scc_meaning_plain.specs.Numbering.{levels}
-use Rattle.scc_meaning_plain.specs.Copied.{Here}
-use Rattle.scc_meaning_plain.specs.Inlined.{here_of, copied_program, copied_process, home_of}
+use Rattle.scc_semantics.specs.Location.{Location}
+use Rattle.scc_semantics.specs.Scene.{Names}
+use Rattle.scc_semantics.specs.Design as running
+use Rattle.scc_semantics.specs.Same.{at_first}
+use Rattle.scc_core_spec.specs.Program as prog
+use Rattle.scc_core_spec.specs.Source as source
+use Rattle.scc_core_spec.specs.Source.{Home, at_top, source_of, sort_of}
+use Rattle.scc_elab_spec.specs.Program.{Function, Plain}
+use Rattle.scc_elab_spec.specs.Design as design
+use Rattle.scc_elab_spec.specs.Design.{Design}
+use Rattle.scc_elab_spec.specs.Cells.{path_of}
+use Rattle.scc_elab_spec.specs.Meant as meant
+use Rattle.scc_elab_spec.specs.Meant.{design_of, at_path}
+use Rattle.scc_elab_spec.specs.Spoken.{function_body}
+use Rattle.scc_elab_spec.specs.Numbering.{levels}
+use Rattle.scc_elab_spec.specs.Copied.{Here}
+use Rattle.scc_inline_spec.specs.Inlined.{here_of, copied_program, copied_process, home_of}
 use Rattle.scc_inline_process_laws.specs.Relation.{IsSoundAt}
 use Rattle.scc_inline_process_laws.specs.Standing.{KeepsAlways}
 

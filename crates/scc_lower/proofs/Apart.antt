@@ -7,7 +7,7 @@ use Rattle.scc_base.specs.declared.names.Name.{Name}
 use Rattle.scc_base.specs.declared.path.PathPart.{PathPart}
 use Rattle.scc_base.specs.declared.path.PathPart.TheVariants.{Member, Index}
 use Rattle.scc_core.specs.declared.program.CellName.{CellName}
-use Rattle.scc_lowered.proofs.Pieces.{joined_same}
+use Rattle.scc_lower_spec.proofs.Pieces.{joined_same}
 use Rattle.scc_lower.specs.Names.{local_parts, parts_of, name_of, IsName, IsBelow, Pair, Together}
 
 -- one of two paths that begin one list begins the other

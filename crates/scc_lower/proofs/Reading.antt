@@ -3,18 +3,18 @@ use Rattle.std.specs.Prelude.{◌≡◌, ℕ, ◌+◌, ◌-◌, ◌/◌, ◌%◌
 use Rattle.std.proofs.Common.{sym, ◌∙◌, ap, subst, arith}
 use Rattle.std.proofs.Math.Nat.{mod-lt, mod-eq_of_lt}
 use Rattle.std.proofs.lemmas.Nat.{pow_pos}
-use Rattle.scc_kinds.specs.declared.kind.Kind.{Kind}
-use Rattle.scc_kinds.specs.declared.kind.Word.{Word}
-use Rattle.scc_kinds.specs.Bits.{part}
-use Rattle.scc_kinds.specs.Kinds.{IsValid, Fits, width_of}
+use Rattle.scc_bits_kinds.specs.declared.kind.Kind.{Kind}
+use Rattle.scc_bits_kinds.specs.declared.kind.Word.{Word}
+use Rattle.scc_bits_kinds.specs.Bits.{part}
+use Rattle.scc_bits_kinds.specs.Kinds.{IsValid, Fits, width_of}
 use Rattle.scc_bits.proofs.Validity.{width_valid}
 use Rattle.scc_svtree.specs.Sizes.{fixed, sized}
 use Rattle.scc_svtree.specs.Term.{Part}
-use Rattle.scc_lowered.specs.Gives.{Gives}
-use Rattle.scc_lowered.specs.Selected.{part_left}
-use Rattle.scc_lowered.proofs.Bytes.{and_left, and_right}
-use Rattle.scc_lowered.proofs.Gives.{gives_fixed}
-use Rattle.scc_lowered.proofs.Selected.{part_gives}
+use Rattle.scc_lower_spec.specs.Gives.{Gives}
+use Rattle.scc_lower_spec.specs.Selected.{part_left}
+use Rattle.scc_lower_spec.proofs.Bytes.{and_left, and_right}
+use Rattle.scc_lower_spec.proofs.Gives.{gives_fixed}
+use Rattle.scc_lower_spec.proofs.Selected.{part_gives}
 use Rattle.scc_lower.specs.declared.lowering.View.{View}
 use Rattle.scc_lower.specs.declared.lowering.View.TheVariants.{Constant, Plain, Next, Delayed}
 use Rattle.scc_lower.specs.Reads.{var_read, read_term, Shown}

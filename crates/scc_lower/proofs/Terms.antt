@@ -11,7 +11,7 @@ use Rattle.scc_svtree.specs.declared.expr.SvUnary.{SvUnary}
 use Rattle.scc_svtree.specs.declared.expr.SvBinary.{SvBinary}
 use Rattle.scc_svtree.specs.Term as term
 use Rattle.scc_svtree.specs.Term.{Term, term_node, term_of, joined}
-use Rattle.scc_lowered.specs.Conversion.{takes_own_size}
+use Rattle.scc_lower_spec.specs.Conversion.{takes_own_size}
 
 abbrev boxed : SvExprNode → SvExpr
 boxed n = record { node = n }

@@ -1,13 +1,13 @@
 -- What conversions, operators and choices of lowered operands give.
 use Rattle.std.specs.Prelude.{◌≡◌, ℕ, nat_eq, not, cond, Bool, true, false, if◌then◌else◌, Option, Some, None, option_map, option_and_then}
 use Rattle.std.proofs.Common.{refl, sym, ◌∙◌, ap, subst}
-use Rattle.scc_kinds.specs.declared.op.Op.{Op}
-use Rattle.scc_kinds.specs.declared.op.Op.TheVariants as op
-use Rattle.scc_kinds.specs.declared.kind.Kind.{Kind}
-use Rattle.scc_kinds.specs.declared.kind.Kind.TheVariants as sorts
-use Rattle.scc_kinds.specs.Operators.{truth}
-use Rattle.scc_kinds.specs.Kinds.{IsValid, Fits, width_of, is_signed, number_of, stored}
-use Rattle.scc_kinds.proofs.Words.{truth_reading}
+use Rattle.scc_bits_kinds.specs.declared.op.Op.{Op}
+use Rattle.scc_bits_kinds.specs.declared.op.Op.TheVariants as op
+use Rattle.scc_bits_kinds.specs.declared.kind.Kind.{Kind}
+use Rattle.scc_bits_kinds.specs.declared.kind.Kind.TheVariants as sorts
+use Rattle.scc_bits_kinds.specs.Operators.{truth}
+use Rattle.scc_bits_kinds.specs.Kinds.{IsValid, Fits, width_of, is_signed, number_of, stored}
+use Rattle.scc_bits_kinds.proofs.Words.{truth_reading}
 use Rattle.scc_bits.specs.declared.operands.Operands.{Operands}
 use Rattle.scc_bits.specs.Placed.{operands_of}
 use Rattle.scc_bits.specs.Value.{Number, exactly}
@@ -17,12 +17,12 @@ use Rattle.scc_svtree.specs.declared.expr.SvBinary.{SvBinary}
 use Rattle.scc_svtree.specs.declared.expr.SvUnary.{SvUnary}
 use Rattle.scc_svtree.specs.Sizes.{Sized, sized}
 use Rattle.scc_svtree.specs.Term.{Term, Literal, Unary, term_of}
-use Rattle.scc_lowered.specs.Gives.{Gives}
-use Rattle.scc_lowered.specs.Operating.{binary_of, is_shift, operated_term, unary_of}
-use Rattle.scc_lowered.proofs.Gives.{gives_fixed, gives_cond}
-use Rattle.scc_lowered.proofs.Converted.{converted_gives}
-use Rattle.scc_lowered.proofs.Shapes.{shape}
-use Rattle.scc_lowered.proofs.Operators.{stored_fits, amount_gives, operator_gives, unary_operator_gives, plus_operator_gives}
+use Rattle.scc_lower_spec.specs.Gives.{Gives}
+use Rattle.scc_lower_spec.specs.Operating.{binary_of, is_shift, operated_term, unary_of}
+use Rattle.scc_lower_spec.proofs.Gives.{gives_fixed, gives_cond}
+use Rattle.scc_lower_spec.proofs.Converted.{converted_gives}
+use Rattle.scc_lower_spec.proofs.Shapes.{shape}
+use Rattle.scc_lower_spec.proofs.Operators.{stored_fits, amount_gives, operator_gives, unary_operator_gives, plus_operator_gives}
 use Rattle.scc_lower.specs.declared.convert.Lowered.{Lowered}
 use Rattle.scc_lower.specs.declared.convert.Lowered.TheVariants.{Known, Made}
 use Rattle.scc_lower.specs.declared.operator.Operand.{Operand}

@@ -1,12 +1,12 @@
 -- What became of an expression: a number, or text.
 use Rattle.std.specs.Prelude.{◌≡◌, ℕ, Bool, false, Option, Some, None}
-use Rattle.scc_kinds.specs.declared.kind.Kind.{Kind}
-use Rattle.scc_kinds.specs.Kinds.{width_of, stored}
+use Rattle.scc_bits_kinds.specs.declared.kind.Kind.{Kind}
+use Rattle.scc_bits_kinds.specs.Kinds.{width_of, stored}
 use Rattle.scc_bits.specs.Value.{Number, exactly}
 use Rattle.scc_svtree.specs.Sizes.{sized}
 use Rattle.scc_svtree.specs.Term.{Term, Literal, term_of}
-use Rattle.scc_lowered.specs.Conversion.{converted_term}
-use Rattle.scc_lowered.specs.Gives.{Gives}
+use Rattle.scc_lower_spec.specs.Conversion.{converted_term}
+use Rattle.scc_lower_spec.specs.Gives.{Gives}
 use Rattle.scc_lower.specs.declared.convert.Lowered.{Lowered}
 use Rattle.scc_lower.specs.declared.convert.Lowered.TheVariants.{Known, Made}
 

@@ -4,7 +4,7 @@ use Rattle.scc_base.specs.declared.names.Name.{Name}
 use Rattle.scc_base.specs.declared.path.PathPart.{PathPart}
 use Rattle.scc_base.specs.declared.path.PathPart.TheVariants.{Member, Index}
 use Rattle.scc_core.specs.declared.program.CellName.{CellName}
-use Rattle.scc_lowered.specs.Parts.{joined, AreParts}
+use Rattle.scc_lower_spec.specs.Parts.{joined, AreParts}
 
 -- of a local its number in its process and its identifier
 abbrev pub local_parts : Option (ℕ × Name) → List PathPart

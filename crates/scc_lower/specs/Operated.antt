@@ -1,15 +1,15 @@
 -- The text of operators on lowered operands.
 use Rattle.std.specs.Prelude.{◌≡◌, nat_eq, not, Bool, true, false, if◌then◌else◌, Option, Some, None, option_map, option_and_then}
-use Rattle.scc_kinds.specs.declared.kind.Kind.{Kind}
-use Rattle.scc_kinds.specs.declared.kind.Kind.TheVariants as kind
-use Rattle.scc_kinds.specs.declared.op.Op.{Op}
-use Rattle.scc_kinds.specs.declared.op.Op.TheVariants as op
-use Rattle.scc_kinds.specs.Kinds.{is_signed}
+use Rattle.scc_bits_kinds.specs.declared.kind.Kind.{Kind}
+use Rattle.scc_bits_kinds.specs.declared.kind.Kind.TheVariants as kind
+use Rattle.scc_bits_kinds.specs.declared.op.Op.{Op}
+use Rattle.scc_bits_kinds.specs.declared.op.Op.TheVariants as op
+use Rattle.scc_bits_kinds.specs.Kinds.{is_signed}
 use Rattle.scc_bits.specs.Placed.{operands_of}
 use Rattle.scc_bits.specs.Value.{Number}
 use Rattle.scc_bits.specs.Values.{applied, kind_of}
 use Rattle.scc_svtree.specs.Term.{Term, Unary, Cond, term_of}
-use Rattle.scc_lowered.specs.Operating.{binary_of, is_shift, operated_term, unary_of}
+use Rattle.scc_lower_spec.specs.Operating.{binary_of, is_shift, operated_term, unary_of}
 use Rattle.scc_lower.specs.declared.convert.Lowered.{Lowered}
 use Rattle.scc_lower.specs.declared.convert.Lowered.TheVariants.{Known, Made}
 use Rattle.scc_lower.specs.declared.operator.Operand.{Operand}

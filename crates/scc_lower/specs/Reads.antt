@@ -1,12 +1,12 @@
 -- Reads of cells, by how a block views them.
 use Rattle.std.specs.Prelude.{◌≡◌, ℕ, ◌+◌, ◌-◌, ◌*◌, min, List, Option, Some, None, option_map, option_and_then, slice_get}
-use Rattle.scc_kinds.specs.declared.kind.Kind.{Kind}
-use Rattle.scc_kinds.specs.declared.kind.Word.{Word}
-use Rattle.scc_kinds.specs.Bits.{part}
-use Rattle.scc_kinds.specs.Kinds.{width_of}
+use Rattle.scc_bits_kinds.specs.declared.kind.Kind.{Kind}
+use Rattle.scc_bits_kinds.specs.declared.kind.Word.{Word}
+use Rattle.scc_bits_kinds.specs.Bits.{part}
+use Rattle.scc_bits_kinds.specs.Kinds.{width_of}
 use Rattle.scc_core.specs.declared.program.Cell.{Cell}
 use Rattle.scc_svtree.specs.Term.{Term, Literal, Part}
-use Rattle.scc_lowered.specs.Selected.{part_left}
+use Rattle.scc_lower_spec.specs.Selected.{part_left}
 use Rattle.scc_lower.specs.declared.lowering.View.{View}
 use Rattle.scc_lower.specs.declared.lowering.View.TheVariants.{Constant, Plain, Next, Delayed}
 

@@ -10,8 +10,8 @@ use crate::tree::{CHOICES, element_at};
 use scc_base::{List, NoMemory, lost};
 use scc_bits::width;
 use scc_core::{CoreExpr, CoreLeft, CorePick};
-use scc_renumber::{Ids, renumbered_expr};
 use scc_svtree::{SvArm, SvBinary, SvExpr, SvLeft, SvStmt, SvUnary};
+use scc_svtree_renumber::{Ids, renumbered_expr};
 use std::alloc::Global;
 
 /// What each cell that an assignment may mean is given.

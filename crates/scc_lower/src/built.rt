@@ -1,11 +1,11 @@
 //! The parts of emitted expressions.
 ghost use Rattle.std.specs.Prelude.{◌≡◌, IfOk};
-ghost use Rattle.scc_kinds.specs.Kinds.{width_of};
+ghost use Rattle.scc_bits_kinds.specs.Kinds.{width_of};
 ghost use Rattle.scc_svtree.specs.Classes.{class_of};
 ghost use Rattle.scc_svtree.specs.Term as term;
 ghost use Rattle.scc_svtree.specs.Term.{term_of};
 ghost use Rattle.scc_svtree.specs.declared.expr.SvLeft.TheVariants as place;
-ghost use Rattle.scc_lowered.specs.Conversion.{is_test, takes_own_size, widened};
+ghost use Rattle.scc_lower_spec.specs.Conversion.{is_test, takes_own_size, widened};
 
 use scc_base::{Boxed, NoMemory};
 use scc_bits::{Value, Word, width};

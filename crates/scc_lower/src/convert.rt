@@ -1,9 +1,9 @@
 //! Lowered expressions and their conversion between kinds.
 ghost use Rattle.std.specs.Prelude.{◌≡◌, ◌&&◌, not, IfOk};
-ghost use Rattle.scc_kinds.specs.Kinds.{is_bool, stored};
+ghost use Rattle.scc_bits_kinds.specs.Kinds.{is_bool, stored};
 ghost use Rattle.scc_bits.specs.Value.{exactly};
 ghost use Rattle.scc_svtree.specs.Term.{term_of};
-ghost use Rattle.scc_lowered.specs.Conversion.{converted_term, resized};
+ghost use Rattle.scc_lower_spec.specs.Conversion.{converted_term, resized};
 ghost use Rattle.scc_lower.specs.Lowered.{Converts, text_in, text_of};
 
 use crate::built::{binary, cast, known, literal, sign, widened};

@@ -3,7 +3,7 @@ ghost use Rattle.std.specs.Prelude.{◌≡◌, IfOk};
 ghost use Rattle.scc_svtree.specs.Term as term;
 ghost use Rattle.scc_svtree.specs.Term.{term_of};
 ghost use Rattle.scc_svtree.specs.declared.expr.SvLeft.TheVariants as place;
-ghost use Rattle.scc_lowered.specs.Selected.{bit_term};
+ghost use Rattle.scc_lower_spec.specs.Selected.{bit_term};
 
 use crate::built::{binary, cast, literal};
 use crate::convert::{Lowered, converted, expression, stored};

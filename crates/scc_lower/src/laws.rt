@@ -1,10 +1,10 @@
 //! Laws of lowering, each the clause of a function that does nothing.
 ghost use Rattle.std.specs.Prelude.{◌≡◌, ◌+◌, ◌-◌, ◌<◌, ◌≤◌, ℕ, Bool, cond, false, List, nat_eq, Some};
 ghost use Rattle.scc_base.specs.Names.{AllDiffer};
-ghost use Rattle.scc_kinds.specs.declared.kind.Kind.{Kind};
-ghost use Rattle.scc_kinds.specs.declared.op.Op.{Op};
-ghost use Rattle.scc_kinds.specs.Bits.{part};
-ghost use Rattle.scc_kinds.specs.Kinds.{Fits, IsValid, number_of, stored, width_of};
+ghost use Rattle.scc_bits_kinds.specs.declared.kind.Kind.{Kind};
+ghost use Rattle.scc_bits_kinds.specs.declared.op.Op.{Op};
+ghost use Rattle.scc_bits_kinds.specs.Bits.{part};
+ghost use Rattle.scc_bits_kinds.specs.Kinds.{Fits, IsValid, number_of, stored, width_of};
 ghost use Rattle.scc_bits.specs.Values.{applied, is_too_wide, kind_of};
 ghost use Rattle.scc_core.specs.declared.program.CellName.{CellName};
 ghost use Rattle.scc_lower.specs.declared.convert.Lowered.{Lowered};
@@ -14,7 +14,7 @@ ghost use Rattle.scc_lower.specs.Names.{IsName, Together, name_of};
 ghost use Rattle.scc_lower.specs.Operated.{Chosen, Operated, OperatedAlone};
 ghost use Rattle.scc_lower.specs.Reads.{Shown, read_term, var_read};
 ghost use Rattle.scc_lower.specs.declared.lowering.View.{View};
-ghost use Rattle.scc_lowered.specs.Gives.{Gives};
+ghost use Rattle.scc_lower_spec.specs.Gives.{Gives};
 ghost use Rattle.scc_svtree.specs.Sizes.{sized};
 
 /// Two cells of a core that have one text have one name.

@@ -1,7 +1,7 @@
 //! Names in the emitted text.
 ghost use Rattle.std.specs.Prelude.{◌≡◌, ◌++◌, IfOk, OnOk, decimal};
 ghost use Rattle.scc_lower.specs.Names.{name_of, parts_of};
-ghost use Rattle.scc_lowered.specs.Parts.{joined, part_text, text_at};
+ghost use Rattle.scc_lower_spec.specs.Parts.{joined, part_text, text_at};
 
 use itoa::Buffer;
 use scc_base::{Name, Names, NoMemory, Path, PathPart, Text, lost};

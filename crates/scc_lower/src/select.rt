@@ -2,7 +2,7 @@
 ghost use Rattle.std.specs.Prelude.{◌≡◌, ◌+◌, ◌-◌, ◌&&◌, IfOk, Some, min, nat_eq};
 ghost use Rattle.scc_svtree.specs.Term as term;
 ghost use Rattle.scc_svtree.specs.Term.{term_of};
-ghost use Rattle.scc_lowered.specs.Selected.{part_left};
+ghost use Rattle.scc_lower_spec.specs.Selected.{part_left};
 ghost use Rattle.scc_lower.specs.Reads.{part_of, read_term, read_text};
 
 use crate::built::{left, literal};

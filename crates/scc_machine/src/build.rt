@@ -2,10 +2,10 @@
 use crate::start::Start;
 use indexmap::IndexMap;
 use scc_base::{Name, NoMemory, PathPart, lost, push};
-use scc_design::{Design, Object, ObjectNode};
-use scc_flat::{NOWHERE, NULL, Store};
-use scc_flatcode::{Layout, member_of, plus, product};
-use scc_plaintree::{Base, Plain, Reach};
+use scc_elab_design::{Design, Object, ObjectNode};
+use scc_machine_code::{NOWHERE, NULL, Store};
+use scc_machine_functions::{Layout, member_of, plus, product};
+use scc_plain_tree::{Base, Plain, Reach};
 use std::alloc::Global;
 
 /// Where objects stand.

@@ -1,7 +1,7 @@
 //! Processes, and how one is resumed (IEEE 1666-2011, 4.2.1: the scheduling algorithm; 5.2.18: wait).
 use crate::runner::{RunStop, Runner};
 use scc_base::{NoMemory, lost, push};
-use scc_flat::{Halt, Thread};
+use scc_machine_code::{Halt, Thread};
 
 /// A reset: the slot of the word that its signal shows, and the level at which its thread starts again.
 #[derive(Clone, Copy)]

@@ -5,7 +5,7 @@ ghost use Rattle.std.specs.Prelude.{◌≡◌, Some, Err, IfErr};
 use crate::runner::{RunStop, Runner};
 use scc_base::{NoMemory, lost};
 use scc_bits::Word;
-use scc_flat::NULL;
+use scc_machine_code::NULL;
 
 /// Which processes an edge resumes.
 #[derive(Clone, Copy)]

@@ -4,10 +4,10 @@ use crate::resume::{ResetAt, Running, Stage};
 use crate::start::Start;
 use scc_base::{NoMemory, lost, push};
 use scc_bits::Word;
-use scc_design::{Design, Object, ObjectNode, Process, Sort};
-use scc_flat::{Machine, NULL};
-use scc_flatcode::{Layout, coded};
-use scc_plaintree::Plain;
+use scc_elab_design::{Design, Object, ObjectNode, Process, Sort};
+use scc_machine_code::{Machine, NULL};
+use scc_machine_functions::{Layout, coded};
+use scc_plain_tree::Plain;
 use std::alloc::{AllocFailed, Global};
 
 /// Why a runner stopped for good.

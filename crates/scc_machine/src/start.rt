@@ -1,7 +1,7 @@
 //! What signals and variables hold at the start.
 use scc_base::{List, NoMemory, push};
 use scc_bits::Word;
-use scc_design::{Design, Object, ObjectNode};
+use scc_elab_design::{Design, Object, ObjectNode};
 use std::alloc::Global;
 
 /// A word for each signal and variable, in construction order.

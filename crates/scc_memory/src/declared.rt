@@ -1,7 +1,7 @@
 //! The variables of a module with memories.
 use crate::module::Memory;
-use scc_arrays::{Array, Arrays};
 use scc_base::{List, NoMemory, Text, lost, push};
+use scc_memory_arrays::{Array, Arrays};
 use scc_svtree::{Dir, SvVar, VarId};
 use std::alloc::Global;
 

@@ -3,8 +3,8 @@ use crate::declared::{Declared, declare};
 use crate::expressions::{binary, literal, node, number};
 use crate::module::{MemArm, MemBlock, MemExpr, MemExprNode, MemModule, MemSet, MemStmt};
 use crate::rewrite::Maker;
-use scc_arrays::{Spot, Write, first_run, is_start, taken, write_of};
 use scc_base::{List, NoMemory, Text, lost};
+use scc_memory_arrays::{Spot, Write, first_run, is_start, taken, write_of};
 use scc_svtree::{
     SvArm, SvBinary, SvBlock, SvExpr, SvLeft, SvLoad, SvModule, SvReset, SvSet, SvStmt, VarId,
 };

@@ -2,8 +2,8 @@
 use crate::declared::Declared;
 use crate::expressions::{binary, literal, node, unsigned, variable};
 use crate::module::{MemExpr, MemExprNode};
-use scc_arrays::{Arrays, Guard, Read, Spot, guard_of, read_of};
 use scc_base::{List, NoMemory, lost, push};
+use scc_memory_arrays::{Arrays, Guard, Read, Spot, guard_of, read_of};
 use scc_svtree::{SvBinary, SvExpr, SvExprNode, SvLeft, SvVar, VarId};
 use std::alloc::Global;
 

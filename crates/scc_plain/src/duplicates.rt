@@ -1,7 +1,7 @@
 //! Names that are declared twice in one scope (C++, [basic.scope], [basic.def.odr]). Every declaration of the text is looked at, in
 //! text order, whether it is used or not.
 ghost use Rattle.std.specs.Prelude.{IfErr};
-ghost use Rattle.scc_drafts.specs.Refusals.{MayStop};
+ghost use Rattle.scc_plain_drafts.specs.Refusals.{MayStop};
 
 use indexmap::IndexMap;
 use scc_base::{Code, Name, NoMemory, Place, Stop, lost};

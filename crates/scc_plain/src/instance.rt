@@ -1,14 +1,14 @@
 //! The walk over an instance: its members in the order of the text, then the bodies of its functions.
 ghost use Rattle.std.specs.Prelude.{IfErr};
-ghost use Rattle.scc_drafts.specs.Refusals.{MayStop};
+ghost use Rattle.scc_plain_drafts.specs.Refusals.{MayStop};
 
 use crate::outside::{Outside, name_place};
 use crate::stage::Order;
 use indexmap::IndexSet;
 use scc_base::{Code, List, Name, NoMemory, Stop, lost};
-use scc_bodies::{FunctionId, Walk, gone, refuse};
-use scc_plaintree::{Base, Reach};
-use scc_statements::{MadeAt, class_name, constructor, made_bare};
+use scc_plain_bodies::{FunctionId, Walk, gone, refuse};
+use scc_plain_statements::{MadeAt, class_name, constructor, made_bare};
+use scc_plain_tree::{Base, Reach};
 use scc_templates::{Context, Entry, Found, FunctionKey, InstanceId};
 use scc_tree::{ClassTree, Enumerator, Field, FileTree, FunctionTree, Item, ItemNode};
 

@@ -1,12 +1,12 @@
 //! What is looked for last: calls by a class's name of functions that use their object, and what holds or calls itself.
 ghost use Rattle.std.specs.Prelude.{IfErr};
-ghost use Rattle.scc_drafts.specs.Refusals.{MayStop};
+ghost use Rattle.scc_plain_drafts.specs.Refusals.{MayStop};
 
 use crate::graph::{Graph, Groups, Reached, reaches_itself};
 use crate::stage::Order;
 use scc_base::{Code, List, NoMemory, Place, Stop, lost};
-use scc_bodies::{CallOn, Note, Walk, gone, refuse};
-use scc_plaintree::{Base, Reach};
+use scc_plain_bodies::{CallOn, Note, Walk, gone, refuse};
+use scc_plain_tree::{Base, Reach};
 use scc_templates::{InstanceId, Needed};
 use scc_tree::FileTree;
 use std::alloc::Global;

@@ -1,7 +1,7 @@
 //! Bodies of member functions outside their class (C++, [class.mfct]) that the class doesn't declare.
 use indexmap::IndexMap;
 use scc_base::{List, Name, NoMemory, Place, lost};
-use scc_bodies::Walk;
+use scc_plain_bodies::Walk;
 use scc_templates::InstanceId;
 use scc_tree::{FileTree, FunctionTree, Item, ItemNode};
 use std::alloc::Global;

@@ -1,8 +1,8 @@
 //! The static stage as a whole.
 ghost use Rattle.std.specs.Prelude.{◌≡◌, IfErr, IfOk, true};
-ghost use Rattle.scc_drafts.specs.Refusals.{MayStop};
-ghost use Rattle.scc_plainlook.specs.Whole.{whole_plain};
-ghost use Rattle.scc_treeplaces.specs.Items.{stops_at};
+ghost use Rattle.scc_plain_drafts.specs.Refusals.{MayStop};
+ghost use Rattle.scc_plain_look.specs.Whole.{whole_plain};
+ghost use Rattle.scc_plain_places.specs.Items.{stops_at};
 
 use crate::duplicates::find_duplicates;
 use crate::instance::walk_instance;
@@ -11,13 +11,13 @@ use crate::outside::Outside;
 use crate::top::make_top;
 use crate::write::written;
 use scc_base::{Code, List, Name, NoMemory, Place, Stop, lost};
-use scc_bodies::{FunctionId, Walk, gone, refuse};
-use scc_plainlook::look;
-use scc_plaintree::Plain;
-use scc_statements::walk_body;
+use scc_plain_bodies::{FunctionId, Walk, gone, refuse};
+use scc_plain_look::look;
+use scc_plain_places::is_placed;
+use scc_plain_statements::walk_body;
+use scc_plain_tree::Plain;
 use scc_templates::{FunctionKey, Needed};
 use scc_tree::{FileTree, ItemNode};
-use scc_treeplaces::is_placed;
 use std::alloc::Global;
 
 /// The functions whose bodies were walked, in that order.

@@ -1,10 +1,10 @@
 //! The class that a program is made for.
 ghost use Rattle.std.specs.Prelude.{IfErr};
-ghost use Rattle.scc_drafts.specs.Refusals.{MayStop};
+ghost use Rattle.scc_plain_drafts.specs.Refusals.{MayStop};
 
 use scc_base::{Code, List, Name, Stop, lost};
-use scc_bodies::{Walk, refuse};
-use scc_statements::constructor_for;
+use scc_plain_bodies::{Walk, refuse};
+use scc_plain_statements::constructor_for;
 use scc_templates::{ClassId, class_at};
 use scc_tree::FileTree;
 

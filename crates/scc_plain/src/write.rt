@@ -1,12 +1,12 @@
 //! The program that is written once nothing is refused: bodies are walked again, now that each function has its number.
 ghost use Rattle.std.specs.Prelude.{IfErr};
-ghost use Rattle.scc_drafts.specs.Refusals.{MayStop};
+ghost use Rattle.scc_plain_drafts.specs.Refusals.{MayStop};
 
 use crate::stage::Order;
 use scc_base::{List, NoMemory, Place, Stop, lost};
-use scc_bodies::Walk;
-use scc_plaintree::{Plain, PlainClass, PlainMember};
-use scc_statements::{constructor, walk_body};
+use scc_plain_bodies::Walk;
+use scc_plain_statements::{constructor, walk_body};
+use scc_plain_tree::{Plain, PlainClass, PlainMember};
 use scc_templates::InstanceId;
 use scc_tree::FileTree;
 

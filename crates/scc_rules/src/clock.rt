@@ -5,7 +5,7 @@ ghost use Rattle.scc_rules.specs.Refusals.{Finds};
 
 use crate::facts::{Facts, Role, filled, is_combinational};
 use scc_base::{Code, NoMemory, Place, Refusal, lost};
-use scc_flow::Mark;
+use scc_core_flow::Mark;
 use std::alloc::Global;
 
 fn refusal(code: Code, place: Place) -> Option<Refusal>

@@ -5,7 +5,7 @@ ghost use Rattle.scc_rules.specs.Refusals.{Finds};
 
 use crate::facts::{Facts, Role, filled, is_combinational};
 use scc_base::{Code, List, NoMemory, Refusal, lost, push};
-use scc_flow::Mark;
+use scc_core_flow::Mark;
 use std::alloc::Global;
 use std::collections::BTreeSet;
 

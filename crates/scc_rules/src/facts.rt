@@ -1,7 +1,7 @@
 //! What is asked of a core's cells and processes.
 use scc_base::{List, NoMemory, lost, push};
 use scc_core::{CellSort, Core, CoreProcess, CoreStmt, Known, Sort2};
-use scc_flow::{LivePart, Mark, live_part, marked};
+use scc_core_flow::{LivePart, Mark, live_part, marked};
 use std::alloc::Global;
 
 /// A core with the live part and the marks of each process.

@@ -5,7 +5,7 @@ ghost use Rattle.scc_rules.specs.Refusals.{Finds};
 
 use crate::facts::{Facts, Role, filled};
 use scc_base::{Code, NoMemory, Place, Refusal, lost};
-use scc_flow::Mark;
+use scc_core_flow::Mark;
 use std::alloc::Global;
 
 /// Where a process first writes or names a cell: the process, counted from 1, and the statement.

@@ -1,10 +1,10 @@
 //! What construction leaves of a module that makes others in a loop, and clocks of which there may be several.
 use crate::trees::{Parsed, tree_of};
 use scc_base::{Names, Path, PathPart, Stop};
-use scc_design::{Design, Object, ObjectNode, Process, Sort};
 use scc_elab::{elaborate, elaborate_many};
+use scc_elab_design::{Design, Object, ObjectNode, Process, Sort};
 use scc_plain::plain;
-use scc_plaintree::Plain;
+use scc_plain_tree::Plain;
 use std::alloc::{AllocError, Global};
 use std::test::Fail;
 

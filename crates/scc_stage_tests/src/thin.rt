@@ -2,7 +2,7 @@
 use crate::trees::{Parsed, tree_of};
 use scc_base::{CalmFiles, CalmSink, Text};
 use scc_drive::run;
-use scc_stages::compile;
+use scc_drive_stages::compile;
 use std::alloc::{AllocError, Global};
 use std::test::Fail;
 

@@ -6,7 +6,7 @@ use scc_core::{
     CellSort, CoreExpr, CoreExprNode, CoreLeft, CoreNode, CorePart, CorePick, CoreStmt, Known,
     LEVELS, deeper, spine,
 };
-use scc_flow::{CellSet, Mark, marked};
+use scc_core_flow::{CellSet, Mark, marked};
 use std::alloc::Global;
 
 /// A process's own cells: its locals and the variables that it writes.

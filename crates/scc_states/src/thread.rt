@@ -12,7 +12,7 @@ use crate::segment::unfolded;
 use crate::types::Split;
 use scc_base::{Code, List, NoMemory, Place, Stop, lost};
 use scc_core::{Core, CoreNode, Known, Places};
-use scc_flow::live;
+use scc_core_flow::live;
 use std::alloc::Global;
 
 /// The most waits of a thread.

@@ -2,28 +2,28 @@
 use Rattle.std.proofs.Common.{◌≡◌, ◌≢◌, ◌⊎◌, inl, inr, ℕ, zero, suc, Bool, true, false, List, [], ◌∷◌, ◌++◌, Option, Some, None, refl, sym, ap, subst, ◌∙◌, arith}
 use Rattle.std.specs.Prelude.{slice_get, option_map, option_and_then, nat_eq, unwrap_or, if◌then◌else◌}
 use Rattle.std.proofs.lemmas.Bool.Decides.{eqb_tells}
-use Rattle.scc_kinds.specs.declared.kind.Kind.{Kind}
-use Rattle.scc_kinds.specs.declared.kind.Kind.TheVariants as kind
-use Rattle.scc_kinds.specs.Kinds.{width_of}
-use Rattle.scc_meaning.specs.Location.{Location, same}
-use Rattle.scc_meaning.specs.Store.{Request, changed}
-use Rattle.scc_meaning.specs.Value.{expr_kind, index_of, with_bit, followed}
-use Rattle.scc_running.specs.Value.{Held, locate, value, put_at, with_words, asked}
-use Rattle.scc_running.specs.Value as machine
-use Rattle.scc_meaning_core.specs.Term.{Term, Left, Pick, Whole, OneBit, Bits, kind_of}
-use Rattle.scc_meaning_core.specs.Program.{Program, Process, Sort, Input, Output, Variable, Local, Pointer, Port, is_root, is_pointer}
-use Rattle.scc_meaning_core.specs.Program as program
-use Rattle.scc_meaning_core.specs.Named.{Step, cell_at, path_steps}
-use Rattle.scc_meaning_core.specs.Static.{Cells}
-use Rattle.scc_meaning_core.specs.Uses.{root_of, root_of_sort}
-use Rattle.scc_meaning_core.specs.Source.{Home, cell_location, thing_of, pick_of, at_top}
-use Rattle.scc_meaning_core.specs.Code.{Code, End, Put, Aim, If, Block, Loop, Exit, Wait}
-use Rattle.scc_meaning_core.specs.Segments.{Segment, Plain, Test, Halt, Finish}
-use Rattle.scc_meaning_blocks.specs.Effect as effect
-use Rattle.scc_meaning_blocks.specs.Effect.{Effect, Ran, effect, run_segment, then_effect, shut, or_lost, branch, assigned, then_ran, choose}
+use Rattle.scc_bits_kinds.specs.declared.kind.Kind.{Kind}
+use Rattle.scc_bits_kinds.specs.declared.kind.Kind.TheVariants as kind
+use Rattle.scc_bits_kinds.specs.Kinds.{width_of}
+use Rattle.scc_semantics.specs.Location.{Location, same}
+use Rattle.scc_semantics.specs.Store.{Request, changed}
+use Rattle.scc_semantics.specs.Scene.{expr_kind, index_of, with_bit, followed}
+use Rattle.scc_semantics.specs.Value.{Held, locate, value, put_at, with_words, asked}
+use Rattle.scc_semantics.specs.Value as machine
+use Rattle.scc_core_spec.specs.Term.{Term, Left, Pick, Whole, OneBit, Bits, kind_of}
+use Rattle.scc_core_spec.specs.Program.{Program, Process, Sort, Input, Output, Variable, Local, Pointer, Port, is_root, is_pointer}
+use Rattle.scc_core_spec.specs.Program as program
+use Rattle.scc_core_spec.specs.Named.{Step, cell_at, path_steps}
+use Rattle.scc_core_spec.specs.Static.{Cells}
+use Rattle.scc_core_spec.specs.Uses.{root_of, root_of_sort}
+use Rattle.scc_core_spec.specs.Source.{Home, cell_location, thing_of, pick_of, at_top}
+use Rattle.scc_core_spec.specs.Code.{Code, End, Put, Aim, If, Block, Loop, Exit, Wait}
+use Rattle.scc_core_spec.specs.Segments.{Segment, Plain, Test, Halt, Finish}
+use Rattle.scc_blocks_spec.specs.Effect as effect
+use Rattle.scc_blocks_spec.specs.Effect.{Effect, Ran, effect, run_segment, then_effect, shut, or_lost, branch, assigned, then_ran, choose}
 use Rattle.scc_states_path_laws.specs.Moved as moved
 use Rattle.scc_states_laws.specs.Same.{SameDone, SameRan}
-use Rattle.scc_meaning_blocks.specs.Acting.{Acting, word_in, steps_in, cell_named, picked, put_in, with_word, with_asked}
+use Rattle.scc_blocks_spec.specs.Acting.{Acting, word_in, steps_in, cell_named, picked, put_in, with_word, with_asked}
 use Rattle.scc_states_path_laws.specs.Moved.{World, around, put_on, word_of, Done, Halted, then_done, shut_done, or_sticks, either_done, then_run, either_halted, effect_on, run_on}
 use Rattle.scc_states_laws.specs.Alike.{Names, TellsApart, Alike, is_number, IsFit, IsFitLeft, IsFitPick, IsFitCode, IsFitSegment, last_to, or_before}
 use Rattle.scc_states_laws.proofs.Values.{some_same, map_is, then_is, cell_of, w, E, F, kind_is, thing_at, nothing_at, root_is, port_names, located, valued}
@@ -130,7 +130,7 @@ module _ (home : Home) (constant : Location → Option ℕ) (p : Program) (i : �
     puts_at l s k v b names t e = by (cell_at false 0 s p.cells) refl e
       where
         number_case : (n : ℕ) (x : program.Cell) → slice_get p.cells n ≡ Some x → is_number x.sort ≡ true → is_root x.sort ≡ false → cell_location home p x ≡ l
-            → W.places.things l ≡ Some (Rattle.scc_meaning.specs.Design.Number x.kind) → put_in p.cells a (Some n) k v ≡ Some b
+            → W.places.things l ≡ Some (Rattle.scc_semantics.specs.Places.Number x.kind) → put_in p.cells a (Some n) k v ≡ Some b
             → (g : Held) × (put_at (W.places.things l) (around W h) h l (pick_of home p.cells i k) v ≡ Some g) × Alike home p signals b g
         number_case n x gx number noroot at thing d =
             let m = map_is (picked p.cells a (width_of x.kind) k (a.now n) v) (λ u. with_word n u a) b (sym (put_number p.cells a n x k v gx noroot) ∙ d) in
@@ -143,7 +143,7 @@ module _ (home : Home) (constant : Location → Option ℕ) (p : Program) (i : �
             )
 
         root_case : (n : ℕ) (x : program.Cell) → slice_get p.cells n ≡ Some x → is_root x.sort ≡ true → cell_location home p x ≡ l
-            → W.places.things l ≡ Some (Rattle.scc_meaning.specs.Design.Signal x.kind) → put_in p.cells a (Some n) k v ≡ Some b
+            → W.places.things l ≡ Some (Rattle.scc_semantics.specs.Places.Signal x.kind) → put_in p.cells a (Some n) k v ≡ Some b
             → (g : Held) × (put_at (W.places.things l) (around W h) h l (pick_of home p.cells i k) v ≡ Some g) × Alike home p signals b g
         root_case n x gx root at thing d =
             let m = map_is (picked p.cells a (width_of x.kind) k 0 v) (λ u. with_asked n v a) b (sym (put_root p.cells a n x k v gx root) ∙ d) in

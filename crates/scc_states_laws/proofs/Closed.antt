@@ -2,13 +2,13 @@
 use Rattle.std.proofs.Common.{◌≡◌, ℕ, suc, Bool, true, false, ◌||◌, List, [], ◌∷◌, ◌++◌, Option, Some, None, refl}
 use Rattle.std.specs.Prelude.{◌&&◌, nat_lt, not, slice_get, if◌then◌else◌}
 use Rattle.scc_base.specs.declared.refusal.Place.{Place}
-use Rattle.scc_meaning_core.specs.Term.{Term}
-use Rattle.scc_meaning_core.specs.Code.{Code, Count, End, Put, Aim, If, Block, Loop, Exit, Wait, append}
-use Rattle.scc_meaning_core.specs.Program.{Program, Process}
-use Rattle.scc_meaning_core.specs.Static.{Cells, goes}
-use Rattle.scc_meaning_core.specs.Live.{Alive, alive, live, then_alive, by_test, looped, shut}
-use Rattle.scc_meaning_core.specs.Segments.{opens}
-use Rattle.scc_meaning_core.specs.Rules.{waits, wait_in_method}
+use Rattle.scc_core_spec.specs.Term.{Term}
+use Rattle.scc_core_spec.specs.Code.{Code, Count, End, Put, Aim, If, Block, Loop, Exit, Wait, append}
+use Rattle.scc_core_spec.specs.Program.{Program, Process}
+use Rattle.scc_core_spec.specs.Static.{Cells, goes}
+use Rattle.scc_core_spec.specs.Live.{Alive, alive, live, then_alive, by_test, looped, shut}
+use Rattle.scc_core_spec.specs.Segments.{opens}
+use Rattle.scc_core_spec.specs.Rules.{waits, wait_in_method}
 use Rattle.scc_states_path_laws.specs.Exits.{exits_within}
 use Rattle.scc_states_path_laws.proofs.Codes.{or_parts}
 use Rattle.scc_states_path_laws.proofs.Exits.{and_both}

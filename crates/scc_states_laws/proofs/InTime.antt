@@ -1,17 +1,17 @@
 -- Each resume of a thread comes to a wait within its bound.
 use Rattle.std.proofs.Common.{◌≡◌, ℕ, Bool, true, false, Option, Some, None, refl}
 use Rattle.std.specs.Prelude.{slice_get, ◌&&◌}
-use Rattle.scc_meaning.specs.Location.{Location}
-use Rattle.scc_running.specs.Value.{Held}
-use Rattle.scc_running.specs.Machine.{Frames, Outcome, Suspended}
-use Rattle.scc_meaning_core.specs.Program.{Program, Process}
-use Rattle.scc_meaning_core.specs.First.{when}
-use Rattle.scc_meaning_core.specs.Live.{alive}
-use Rattle.scc_meaning_core.specs.Rules.{loop_may_not_wait, end_reached}
-use Rattle.scc_meaning_core.specs.Source.{Home, source_of}
-use Rattle.scc_meaning_blocks.specs.Acting.{Acting}
-use Rattle.scc_meaning_blocks.specs.Comes.{Keeps}
-use Rattle.scc_meaning_blocks.specs.Effect.{Place}
+use Rattle.scc_semantics.specs.Location.{Location}
+use Rattle.scc_semantics.specs.Value.{Held}
+use Rattle.scc_semantics.specs.Machine.{Frames, Outcome, Suspended}
+use Rattle.scc_core_spec.specs.Program.{Program, Process}
+use Rattle.scc_core_spec.specs.First.{when}
+use Rattle.scc_core_spec.specs.Live.{alive}
+use Rattle.scc_core_spec.specs.Rules.{loop_may_not_wait, end_reached}
+use Rattle.scc_core_spec.specs.Source.{Home, source_of}
+use Rattle.scc_blocks_spec.specs.Acting.{Acting}
+use Rattle.scc_blocks_spec.specs.Comes.{Keeps}
+use Rattle.scc_blocks_spec.specs.Effect.{Place}
 use Rattle.scc_states_laws.specs.Alike.{acting_of, IsFitCode, TellsApart}
 use Rattle.scc_states_path_laws.specs.Exits.{exits_within}
 use Rattle.scc_states_laws.specs.Processes.{Reached, running_of, world_of}

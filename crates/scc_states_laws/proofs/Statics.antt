@@ -1,22 +1,22 @@
 -- A static value is the machine's, where fixed locations hold their words.
 use Rattle.std.proofs.Common.{◌≡◌, ◌⊎◌, inl, inr, ℕ, suc, ◌+◌, Bool, true, false, List, [], ◌∷◌, ◌++◌, Option, Some, None, refl, sym, ap, subst, ◌∙◌, arith}
 use Rattle.std.specs.Prelude.{slice_get, option_map, option_and_then, find, if◌then◌else◌}
-use Rattle.scc_kinds.specs.declared.kind.Kind.{Kind}
-use Rattle.scc_kinds.specs.Kinds.{width_of, number_of, stored}
-use Rattle.scc_kinds.specs.Bits.{part, joined}
+use Rattle.scc_bits_kinds.specs.declared.kind.Kind.{Kind}
+use Rattle.scc_bits_kinds.specs.Kinds.{width_of, number_of, stored}
+use Rattle.scc_bits_kinds.specs.Bits.{part, joined}
 use Rattle.scc_bits.specs.Values.{applied}
-use Rattle.scc_meaning.specs.Location.{Location, Member, Element, within}
-use Rattle.scc_meaning.specs.Value.{expr_kind, loaded, followed, index_of, chosen, bit_at, with_two}
-use Rattle.scc_running.specs.Value.{Held, locate, value}
-use Rattle.scc_running.specs.Value as machine
-use Rattle.scc_meaning_core.specs.Code.{Code, End, Put, Aim, If, Block, Loop, Exit, Wait}
-use Rattle.scc_meaning_core.specs.Term.{Term, Literal, Load, Read, Convert, Unary, Binary, Choose, Bit, Range, Join, Left, Cell, Prefix, Null, Follow, Index, kind_of}
-use Rattle.scc_meaning_core.specs.Term as term
-use Rattle.scc_meaning_core.specs.Program.{Program, Process, Sort, Input, Output, Variable, Local, Pointer, Port}
-use Rattle.scc_meaning_core.specs.Program as program
-use Rattle.scc_meaning_core.specs.Named.{Step, Named, At, Ours, Open, steps_of, is_open, names_cell, cell_at}
-use Rattle.scc_meaning_core.specs.Static.{Cells, static, pattern, first_of, found, held, held_at, fixed_word, index_step, is_true}
-use Rattle.scc_meaning_core.specs.Source.{Home, location_of, cell_left, cell_there, thing_of, source_of}
+use Rattle.scc_semantics.specs.Location.{Location, Member, Element, within}
+use Rattle.scc_semantics.specs.Scene.{expr_kind, loaded, followed, index_of, chosen, bit_at, with_two}
+use Rattle.scc_semantics.specs.Value.{Held, locate, value}
+use Rattle.scc_semantics.specs.Value as machine
+use Rattle.scc_core_spec.specs.Code.{Code, End, Put, Aim, If, Block, Loop, Exit, Wait}
+use Rattle.scc_core_spec.specs.Term.{Term, Literal, Load, Read, Convert, Unary, Binary, Choose, Bit, Range, Join, Left, Cell, Prefix, Null, Follow, Index, kind_of}
+use Rattle.scc_core_spec.specs.Term as term
+use Rattle.scc_core_spec.specs.Program.{Program, Process, Sort, Input, Output, Variable, Local, Pointer, Port}
+use Rattle.scc_core_spec.specs.Program as program
+use Rattle.scc_core_spec.specs.Named.{Step, Named, At, Ours, Open, steps_of, is_open, names_cell, cell_at}
+use Rattle.scc_core_spec.specs.Static.{Cells, static, pattern, first_of, found, held, held_at, fixed_word, index_step, is_true}
+use Rattle.scc_core_spec.specs.Source.{Home, location_of, cell_left, cell_there, thing_of, source_of}
 use Rattle.scc_states_path_laws.specs.Moved.{World, around}
 use Rattle.scc_states_path_laws.specs.Within.{Tests, Chooses}
 use Rattle.scc_states_laws.specs.Processes.{HoldsFixed, world_of}

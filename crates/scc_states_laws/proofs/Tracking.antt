@@ -1,17 +1,17 @@
 -- A thread of a core is tracked by its place.
 use Rattle.std.proofs.Common.{◌≡◌, ℕ, false, [], Option, Some}
 use Rattle.std.specs.Prelude.{slice_get}
-use Rattle.scc_meaning.specs.Location.{Location}
-use Rattle.scc_running.specs.Body as machine
-use Rattle.scc_running.specs.Design as running
-use Rattle.scc_running.specs.Value.{Held}
-use Rattle.scc_running.specs.Machine.{Frames, Go, Suspended, after}
-use Rattle.scc_meaning_core.specs.Program.{Program}
-use Rattle.scc_meaning_core.specs.Code.{Code}
-use Rattle.scc_meaning_core.specs.Live.{live}
-use Rattle.scc_meaning_core.specs.Flow.{idle_loops}
-use Rattle.scc_meaning_core.specs.Source.{Home, source_of}
-use Rattle.scc_meaning_blocks.specs.Comes.{Keeps, goes_on, next_waits}
+use Rattle.scc_semantics.specs.Location.{Location}
+use Rattle.scc_semantics.specs.Body as machine
+use Rattle.scc_semantics.specs.Design as running
+use Rattle.scc_semantics.specs.Value.{Held}
+use Rattle.scc_semantics.specs.Machine.{Frames, Go, Suspended, after}
+use Rattle.scc_core_spec.specs.Program.{Program}
+use Rattle.scc_core_spec.specs.Code.{Code}
+use Rattle.scc_core_spec.specs.Live.{live}
+use Rattle.scc_core_spec.specs.Flow.{idle_loops}
+use Rattle.scc_core_spec.specs.Source.{Home, source_of}
+use Rattle.scc_blocks_spec.specs.Comes.{Keeps, goes_on, next_waits}
 use Rattle.scc_states_path_laws.specs.Within.{Along, Tests}
 use Rattle.scc_states_laws.specs.Processes.{Reached, comes, popped, HoldsFixed, world_of}
 use Rattle.scc_states_path_laws.specs.Tracks.{Tracks}

@@ -1,27 +1,27 @@
 -- A turn of the registers is a resume of the machine.
 use Rattle.std.proofs.Common.{◌≡◌, ℕ, zero, suc, ◌+◌, ◌≤◌, ◌<◌, true, false, ◌||◌, [], Option, Some, None, refl, sym, ap, subst, ◌∙◌, arith}
 use Rattle.std.specs.Prelude.{slice_get, not, nat_lt}
-use Rattle.scc_meaning.specs.Location.{Location}
-use Rattle.scc_running.specs.Value.{Held}
-use Rattle.scc_running.specs.Machine.{Frames, Stop, Inner, Outcome, Suspended, Ended, run}
-use Rattle.scc_meaning_core.specs.Program.{Program, Process}
-use Rattle.scc_meaning_core.specs.Code.{Code, End, Put, Aim, If, Block, Loop, Exit, Wait, waits_in, numbered}
-use Rattle.scc_meaning_core.specs.Live.{live}
-use Rattle.scc_meaning_core.specs.Flow.{idle_loops}
-use Rattle.scc_meaning_core.specs.Segments.{Segment, opens, all_segments}
-use Rattle.scc_meaning_core.specs.Sizes.{live_body, states}
-use Rattle.scc_meaning_core.specs.Source.{Home, source_of}
-use Rattle.scc_running.specs.Design as running
-use Rattle.scc_meaning_blocks.specs.Comes.{Keeps}
+use Rattle.scc_semantics.specs.Location.{Location}
+use Rattle.scc_semantics.specs.Value.{Held}
+use Rattle.scc_semantics.specs.Machine.{Frames, Stop, Inner, Outcome, Suspended, Ended, run}
+use Rattle.scc_core_spec.specs.Program.{Program, Process}
+use Rattle.scc_core_spec.specs.Code.{Code, End, Put, Aim, If, Block, Loop, Exit, Wait, waits_in, numbered}
+use Rattle.scc_core_spec.specs.Live.{live}
+use Rattle.scc_core_spec.specs.Flow.{idle_loops}
+use Rattle.scc_core_spec.specs.Segments.{Segment, opens, all_segments}
+use Rattle.scc_core_spec.specs.Sizes.{live_body, states}
+use Rattle.scc_core_spec.specs.Source.{Home, source_of}
+use Rattle.scc_semantics.specs.Design as running
+use Rattle.scc_blocks_spec.specs.Comes.{Keeps}
 use Rattle.scc_states_laws.specs.Processes.{Reached, running_of}
-use Rattle.scc_meaning_core.specs.Rules.{loop_may_not_wait}
+use Rattle.scc_core_spec.specs.Rules.{loop_may_not_wait}
 use Rattle.scc_states_laws.proofs.Standing.{quiet_loops, stands}
 use Rattle.scc_states_laws.proofs.Statics.{tests_hold}
 use Rattle.scc_states_laws.proofs.Tracking.{along, thread_is_tracked}
-use Rattle.scc_meaning_blocks.specs.Acting.{Acting}
-use Rattle.scc_meaning_blocks.specs.Effect as effect
-use Rattle.scc_meaning_blocks.specs.Effect.{Place, Effect, Ran, effect, run_segment}
-use Rattle.scc_meaning_blocks.specs.Turns.{Left, left_by, method_left, behind_wait, ran_segment, segment_at}
+use Rattle.scc_blocks_spec.specs.Acting.{Acting}
+use Rattle.scc_blocks_spec.specs.Effect as effect
+use Rattle.scc_blocks_spec.specs.Effect.{Place, Effect, Ran, effect, run_segment}
+use Rattle.scc_blocks_spec.specs.Turns.{Left, left_by, method_left, behind_wait, ran_segment, segment_at}
 use Rattle.scc_states_path_laws.specs.Moved as moved
 use Rattle.scc_states_path_laws.specs.Moved.{World, Done, Halted, effect_on, run_on, found_or_stop}
 use Rattle.scc_states_path_laws.specs.Within.{Within, Along, Tests}

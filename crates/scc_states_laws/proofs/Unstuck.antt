@@ -3,25 +3,25 @@ use Rattle.std.proofs.Common.{◌≡◌, ℕ, zero, suc, ◌+◌, ◌<◌, Bool,
 use Rattle.std.specs.Prelude.{slice_get, not, nat_lt}
 use Rattle.std.proofs.lemmas.Bool.{ltb-true, not-false}
 use Rattle.scc_base.specs.declared.refusal.Place.{Place}
-use Rattle.scc_meaning_core.specs.Term.{Term}
-use Rattle.scc_meaning_core.specs.Code.{Code, Count, End, Put, Aim, If, Block, Loop, Exit, Wait, append, waits_in, numbered}
-use Rattle.scc_meaning_core.specs.Program.{Process}
-use Rattle.scc_meaning_core.specs.Static.{Cells, goes}
-use Rattle.scc_meaning_core.specs.Live.{Alive, alive, live, then_alive, by_test, looped, shut}
-use Rattle.scc_meaning_core.specs.Segments.{Segment, Plain, Test, Halt, Finish, opens, opened, behind, segment, segments, all_segments}
-use Rattle.scc_meaning_core.specs.Flow.{idle_loops}
-use Rattle.scc_meaning_core.specs.Sizes.{live_body}
-use Rattle.scc_meaning_blocks.specs.Acting.{Acting, word_in}
-use Rattle.scc_meaning_blocks.specs.Effect.{Effect, Fell, Left_out, Lost, Ran, Waits, Ends, Fails, effect, run_segment, then_effect, or_lost, branch, assigned, then_ran, or_fails, choose}
-use Rattle.scc_meaning_blocks.specs.Effect as effect
+use Rattle.scc_core_spec.specs.Term.{Term}
+use Rattle.scc_core_spec.specs.Code.{Code, Count, End, Put, Aim, If, Block, Loop, Exit, Wait, append, waits_in, numbered}
+use Rattle.scc_core_spec.specs.Program.{Process}
+use Rattle.scc_core_spec.specs.Static.{Cells, goes}
+use Rattle.scc_core_spec.specs.Live.{Alive, alive, live, then_alive, by_test, looped, shut}
+use Rattle.scc_core_spec.specs.Segments.{Segment, Plain, Test, Halt, Finish, opens, opened, behind, segment, segments, all_segments}
+use Rattle.scc_core_spec.specs.Flow.{idle_loops}
+use Rattle.scc_core_spec.specs.Sizes.{live_body}
+use Rattle.scc_blocks_spec.specs.Acting.{Acting, word_in}
+use Rattle.scc_blocks_spec.specs.Effect.{Effect, Fell, Left_out, Lost, Ran, Waits, Ends, Fails, effect, run_segment, then_effect, or_lost, branch, assigned, then_ran, or_fails, choose}
+use Rattle.scc_blocks_spec.specs.Effect as effect
 use Rattle.scc_states_laws.specs.Alike.{IsFitCode, IsFitSegment}
 use Rattle.scc_states_path_laws.proofs.Codes.{MustWait, must_wait, must_wait-append, or_parts, opens-append, opens-numbered}
 use Rattle.scc_states_path_laws.proofs.Alive.{loop_waits}
 use Rattle.scc_states_path_laws.proofs.Appended.{cut-append, cuts-append}
 use Rattle.std.proofs.lemmas.Option.{slice_get-get_or}
-use Rattle.scc_meaning_core.specs.Sizes.{states}
-use Rattle.scc_meaning_blocks.specs.Effect.{Place as Spot}
-use Rattle.scc_meaning_blocks.specs.Turns.{left_by, thread_turn, method_left, behind_wait, ran_segment, segment_at}
+use Rattle.scc_core_spec.specs.Sizes.{states}
+use Rattle.scc_blocks_spec.specs.Effect.{Place as Spot}
+use Rattle.scc_blocks_spec.specs.Turns.{left_by, thread_turn, method_left, behind_wait, ran_segment, segment_at}
 use Rattle.scc_states_laws.specs.Turned.{IsPlace}
 use Rattle.scc_states_laws.proofs.Fits.{fit_all, fit_at, fit_alive}
 use Rattle.scc_states_laws.proofs.Progress.{There, some_there, word_there, assigned_there}

@@ -1,23 +1,23 @@
 -- Locations and words by cells are those of the machine.
 use Rattle.std.proofs.Common.{◌≡◌, ℕ, suc, ◌+◌, Bool, true, false, List, [], ◌∷◌, ◌++◌, Option, Some, None, refl, sym, ap, subst, ◌∙◌, arith}
 use Rattle.std.specs.Prelude.{slice_get, option_map, option_and_then, unwrap_or, if◌then◌else◌, not, ◌&&◌}
-use Rattle.scc_kinds.specs.Kinds.{width_of, number_of, stored}
-use Rattle.scc_kinds.specs.Bits.{part, joined}
+use Rattle.scc_bits_kinds.specs.Kinds.{width_of, number_of, stored}
+use Rattle.scc_bits_kinds.specs.Bits.{part, joined}
 use Rattle.scc_bits.specs.Values.{applied, kind_of as operator_kind}
-use Rattle.scc_meaning.specs.Location.{Location, Part, Member, Element, within}
-use Rattle.scc_meaning.specs.Body as body
-use Rattle.scc_meaning.specs.Value.{expr_kind, kind_or, loaded, sensed, followed, index_of, chosen, bit_at, with_two}
-use Rattle.scc_running.specs.Value.{Held, locate, value}
-use Rattle.scc_running.specs.Value as machine
-use Rattle.scc_meaning_core.specs.Term.{Term, Literal, Load, Read, Convert, Unary, Binary, Choose, Bit, Range, Join, Left, Cell, Prefix, Null, Follow, Index, CellName, kind_of}
-use Rattle.scc_meaning_core.specs.Term as term
-use Rattle.scc_meaning_core.specs.Program.{Program, Process, Sort, Input, Output, Variable, Local, Pointer, Port, is_root, is_pointer}
-use Rattle.scc_meaning_core.specs.Program as program
-use Rattle.scc_meaning_core.specs.Named.{Step, Named, At, steps_of, path_steps, cell_at, names_cell, fits}
-use Rattle.scc_meaning_core.specs.Static.{Cells, grown}
-use Rattle.scc_meaning_core.specs.Uses.{root_of, root_of_sort}
-use Rattle.scc_meaning_core.specs.Source.{Home, location_of, cell_location, cell_left, thing_of, expr_of, left_of, at_top}
-use Rattle.scc_meaning_blocks.specs.Acting.{Acting, word_in, steps_in, cell_named, word_or_zero}
+use Rattle.scc_semantics.specs.Location.{Location, Part, Member, Element, within}
+use Rattle.scc_semantics.specs.Expressions as body
+use Rattle.scc_semantics.specs.Scene.{expr_kind, kind_or, loaded, sensed, followed, index_of, chosen, bit_at, with_two}
+use Rattle.scc_semantics.specs.Value.{Held, locate, value}
+use Rattle.scc_semantics.specs.Value as machine
+use Rattle.scc_core_spec.specs.Term.{Term, Literal, Load, Read, Convert, Unary, Binary, Choose, Bit, Range, Join, Left, Cell, Prefix, Null, Follow, Index, CellName, kind_of}
+use Rattle.scc_core_spec.specs.Term as term
+use Rattle.scc_core_spec.specs.Program.{Program, Process, Sort, Input, Output, Variable, Local, Pointer, Port, is_root, is_pointer}
+use Rattle.scc_core_spec.specs.Program as program
+use Rattle.scc_core_spec.specs.Named.{Step, Named, At, steps_of, path_steps, cell_at, names_cell, fits}
+use Rattle.scc_core_spec.specs.Static.{Cells, grown}
+use Rattle.scc_core_spec.specs.Uses.{root_of, root_of_sort}
+use Rattle.scc_core_spec.specs.Source.{Home, location_of, cell_location, cell_left, thing_of, expr_of, left_of, at_top}
+use Rattle.scc_blocks_spec.specs.Acting.{Acting, word_in, steps_in, cell_named, word_or_zero}
 use Rattle.scc_states_path_laws.specs.Moved.{World, around}
 use Rattle.scc_states_laws.specs.Processes.{world_of}
 use Rattle.scc_states_laws.specs.Alike.{Names, base, member, element, TellsApart, Alike, is_number, is_read, IsFit, IsFitLeft, IsCellName}

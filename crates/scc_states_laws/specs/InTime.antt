@@ -1,15 +1,15 @@
 -- Every resume comes to its next wait or to its end within a bound that the body tells, and is never stuck; and so does the whole design, whatever
 -- its steps. This project's own.
 use Rattle.std.specs.Prelude.{◌≡◌, ℕ, ◌*◌, Some, List, option_map, unwrap_or, slice_get}
-use Rattle.scc_running.specs.Design.{Design}
-use Rattle.scc_running.specs.Process.{State, Well}
-use Rattle.scc_running.specs.Run.{Step, Shown, shown, FitSteps}
-use Rattle.scc_running.specs.Start.{IsStart}
-use Rattle.scc_meaning_core.specs.Program.{Program, Process}
-use Rattle.scc_meaning_core.specs.Source.{Home, source_of}
-use Rattle.scc_meaning_core.specs.Constants.{constants_of}
-use Rattle.scc_meaning_blocks.specs.Turns.{Regs, Left, turn}
-use Rattle.scc_meaning_blocks.specs.Tied.{Tied}
+use Rattle.scc_semantics.specs.Design.{Design}
+use Rattle.scc_semantics.specs.Process.{State, Well}
+use Rattle.scc_semantics.specs.Run.{Step, Shown, shown, FitSteps}
+use Rattle.scc_semantics.specs.Start.{IsStart}
+use Rattle.scc_core_spec.specs.Program.{Program, Process}
+use Rattle.scc_core_spec.specs.Source.{Home, source_of}
+use Rattle.scc_core_spec.specs.Constants.{constants_of}
+use Rattle.scc_blocks_spec.specs.Turns.{Regs, Left, turn}
+use Rattle.scc_blocks_spec.specs.Tied.{Tied}
 use Rattle.scc_states_path_laws.specs.Tracks.{steps_of}
 
 -- the steps that each process of a core is allowed

@@ -1,15 +1,15 @@
 -- A process of a core in one resume, what it comes to, and what holds there. This project's own.
 use Rattle.std.specs.Prelude.{◌≡◌, ℕ, [], Option, Some}
-use Rattle.scc_meaning.specs.Location.{Location}
-use Rattle.scc_meaning.specs.Value.{Names}
-use Rattle.scc_running.specs.Body as machine
-use Rattle.scc_running.specs.Design as running
-use Rattle.scc_running.specs.Value.{Held}
-use Rattle.scc_running.specs.Machine.{Frames, Go, Mark}
-use Rattle.scc_meaning_core.specs.Program.{Program, Process}
-use Rattle.scc_meaning_core.specs.Source.{Home, source_of, at_top, sort_of, body_of}
-use Rattle.scc_meaning_blocks.specs.Comes.{Comes}
-use Rattle.scc_meaning_blocks.specs.Tied.{own_names}
+use Rattle.scc_semantics.specs.Location.{Location}
+use Rattle.scc_semantics.specs.Scene.{Names}
+use Rattle.scc_semantics.specs.Body as machine
+use Rattle.scc_semantics.specs.Design as running
+use Rattle.scc_semantics.specs.Value.{Held}
+use Rattle.scc_semantics.specs.Machine.{Frames, Go, Mark}
+use Rattle.scc_core_spec.specs.Program.{Program, Process}
+use Rattle.scc_core_spec.specs.Source.{Home, source_of, at_top, sort_of, body_of}
+use Rattle.scc_blocks_spec.specs.Comes.{Comes}
+use Rattle.scc_blocks_spec.specs.Tied.{own_names}
 use Rattle.scc_states_path_laws.specs.Moved.{World}
 
 -- what a process comes to, also behind ends of lists, which take no step

@@ -1,10 +1,10 @@
 -- What code and segments do to registers is what they do to what the process holds. This project's own.
 use Rattle.std.specs.Prelude.{◌≡◌, ℕ}
-use Rattle.scc_meaning.specs.Location.{Location}
-use Rattle.scc_meaning_core.specs.Program.{Program}
-use Rattle.scc_meaning_core.specs.Source.{Home}
-use Rattle.scc_meaning_blocks.specs.Effect as effect
-use Rattle.scc_meaning_blocks.specs.Effect.{Effect, Ran}
+use Rattle.scc_semantics.specs.Location.{Location}
+use Rattle.scc_core_spec.specs.Program.{Program}
+use Rattle.scc_core_spec.specs.Source.{Home}
+use Rattle.scc_blocks_spec.specs.Effect as effect
+use Rattle.scc_blocks_spec.specs.Effect.{Effect, Ran}
 use Rattle.scc_states_path_laws.specs.Moved as moved
 use Rattle.scc_states_path_laws.specs.Moved.{Done, Halted}
 use Rattle.scc_states_laws.specs.Alike.{Alike}

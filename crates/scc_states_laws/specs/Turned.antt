@@ -1,17 +1,17 @@
 -- A turn of the registers is a resume of the machine. This project's own.
 use Rattle.std.specs.Prelude.{◌≡◌, ℕ, ◌≤◌, ◌<◌, Bool, Option, Some, None}
-use Rattle.scc_meaning.specs.Location.{Location}
-use Rattle.scc_running.specs.Value.{Held}
-use Rattle.scc_running.specs.Machine.{Frames, Outcome, Suspended, Ended, run}
-use Rattle.scc_meaning_core.specs.Program.{Program, Process}
-use Rattle.scc_meaning_core.specs.Code.{size}
-use Rattle.scc_meaning_core.specs.Static.{Cells}
-use Rattle.scc_meaning_core.specs.Sizes.{states}
-use Rattle.scc_meaning_core.specs.Live.{live}
-use Rattle.scc_meaning_core.specs.Source.{Home}
-use Rattle.scc_meaning_blocks.specs.Acting.{Acting}
-use Rattle.scc_meaning_blocks.specs.Effect.{Place, effect}
-use Rattle.scc_meaning_blocks.specs.Turns.{Left, thread_turn, method_left}
+use Rattle.scc_semantics.specs.Location.{Location}
+use Rattle.scc_semantics.specs.Value.{Held}
+use Rattle.scc_semantics.specs.Machine.{Frames, Outcome, Suspended, Ended, run}
+use Rattle.scc_core_spec.specs.Program.{Program, Process}
+use Rattle.scc_core_spec.specs.Code.{size}
+use Rattle.scc_core_spec.specs.Static.{Cells}
+use Rattle.scc_core_spec.specs.Sizes.{states}
+use Rattle.scc_core_spec.specs.Live.{live}
+use Rattle.scc_core_spec.specs.Source.{Home}
+use Rattle.scc_blocks_spec.specs.Acting.{Acting}
+use Rattle.scc_blocks_spec.specs.Effect.{Place, effect}
+use Rattle.scc_blocks_spec.specs.Turns.{Left, thread_turn, method_left}
 use Rattle.scc_states_path_laws.specs.Moved.{World}
 use Rattle.scc_states_laws.specs.Processes.{world_of}
 use Rattle.scc_states_path_laws.specs.Tracks.{steps_of, frames_of, first_of, resumed, MayEnd}

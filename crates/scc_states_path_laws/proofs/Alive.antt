@@ -1,12 +1,12 @@
 -- Paths without a wait through the live part are among its paths; where it has no wait, they are all.
 use Rattle.std.proofs.Common.{◌≡◌, ◌⊎◌, inl, inr, ℕ, suc, Bool, true, false, ◌||◌, Option, Some, None, refl, sym, subst}
 use Rattle.scc_base.specs.declared.refusal.Place.{Place}
-use Rattle.scc_meaning_core.specs.Term.{Term}
-use Rattle.scc_meaning_core.specs.Code.{Code, Count, End, Put, Aim, If, Block, Loop, Exit, Wait}
-use Rattle.scc_meaning_core.specs.Static.{Cells, goes}
-use Rattle.scc_meaning_core.specs.Live.{Alive, alive, live, then_alive, by_test, looped, shut}
-use Rattle.scc_meaning_core.specs.Segments.{opens}
-use Rattle.scc_meaning_core.specs.Flow.{Idle, idle, then_idle}
+use Rattle.scc_core_spec.specs.Term.{Term}
+use Rattle.scc_core_spec.specs.Code.{Code, Count, End, Put, Aim, If, Block, Loop, Exit, Wait}
+use Rattle.scc_core_spec.specs.Static.{Cells, goes}
+use Rattle.scc_core_spec.specs.Live.{Alive, alive, live, then_alive, by_test, looped, shut}
+use Rattle.scc_core_spec.specs.Segments.{opens}
+use Rattle.scc_core_spec.specs.Flow.{Idle, idle, then_idle}
 use Rattle.scc_states_path_laws.proofs.Codes.{idle-append, or_parts, or_left, or_right, opens-append}
 
 pub or_true : (a b : Bool) → (a || b) ≡ true → (a ≡ true) ⊎ (b ≡ true)

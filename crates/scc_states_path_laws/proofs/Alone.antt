@@ -3,12 +3,12 @@ use Rattle.std.proofs.Common.{◌≡◌, ◌⊎◌, inl, inr, ℕ, zero, suc, �
 use Rattle.std.specs.Prelude.{not, nat_lt, nat_eq}
 use Rattle.std.proofs.lemmas.Bool.{not-false}
 use Rattle.scc_base.specs.declared.refusal.Place.{Place}
-use Rattle.scc_meaning_core.specs.Term.{Term}
-use Rattle.scc_meaning_core.specs.Code.{Code, Count, End, Put, Aim, If, Block, Loop, Exit, Wait, waits_in, numbered}
-use Rattle.scc_meaning_core.specs.Static.{Cells, goes}
-use Rattle.scc_meaning_core.specs.Live.{Alive, alive, live, then_alive, by_test, looped, shut}
-use Rattle.scc_meaning_core.specs.Segments.{Segment, Plain, Test, Finish, opens, opened, behind, segment}
-use Rattle.scc_meaning_core.specs.Flow.{idle}
+use Rattle.scc_core_spec.specs.Term.{Term}
+use Rattle.scc_core_spec.specs.Code.{Code, Count, End, Put, Aim, If, Block, Loop, Exit, Wait, waits_in, numbered}
+use Rattle.scc_core_spec.specs.Static.{Cells, goes}
+use Rattle.scc_core_spec.specs.Live.{Alive, alive, live, then_alive, by_test, looped, shut}
+use Rattle.scc_core_spec.specs.Segments.{Segment, Plain, Test, Finish, opens, opened, behind, segment}
+use Rattle.scc_core_spec.specs.Flow.{idle}
 use Rattle.scc_states_path_laws.proofs.Codes.{MustWait, must_wait-append, or_parts, or_left, or_right, opens-append, opens-numbered, idle-append}
 use Rattle.scc_states_path_laws.proofs.Alive.{or_true, then_leaves, ends_then, leaves_first, leaves_then, all, loop_waits}
 use Rattle.scc_states_path_laws.proofs.Appended.{cut-append, ap₂}

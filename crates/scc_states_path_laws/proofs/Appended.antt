@@ -1,8 +1,8 @@
 -- Numbered lists of statements one behind another: their segments, and what they do.
 use Rattle.std.proofs.Common.{◌≡◌, ℕ, zero, suc, ◌+◌, List, ◌∷◌, ◌++◌, Option, Some, None, refl, sym, ap, ◌∙◌, arith, append_assoc}
-use Rattle.scc_running.specs.Value.{Held}
-use Rattle.scc_meaning_core.specs.Code.{Code, End, Put, Aim, If, Block, Loop, Exit, Wait, append, waits_in, numbered}
-use Rattle.scc_meaning_core.specs.Segments.{Segment, Plain, Test, Finish, opens, opened, segment, segments}
+use Rattle.scc_semantics.specs.Value.{Held}
+use Rattle.scc_core_spec.specs.Code.{Code, End, Put, Aim, If, Block, Loop, Exit, Wait, append, waits_in, numbered}
+use Rattle.scc_core_spec.specs.Segments.{Segment, Plain, Test, Finish, opens, opened, segment, segments}
 use Rattle.scc_states_path_laws.specs.Moved.{World, Done, Fell, Out, Sticks, then_done, shut_done, or_sticks, either_done, effect_on, put_on, aim_on, word_of}
 
 pub ap₂ : {A B C : Type 0} (f : A → B → C) {a a' : A} {b b' : B} → a ≡ a' → b ≡ b' → f a b ≡ f a' b'

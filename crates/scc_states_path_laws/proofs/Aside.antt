@@ -1,16 +1,16 @@
 -- A run doesn't look at what was asked before.
 use Rattle.std.proofs.Common.{◌≡◌, ℕ, zero, suc, Bool, true, false, List, [], ◌∷◌, Option, Some, None, refl, ap, ◌∙◌, append_assoc}
 use Rattle.std.specs.Prelude.{option_map}
-use Rattle.scc_kinds.specs.declared.kind.Kind.TheVariants as kind
-use Rattle.scc_meaning.specs.Location.{Location}
-use Rattle.scc_meaning.specs.Design.{Thing, Number, Signal, Port, Places}
-use Rattle.scc_meaning.specs.Body as body
-use Rattle.scc_meaning.specs.Body.{Pick, Expr, Argument}
-use Rattle.scc_meaning.specs.Store.{Request, changed}
-use Rattle.scc_meaning.specs.Value.{Names, Scene, followed}
-use Rattle.scc_running.specs.Body.{Body, End, Assign, Point, Clear, If, Block, Loop, Exit, Call, Begin, Pass, Return, Wait}
-use Rattle.scc_running.specs.Value.{Held, locate, value, target_of, put_at, picked, asked, with_words, object_of, called}
-use Rattle.scc_running.specs.Machine.{Frames, Stop, Go, Inner, BehindCall, Next, Outcome, unless_stuck, pointed_at, zeroed, cleared, act, idle, run, scene, caller, return, pick, leave}
+use Rattle.scc_bits_kinds.specs.declared.kind.Kind.TheVariants as kind
+use Rattle.scc_semantics.specs.Location.{Location}
+use Rattle.scc_semantics.specs.Places.{Thing, Number, Signal, Port, Places}
+use Rattle.scc_semantics.specs.Expressions as body
+use Rattle.scc_semantics.specs.Expressions.{Pick, Expr, Argument}
+use Rattle.scc_semantics.specs.Store.{Request, changed}
+use Rattle.scc_semantics.specs.Scene.{Names, Scene, followed}
+use Rattle.scc_semantics.specs.Body.{Body, End, Assign, Point, Clear, If, Block, Loop, Exit, Call, Begin, Pass, Return, Wait}
+use Rattle.scc_semantics.specs.Value.{Held, locate, value, target_of, put_at, picked, asked, with_words, object_of, called}
+use Rattle.scc_semantics.specs.Machine.{Frames, Stop, Go, Inner, BehindCall, Next, Outcome, unless_stuck, pointed_at, zeroed, cleared, act, idle, run, scene, caller, return, pick, leave}
 use Rattle.scc_states_path_laws.specs.Aside.{behind, aside}
 
 module _ (rs : List Request) where

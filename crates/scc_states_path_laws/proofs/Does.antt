@@ -1,18 +1,18 @@
 -- The machine does what code without waits does.
 use Rattle.std.proofs.Common.{◌≡◌, ℕ, zero, suc, ◌+◌, ◌≤◌, Bool, true, false, ◌||◌, Option, Some, None, refl, sym, ap, subst, ◌∙◌, arith}
 use Rattle.scc_base.specs.declared.refusal.Place.{Place}
-use Rattle.scc_running.specs.Body.{Body}
-use Rattle.scc_running.specs.Body as machine
-use Rattle.scc_running.specs.Value.{Held}
-use Rattle.scc_running.specs.Machine.{Frames, Go, Mark, Inner, BehindBlock, Next, Outcome, Stuck, unless_stuck, pick, leave}
-use Rattle.scc_meaning_core.specs.Term.{Term, Left}
-use Rattle.scc_meaning_core.specs.Code.{Code, Count, Pointed, Declared, Assigned, End, Put, Aim, If, Block, Loop, Exit, Wait, append, size, waits_in, numbered}
-use Rattle.scc_meaning_core.specs.Static.{goes, is_true}
-use Rattle.scc_meaning_core.specs.Live.{Alive, alive, live, then_alive, by_test, looped, shut}
-use Rattle.scc_meaning_core.specs.Segments.{opens}
-use Rattle.scc_meaning_core.specs.Flow.{idle}
-use Rattle.scc_meaning_core.specs.Source.{body_of, expr_of, left_of, aimed}
-use Rattle.scc_meaning_blocks.specs.Comes.{next_waits}
+use Rattle.scc_semantics.specs.Body.{Body}
+use Rattle.scc_semantics.specs.Body as machine
+use Rattle.scc_semantics.specs.Value.{Held}
+use Rattle.scc_semantics.specs.Machine.{Frames, Go, Mark, Inner, BehindBlock, Next, Outcome, Stuck, unless_stuck, pick, leave}
+use Rattle.scc_core_spec.specs.Term.{Term, Left}
+use Rattle.scc_core_spec.specs.Code.{Code, Count, Pointed, Declared, Assigned, End, Put, Aim, If, Block, Loop, Exit, Wait, append, size, waits_in, numbered}
+use Rattle.scc_core_spec.specs.Static.{goes, is_true}
+use Rattle.scc_core_spec.specs.Live.{Alive, alive, live, then_alive, by_test, looped, shut}
+use Rattle.scc_core_spec.specs.Segments.{opens}
+use Rattle.scc_core_spec.specs.Flow.{idle}
+use Rattle.scc_core_spec.specs.Source.{body_of, expr_of, left_of, aimed}
+use Rattle.scc_blocks_spec.specs.Comes.{next_waits}
 use Rattle.scc_states_path_laws.specs.Moved.{World, Done, Fell, Out, Sticks, then_done, shut_done, or_sticks, either_done, effect_on, put_on, aim_on, word_of}
 use Rattle.scc_states_path_laws.specs.Within.{Within, Along, Tests, Chooses}
 use Rattle.scc_states_path_laws.proofs.Codes.{MustWait, must_wait-append, or_parts, opens-append, opens-numbered, idle-numbered}

@@ -4,10 +4,10 @@ use Rattle.std.specs.Prelude.{◌&&◌, nat_lt, nat_eq}
 use Rattle.std.proofs.lemmas.Bool.{ltb-true}
 use Rattle.std.proofs.lemmas.Bool.Decides.{eqb_tells}
 use Rattle.scc_base.specs.declared.refusal.Place.{Place}
-use Rattle.scc_meaning_core.specs.Term.{Term}
-use Rattle.scc_meaning_core.specs.Code.{Code, Count, End, Put, Aim, If, Block, Loop, Exit, Wait}
-use Rattle.scc_meaning_core.specs.Static.{Cells, goes}
-use Rattle.scc_meaning_core.specs.Live.{Alive, alive, then_alive, by_test, looped, shut}
+use Rattle.scc_core_spec.specs.Term.{Term}
+use Rattle.scc_core_spec.specs.Code.{Code, Count, End, Put, Aim, If, Block, Loop, Exit, Wait}
+use Rattle.scc_core_spec.specs.Static.{Cells, goes}
+use Rattle.scc_core_spec.specs.Live.{Alive, alive, then_alive, by_test, looped, shut}
 use Rattle.scc_states_path_laws.specs.Exits.{exits_within}
 use Rattle.scc_states_path_laws.specs.Tracks.{MayEnd}
 use Rattle.scc_states_path_laws.proofs.Alive.{or_true}

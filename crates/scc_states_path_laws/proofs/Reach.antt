@@ -3,17 +3,17 @@ use Rattle.std.proofs.Common.{◌≡◌, ℕ, zero, suc, ◌+◌, ◌-◌, ◌�
 use Rattle.std.specs.Prelude.{option_map}
 use Rattle.std.proofs.lemmas.Option.{slice_get_within}
 use Rattle.scc_base.specs.declared.refusal.Place.{Place}
-use Rattle.scc_running.specs.Body.{Body}
-use Rattle.scc_running.specs.Value.{Held}
-use Rattle.scc_running.specs.Machine.{Frames, Go, Mark, Inner, BehindBlock, Next, Suspended, unless_stuck, pick, leave, one_less, waiting, run}
-use Rattle.scc_meaning_core.specs.Term.{Term}
-use Rattle.scc_meaning_core.specs.Code.{Code, Count, End, Put, Aim, If, Block, Loop, Exit, Wait, size, waits_in, numbered}
-use Rattle.scc_meaning_core.specs.Static.{goes, is_true}
-use Rattle.scc_meaning_core.specs.Live.{Alive, alive, then_alive, by_test, looped, shut}
-use Rattle.scc_meaning_core.specs.Segments.{Segment, Plain, Test, Finish, opens, opened, behind, segment}
-use Rattle.scc_meaning_core.specs.Flow.{Idle, idle}
-use Rattle.scc_meaning_blocks.specs.Places.{live_ways, if_ends}
-use Rattle.scc_meaning_blocks.specs.Comes.{next_waits}
+use Rattle.scc_semantics.specs.Body.{Body}
+use Rattle.scc_semantics.specs.Value.{Held}
+use Rattle.scc_semantics.specs.Machine.{Frames, Go, Mark, Inner, BehindBlock, Next, Suspended, unless_stuck, pick, leave, one_less, waiting, run}
+use Rattle.scc_core_spec.specs.Term.{Term}
+use Rattle.scc_core_spec.specs.Code.{Code, Count, End, Put, Aim, If, Block, Loop, Exit, Wait, size, waits_in, numbered}
+use Rattle.scc_core_spec.specs.Static.{goes, is_true}
+use Rattle.scc_core_spec.specs.Live.{Alive, alive, then_alive, by_test, looped, shut}
+use Rattle.scc_core_spec.specs.Segments.{Segment, Plain, Test, Finish, opens, opened, behind, segment}
+use Rattle.scc_core_spec.specs.Flow.{Idle, idle}
+use Rattle.scc_blocks_spec.specs.Places.{live_ways, if_ends}
+use Rattle.scc_blocks_spec.specs.Comes.{next_waits}
 use Rattle.scc_states_path_laws.specs.Moved.{World, Done, Fell, Out, Sticks, then_done, shut_done, or_sticks, either_done, Halted, Waits, Ends, Fails, then_run, or_fails, either_halted, effect_on, run_on, put_on, aim_on, word_of, found_or_stop, frames_in, outcome_in}
 use Rattle.scc_states_path_laws.specs.Within.{Within, Along, Tests, Chooses}
 use Rattle.scc_states_path_laws.proofs.Codes.{MustWait, must_wait-append, or_parts, or_left, or_right, opens-numbered, idle-numbered, idle-append}

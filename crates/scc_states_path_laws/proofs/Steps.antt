@@ -1,16 +1,16 @@
 -- Single steps of the machine.
 use Rattle.std.proofs.Common.{◌≡◌, ℕ, zero, suc, ◌+◌, ◌≤◌, false, Option, Some, None, refl, ◌∙◌, arith}
 use Rattle.std.specs.Prelude.{option_map, option_and_then}
-use Rattle.scc_meaning.specs.Body as body
-use Rattle.scc_meaning.specs.Value.{followed}
-use Rattle.scc_running.specs.Body.{Body}
-use Rattle.scc_running.specs.Body as machine
-use Rattle.scc_running.specs.Value.{Held, locate, target_of, put_at}
-use Rattle.scc_running.specs.Machine.{Frames, Go, Mark, Inner, Next, Outcome, Stuck, unless_stuck, pointed_at, act, run, after}
-use Rattle.scc_meaning_core.specs.Term.{Term, Left, Pick}
-use Rattle.scc_meaning_core.specs.Code.{Pointed, Declared, Assigned}
-use Rattle.scc_meaning_core.specs.Source.{expr_of, left_of, pick_of, aimed}
-use Rattle.scc_meaning_blocks.specs.Comes.{next_waits}
+use Rattle.scc_semantics.specs.Expressions as body
+use Rattle.scc_semantics.specs.Scene.{followed}
+use Rattle.scc_semantics.specs.Body.{Body}
+use Rattle.scc_semantics.specs.Body as machine
+use Rattle.scc_semantics.specs.Value.{Held, locate, target_of, put_at}
+use Rattle.scc_semantics.specs.Machine.{Frames, Go, Mark, Inner, Next, Outcome, Stuck, unless_stuck, pointed_at, act, run, after}
+use Rattle.scc_core_spec.specs.Term.{Term, Left, Pick}
+use Rattle.scc_core_spec.specs.Code.{Pointed, Declared, Assigned}
+use Rattle.scc_core_spec.specs.Source.{expr_of, left_of, pick_of, aimed}
+use Rattle.scc_blocks_spec.specs.Comes.{next_waits}
 use Rattle.scc_states_path_laws.specs.Moved.{World, put_on, aim_on, word_of, around, pointer_left}
 use Rattle.scc_states_path_laws.specs.Within.{Within, Along}
 

@@ -4,16 +4,16 @@ use Rattle.std.specs.Prelude.{slice_get}
 use Rattle.std.proofs.Math.Seq.{get_or-append_seam}
 use Rattle.std.proofs.lemmas.Option.{slice_get-get_or}
 use Rattle.scc_base.specs.declared.refusal.Place.{Place}
-use Rattle.scc_running.specs.Machine.{Frames, Go, Inner, BehindBlock}
-use Rattle.scc_meaning_core.specs.Term.{Term}
-use Rattle.scc_meaning_core.specs.Code.{Code, Count, End, Put, Aim, If, Block, Loop, Exit, Wait, waits_in, holds_wait}
-use Rattle.scc_meaning_core.specs.Static.{Cells, goes}
-use Rattle.scc_meaning_core.specs.Live.{Alive, alive, live, then_alive, by_test, looped, shut}
-use Rattle.scc_meaning_blocks.specs.Places.{behind_waits, live_ways, if_ends, ends_of, rest_of}
+use Rattle.scc_semantics.specs.Machine.{Frames, Go, Inner, BehindBlock}
+use Rattle.scc_core_spec.specs.Term.{Term}
+use Rattle.scc_core_spec.specs.Code.{Code, Count, End, Put, Aim, If, Block, Loop, Exit, Wait, waits_in, holds_wait}
+use Rattle.scc_core_spec.specs.Static.{Cells, goes}
+use Rattle.scc_core_spec.specs.Live.{Alive, alive, live, then_alive, by_test, looped, shut}
+use Rattle.scc_blocks_spec.specs.Places.{behind_waits, live_ways, if_ends, ends_of, rest_of}
 use Rattle.scc_states_path_laws.specs.Moved.{World}
 use Rattle.scc_states_path_laws.proofs.Codes.{waits_in-append, or_parts}
-use Rattle.scc_running.specs.Body as machine
-use Rattle.scc_meaning_core.specs.Source.{body_of}
+use Rattle.scc_semantics.specs.Body as machine
+use Rattle.scc_core_spec.specs.Source.{body_of}
 
 abbrev pub Point : Type 0
 Point = ℕ × Frames

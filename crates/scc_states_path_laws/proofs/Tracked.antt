@@ -2,15 +2,15 @@
 use Rattle.std.proofs.Common.{◌≡◌, inl, inr, ℕ, zero, suc, ◌+◌, ◌*◌, ◌≤◌, ◌<◌, Bool, true, false, List, [], length, Option, Some, None, refl, sym, ap, subst, ◌∙◌, arith, get_or}
 use Rattle.std.specs.Prelude.{slice_get, option_map}
 use Rattle.std.proofs.lemmas.Option.{slice_get-get_or, slice_get_within}
-use Rattle.scc_running.specs.Value.{Held}
-use Rattle.scc_running.specs.Machine.{Frames, Stop, Go, Inner, BehindBlock, BehindCall, Suspended, Ended, waiting, run}
-use Rattle.scc_meaning_core.specs.Code.{Code, End, Put, Aim, If, Block, Loop, Exit, Wait, size}
-use Rattle.scc_meaning_core.specs.Static.{Cells}
-use Rattle.scc_meaning_core.specs.Live.{live}
-use Rattle.scc_meaning_core.specs.Segments.{Segment, Finish, segment, segments}
-use Rattle.scc_meaning_core.specs.Flow.{idle_loops}
-use Rattle.scc_meaning_core.specs.Sizes.{loops_deep, states}
-use Rattle.scc_meaning_blocks.specs.Effect.{Place}
+use Rattle.scc_semantics.specs.Value.{Held}
+use Rattle.scc_semantics.specs.Machine.{Frames, Stop, Go, Inner, BehindBlock, BehindCall, Suspended, Ended, waiting, run}
+use Rattle.scc_core_spec.specs.Code.{Code, End, Put, Aim, If, Block, Loop, Exit, Wait, size}
+use Rattle.scc_core_spec.specs.Static.{Cells}
+use Rattle.scc_core_spec.specs.Live.{live}
+use Rattle.scc_core_spec.specs.Segments.{Segment, Finish, segment, segments}
+use Rattle.scc_core_spec.specs.Flow.{idle_loops}
+use Rattle.scc_core_spec.specs.Sizes.{loops_deep, states}
+use Rattle.scc_blocks_spec.specs.Effect.{Place}
 use Rattle.scc_states_path_laws.specs.Moved.{World, Halted, Waits, Ends, Fails, run_on, found_or_stop, frames_in, outcome_in}
 use Rattle.scc_states_path_laws.specs.Within.{Along, Tests}
 use Rattle.scc_states_path_laws.specs.Tracks.{Tracks, MayEnd, steps_of, frames_of, first_of, resumed, segment_numbered, segment_or, goes_on, moved, outcome_of, Stands}

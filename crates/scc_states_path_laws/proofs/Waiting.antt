@@ -2,14 +2,14 @@
 use Rattle.std.proofs.Common.{◌≡◌, ℕ, zero, suc, ◌+◌, ◌*◌, ◌≤◌, max, Bool, true, false, List, [], ◌∷◌, ◌++◌, length, Option, Some, None, refl, sym, subst, arith}
 use Rattle.std.specs.Prelude.{slice_get, if◌then◌else◌}
 use Rattle.scc_base.specs.declared.refusal.Place.{Place}
-use Rattle.scc_running.specs.Machine.{Frames, Stop, Go, Mark, Inner, BehindBlock, leave}
-use Rattle.scc_meaning_core.specs.Term.{Term}
-use Rattle.scc_meaning_core.specs.Code.{Code, Count, End, Put, Aim, If, Block, Loop, Exit, Wait, size, waits_in, numbered, holds_wait}
-use Rattle.scc_meaning_core.specs.Static.{goes}
-use Rattle.scc_meaning_core.specs.Live.{Alive, alive, then_alive, by_test, looped, shut}
-use Rattle.scc_meaning_core.specs.Segments.{Segment, behind, segment, segments}
-use Rattle.scc_meaning_core.specs.Sizes.{loops_deep}
-use Rattle.scc_meaning_blocks.specs.Places.{live_ways, if_ends}
+use Rattle.scc_semantics.specs.Machine.{Frames, Stop, Go, Mark, Inner, BehindBlock, leave}
+use Rattle.scc_core_spec.specs.Term.{Term}
+use Rattle.scc_core_spec.specs.Code.{Code, Count, End, Put, Aim, If, Block, Loop, Exit, Wait, size, waits_in, numbered, holds_wait}
+use Rattle.scc_core_spec.specs.Static.{goes}
+use Rattle.scc_core_spec.specs.Live.{Alive, alive, then_alive, by_test, looped, shut}
+use Rattle.scc_core_spec.specs.Segments.{Segment, behind, segment, segments}
+use Rattle.scc_core_spec.specs.Sizes.{loops_deep}
+use Rattle.scc_blocks_spec.specs.Places.{live_ways, if_ends}
 use Rattle.scc_states_path_laws.specs.Moved.{World}
 use Rattle.scc_states_path_laws.specs.Within.{Along, Tests}
 use Rattle.scc_states_path_laws.proofs.Codes.{MustWait, must_wait-append, or_left, or_right}

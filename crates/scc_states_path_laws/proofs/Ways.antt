@@ -2,10 +2,10 @@
 use Rattle.std.proofs.Common.{◌≡◌, ℕ, zero, suc, ◌<◌, true, false, ◌||◌, Option, Some, None, refl, arith}
 use Rattle.std.specs.Prelude.{not, nat_lt, nat_eq}
 use Rattle.std.proofs.lemmas.Bool.{ltb-true, not-false}
-use Rattle.scc_running.specs.Value.{Held}
-use Rattle.scc_meaning_core.specs.Code.{Code, End, Put, Aim, If, Block, Loop, Exit, Wait}
-use Rattle.scc_meaning_core.specs.Segments.{opens}
-use Rattle.scc_meaning_core.specs.Flow.{Idle, idle, then_idle}
+use Rattle.scc_semantics.specs.Value.{Held}
+use Rattle.scc_core_spec.specs.Code.{Code, End, Put, Aim, If, Block, Loop, Exit, Wait}
+use Rattle.scc_core_spec.specs.Segments.{opens}
+use Rattle.scc_core_spec.specs.Flow.{Idle, idle, then_idle}
 use Rattle.scc_states_path_laws.specs.Moved.{World, Done, Fell, Out, Sticks, then_done, shut_done, or_sticks, either_done, effect_on, put_on, aim_on, word_of}
 use Rattle.scc_states_path_laws.proofs.Codes.{or_parts, or_left, or_right}
 use Rattle.scc_states_path_laws.proofs.Alive.{ends_then, leaves_first, leaves_then}

@@ -1,16 +1,16 @@
 -- A suspended thread is the number of a wait and a count: a resume, with or without reset, comes to what a segment comes to, within a number of steps.
 -- This project's own.
 use Rattle.std.specs.Prelude.{◌≡◌, ◌⊎◌, ℕ, zero, suc, ◌+◌, ◌*◌, ◌≤◌, ◌<◌, Bool, true, false, Option, Some, None, slice_get}
-use Rattle.scc_running.specs.Value.{Held}
-use Rattle.scc_running.specs.Machine.{Frames, Stop, Go, Inner, Outcome, Suspended, Ended, Stuck, run}
-use Rattle.scc_meaning_core.specs.Code.{Code, size}
-use Rattle.scc_meaning_core.specs.Static.{Cells}
-use Rattle.scc_meaning_core.specs.Live.{alive}
-use Rattle.scc_meaning_core.specs.Segments.{Segment, Finish, all_segments}
-use Rattle.scc_meaning_core.specs.Sizes.{loops_deep, live_body, states}
-use Rattle.scc_meaning_core.specs.Source.{body_of}
-use Rattle.scc_meaning_blocks.specs.Effect.{Place}
-use Rattle.scc_meaning_blocks.specs.Places.{frames_at}
+use Rattle.scc_semantics.specs.Value.{Held}
+use Rattle.scc_semantics.specs.Machine.{Frames, Stop, Go, Inner, Outcome, Suspended, Ended, Stuck, run}
+use Rattle.scc_core_spec.specs.Code.{Code, size}
+use Rattle.scc_core_spec.specs.Static.{Cells}
+use Rattle.scc_core_spec.specs.Live.{alive}
+use Rattle.scc_core_spec.specs.Segments.{Segment, Finish, all_segments}
+use Rattle.scc_core_spec.specs.Sizes.{loops_deep, live_body, states}
+use Rattle.scc_core_spec.specs.Source.{body_of}
+use Rattle.scc_blocks_spec.specs.Effect.{Place}
+use Rattle.scc_blocks_spec.specs.Places.{frames_at}
 use Rattle.scc_states_path_laws.specs.Moved.{World, Halted, Waits, Ends, Fails, run_on, found_or_stop}
 
 -- so many steps take a process whose body has this code to its next wait or to its end

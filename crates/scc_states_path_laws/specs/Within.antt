@@ -1,12 +1,12 @@
 -- What the machine comes to within a number of steps, along states that hold what is known of a process. This project's own.
 use Rattle.std.specs.Prelude.{◌≡◌, ℕ, ◌≤◌, Bool, false, Some}
-use Rattle.scc_running.specs.Body as machine
-use Rattle.scc_running.specs.Value.{Held}
-use Rattle.scc_running.specs.Machine.{Frames, Go, Mark, Outcome, Suspended, run, after}
-use Rattle.scc_meaning_core.specs.Term.{Term}
-use Rattle.scc_meaning_core.specs.Code.{Code, End, Put, Aim, If, Block, Loop, Exit, Wait}
-use Rattle.scc_meaning_core.specs.Static.{goes, is_true}
-use Rattle.scc_meaning_blocks.specs.Comes.{next_waits}
+use Rattle.scc_semantics.specs.Body as machine
+use Rattle.scc_semantics.specs.Value.{Held}
+use Rattle.scc_semantics.specs.Machine.{Frames, Go, Mark, Outcome, Suspended, run, after}
+use Rattle.scc_core_spec.specs.Term.{Term}
+use Rattle.scc_core_spec.specs.Code.{Code, End, Put, Aim, If, Block, Loop, Exit, Wait}
+use Rattle.scc_core_spec.specs.Static.{goes, is_true}
+use Rattle.scc_blocks_spec.specs.Comes.{next_waits}
 use Rattle.scc_states_path_laws.specs.Moved.{World, word_of}
 
 -- with any bound from b on the run comes to this outcome

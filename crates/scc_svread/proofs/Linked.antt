@@ -8,29 +8,29 @@ use Rattle.scc_svtree.specs.Code.{Code}
 use Rattle.scc_svtree.specs.Settled.{combs_of, Order}
 use Rattle.scc_svtree.specs.Sound.{IsSound}
 use Rattle.scc_svtext.specs.Emitted.{SvReads}
-use Rattle.scc_svgrammar.specs.declared.halt.Halt.{Halt}
-use Rattle.scc_svgrammar.specs.declared.halt.Halt.TheVariants as halt
-use Rattle.scc_svgrammar.specs.declared.raw.RawModule.{RawModule}
-use Rattle.scc_svgrammar.specs.Lexical.{Bytes}
-use Rattle.scc_svgrammar.specs.Grammar.{Reads}
-use Rattle.scc_svgrammar.specs.Levels.{deep}
-use Rattle.scc_svgrammar.specs.Claim.{Judged}
-use Rattle.scc_svgrammar.proofs.Whole as raw_whole
-use Rattle.scc_svcheck.specs.declared.wrong.Wrong.{Wrong}
-use Rattle.scc_svcheck.specs.Walking.{start}
-use Rattle.scc_svcheck.specs.First.{module_walk, first_in, wrong_of}
-use Rattle.scc_svcheck.specs.Drivers.{names_of, misplaced}
-use Rattle.scc_svorder.specs.Cycles.{one, more, Reaches, FirstCycle}
-use Rattle.scc_svwritten.specs.Written.{raw_of}
-use Rattle.scc_svwritten.specs.Resolved.{module_of}
+use Rattle.scc_svread_grammar.specs.declared.halt.Halt.{Halt}
+use Rattle.scc_svread_grammar.specs.declared.halt.Halt.TheVariants as halt
+use Rattle.scc_svread_grammar.specs.declared.raw.RawModule.{RawModule}
+use Rattle.scc_svread_grammar.specs.Lexical.{Bytes}
+use Rattle.scc_svread_grammar.specs.Grammar.{Reads}
+use Rattle.scc_svread_grammar.specs.Levels.{deep}
+use Rattle.scc_svread_grammar.specs.Claim.{Judged}
+use Rattle.scc_svread_grammar.proofs.Whole as raw_whole
+use Rattle.scc_svread_check.specs.declared.wrong.Wrong.{Wrong}
+use Rattle.scc_svread_check.specs.Walking.{start}
+use Rattle.scc_svread_check.specs.First.{module_walk, first_in, wrong_of}
+use Rattle.scc_svread_check.specs.Drivers.{names_of, misplaced}
+use Rattle.scc_svtree_order.specs.Cycles.{one, more, Reaches, FirstCycle}
+use Rattle.scc_svread_written.specs.Written.{raw_of}
+use Rattle.scc_svread_written.specs.Resolved.{module_of}
 use Rattle.scc_svread.specs.Read.{stop_at, IsRight, IsFaulty, ReadAs, Answered, ReadBack}
-use Rattle.scc_svwritten.proofs.Clear.{IsClear}
-use Rattle.scc_svwritten.proofs.Formed.{formed_of, driven_of, sound_of}
-use Rattle.scc_svsizes.proofs.Noted.{no_size, levels_right}
-use Rattle.scc_svwritten.proofs.Modules.{reads_formed, back_module}
-use Rattle.scc_svsizes.proofs.RightModule.{module_quiet}
-use Rattle.scc_svsizes.proofs.MeantModule.{module_meant}
-use Rattle.scc_svdrivers.proofs.DrivenModule.{driven_asks}
+use Rattle.scc_svread_written.proofs.Clear.{IsClear}
+use Rattle.scc_svread_written.proofs.Formed.{formed_of, driven_of, sound_of}
+use Rattle.scc_svread_sizes.proofs.Noted.{no_size, levels_right}
+use Rattle.scc_svread_written.proofs.Modules.{reads_formed, back_module}
+use Rattle.scc_svread_sizes.proofs.RightModule.{module_quiet}
+use Rattle.scc_svread_sizes.proofs.MeantModule.{module_meant}
+use Rattle.scc_svread_drivers.proofs.DrivenModule.{driven_asks}
 
 -- ---- nothing is wrong
 

@@ -1,3 +1,3 @@
-pub use Rattle.scc_svwritten.specs.Written
-pub use Rattle.scc_svwritten.specs.Resolved
+pub use Rattle.scc_svread_written.specs.Written
+pub use Rattle.scc_svread_written.specs.Resolved
 pub mod Read

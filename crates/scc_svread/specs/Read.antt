@@ -8,19 +8,19 @@ use Rattle.scc_svtree.specs.declared.module.SvModule.{SvModule}
 use Rattle.scc_svtree.specs.Code.{Code}
 use Rattle.scc_svtree.specs.Settled.{combs_of, Order}
 use Rattle.scc_svtext.specs.Emitted.{SvReads}
-use Rattle.scc_svgrammar.specs.declared.halt.Halt.{Halt}
-use Rattle.scc_svgrammar.specs.declared.halt.Halt.TheVariants as halt
-use Rattle.scc_svgrammar.specs.declared.raw.RawModule.{RawModule}
-use Rattle.scc_svgrammar.specs.Lexical.{Bytes}
-use Rattle.scc_svgrammar.specs.Grammar.{Reads}
-use Rattle.scc_svgrammar.specs.Levels.{deep}
-use Rattle.scc_svgrammar.specs.Claim.{IsRead, FaultAt}
-use Rattle.scc_svcheck.specs.declared.wrong.Wrong.{Wrong}
-use Rattle.scc_svcheck.specs.declared.wrong.Wrong.TheVariants.{Size, Name, Driver}
-use Rattle.scc_svwritten.specs.Written.{raw_of}
-use Rattle.scc_svwritten.specs.Resolved.{module_of}
-use Rattle.scc_svcheck.specs.First.{wrong_of, starts_of}
-use Rattle.scc_svorder.specs.Cycles.{FirstCycle}
+use Rattle.scc_svread_grammar.specs.declared.halt.Halt.{Halt}
+use Rattle.scc_svread_grammar.specs.declared.halt.Halt.TheVariants as halt
+use Rattle.scc_svread_grammar.specs.declared.raw.RawModule.{RawModule}
+use Rattle.scc_svread_grammar.specs.Lexical.{Bytes}
+use Rattle.scc_svread_grammar.specs.Grammar.{Reads}
+use Rattle.scc_svread_grammar.specs.Levels.{deep}
+use Rattle.scc_svread_grammar.specs.Claim.{IsRead, FaultAt}
+use Rattle.scc_svread_check.specs.declared.wrong.Wrong.{Wrong}
+use Rattle.scc_svread_check.specs.declared.wrong.Wrong.TheVariants.{Size, Name, Driver}
+use Rattle.scc_svread_written.specs.Written.{raw_of}
+use Rattle.scc_svread_written.specs.Resolved.{module_of}
+use Rattle.scc_svread_check.specs.First.{wrong_of, starts_of}
+use Rattle.scc_svtree_order.specs.Cycles.{FirstCycle}
 
 -- a refusal at a byte of the one text
 abbrev pub refusal : Reason → ℕ → Stop

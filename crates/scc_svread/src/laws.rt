@@ -5,13 +5,13 @@ ghost use Rattle.scc_svtree.specs.Settled.{combs_of, Order};
 ghost use Rattle.scc_svtree.specs.Sound.{IsSound};
 ghost use Rattle.scc_svtext.specs.ModuleText.{module_text};
 ghost use Rattle.scc_svtext.specs.Emitted.{SvReads};
-ghost use Rattle.scc_svgrammar.specs.declared.raw.RawModule.{RawModule};
-ghost use Rattle.scc_svgrammar.specs.Grammar.{Reads};
-ghost use Rattle.scc_svcheck.specs.Walking.{start};
-ghost use Rattle.scc_svcheck.specs.Drivers.{names_of};
-ghost use Rattle.scc_svcheck.specs.First.{module_walk, wrong_of};
-ghost use Rattle.scc_svwritten.specs.Written.{raw_of};
-ghost use Rattle.scc_svwritten.specs.Resolved.{module_of};
+ghost use Rattle.scc_svread_grammar.specs.declared.raw.RawModule.{RawModule};
+ghost use Rattle.scc_svread_grammar.specs.Grammar.{Reads};
+ghost use Rattle.scc_svread_check.specs.Walking.{start};
+ghost use Rattle.scc_svread_check.specs.Drivers.{names_of};
+ghost use Rattle.scc_svread_check.specs.First.{module_walk, wrong_of};
+ghost use Rattle.scc_svread_written.specs.Written.{raw_of};
+ghost use Rattle.scc_svread_written.specs.Resolved.{module_of};
 
 /// The grammar reads the text of a module without faults as that module is written.
 pub fn a_module_is_read_as_it_is_written()

@@ -1,12 +1,12 @@
 //! Modules as trees without names.
 ghost use Rattle.std.specs.Prelude.{◌≡◌, ◌++◌, ◌∷◌, [], map, option_map, IfOk, OnOk};
-ghost use Rattle.scc_svcheck.specs.Mentioned.{with_name};
-ghost use Rattle.scc_svwritten.specs.Resolved as resolved;
+ghost use Rattle.scc_svread_check.specs.Mentioned.{with_name};
+ghost use Rattle.scc_svread_written.specs.Resolved as resolved;
 
 use crate::names::VarNames;
 use crate::tree::{expr, small_number, stmts, word};
 use scc_base::{List, NoMemory, Text};
-use scc_svgrammar::{RawBlock, RawItem, RawLoad, RawModule, RawReset, RawSet, RawVar};
+use scc_svread_grammar::{RawBlock, RawItem, RawLoad, RawModule, RawReset, RawSet, RawVar};
 use scc_svtree::{SvBlock, SvLoad, SvModule, SvReset, SvSet, SvVar};
 use std::alloc::Global;
 
@@ -193,7 +193,7 @@ fn all_declared(alloc: Global, m: &RawModule) -> Result<Declared, NoMemory>
 /// The module that is written so; its sizes, names and drivers may be wrong. A name that is not declared stands for the first
 /// variable, one that is declared twice for some variable, and numbers that no right module has for the greatest of their type. The
 /// only error is want of memory.
-#[tactic(auto, using(scc_svcheck::proofs::Mapped::map_append))]
+#[tactic(auto, using(scc_svread_check::proofs::Mapped::map_append))]
 pub fn module_of(alloc: Global, m: &RawModule) -> Result<SvModule, NoMemory>
     ensures module { IfOk result (λ x. x ≡ resolved.module_of m.now) }
 {

@@ -1,10 +1,10 @@
 //! The variables of a module by their names.
 ghost use Rattle.std.specs.Prelude.{◌≡◌, [], OnOk};
-ghost use Rattle.scc_svcheck.specs.Mentioned.{with_name};
-ghost use Rattle.scc_svwritten.specs.Resolved.{number_of};
+ghost use Rattle.scc_svread_check.specs.Mentioned.{with_name};
+ghost use Rattle.scc_svread_written.specs.Resolved.{number_of};
 
 use scc_base::NoMemory;
-use scc_svcheck::TextSet;
+use scc_svread_check::TextSet;
 use scc_svtree::VarId;
 use std::alloc::Global;
 use std::marker::Model;

@@ -1,18 +1,18 @@
 //! Reads an emitted text.
 ghost use Rattle.std.specs.Prelude.{◌≡◌, ◌-◌, false, true, length, slice_index, IfOk, IfErr};
 ghost use Rattle.scc_base.specs.declared.code.Code.TheVariants.{SvLoop};
-ghost use Rattle.scc_svcheck.specs.First.{starts_of};
+ghost use Rattle.scc_svread_check.specs.First.{starts_of};
 ghost use Rattle.scc_svread.specs.Read as reading;
 ghost use Rattle.scc_svread.specs.Read.{IsFaulty, IsRight, Ordered, ReadAs, ReadBack, RefusedAs};
 ghost use Rattle.scc_svtree.specs.Settled.{combs_of};
 
 use crate::module::module_of;
 use scc_base::{Code, NoMemory, Place, Refusal, Stop};
-use scc_svcheck::{Wrong, first_wrong, starts};
-use scc_svgrammar::{Halt, RawModule};
-use scc_svorder::first_of;
-use scc_svraw::read_raw;
+use scc_svread_check::{Wrong, first_wrong, starts};
+use scc_svread_grammar::{Halt, RawModule};
+use scc_svread_raw::read_raw;
 use scc_svtree::{SvBlock, SvModule};
+use scc_svtree_order::first_of;
 use std::alloc::Global;
 
 // A refusal at a byte; those past 2^32 - 1 are not told from each other.

@@ -1,13 +1,13 @@
 //! Expressions and statements as trees without names.
 ghost use Rattle.std.specs.Prelude.{◌≡◌, map, IfOk};
-ghost use Rattle.scc_svcheck.specs.Numbers as numbers;
-ghost use Rattle.scc_svwritten.specs.Resolved as resolved;
+ghost use Rattle.scc_svread_check.specs.Numbers as numbers;
+ghost use Rattle.scc_svread_written.specs.Resolved as resolved;
 
 use crate::names::VarNames;
 use scc_base::{Boxed, List, NoMemory};
 use scc_bits::Word;
-use scc_svcheck::{decimal, hexadecimal};
-use scc_svgrammar::{RawArm, RawExpr, RawLeft, RawLiteral, RawSelect, RawStmt};
+use scc_svread_check::{decimal, hexadecimal};
+use scc_svread_grammar::{RawArm, RawExpr, RawLeft, RawLiteral, RawSelect, RawStmt};
 use scc_svtree::{SvArm, SvExpr, SvExprNode, SvLeft, SvLiteral, SvStmt, VarId};
 use std::alloc::Global;
 

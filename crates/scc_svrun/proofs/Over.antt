@@ -14,7 +14,7 @@ use Rattle.scc_svtree.specs.declared.expr.VarId.{VarId}
 use Rattle.scc_svtree.proofs.Agree.{eq_flip, same_of_eq}
 use Rattle.std.proofs.lemmas.Bool.{ne_eqb}
 use Rattle.scc_svrun.specs.Edged.{over, reset_by, edge_by, handed, AreHanded}
-use Rattle.scc_kinds.specs.declared.kind.Word.{Word}
+use Rattle.scc_bits_kinds.specs.declared.kind.Word.{Word}
 use Rattle.scc_svrun.specs.Runnable.{AreLoadable, AreSettable, AreRunnableBlocks}
 
 flipped : (u v : ℕ) → nat_eq u v ≡ false → nat_eq v u ≡ false

@@ -1,7 +1,7 @@
 -- What holds of the parts of a runner.
 use Rattle.std.proofs.Common.{◌≡◌, ◌<◌, ◌≤◌, ◌+◌, ℕ, zero, suc, nat_eq, Bool, true, false, not, ◌&&◌, cond, List, [], ◌∷◌, ◌++◌, ◌^◌, length, map, refl, sym, ap, ◌∙◌, subst, arith}
 use Rattle.std.specs.Prelude.{slice_index, slice_get, Option, Some, None}
-use Rattle.scc_kinds.specs.declared.kind.Word.{Word}
+use Rattle.scc_bits_kinds.specs.declared.kind.Word.{Word}
 use Rattle.scc_svtree.specs.declared.expr.VarId.{VarId}
 use Rattle.scc_svtree.specs.declared.module.SvModule.{SvModule}
 use Rattle.scc_svtree.specs.declared.module.SvVar.{SvVar}

@@ -15,7 +15,7 @@ use Rattle.scc_svtree.specs.Variables.{width_at, IsWidth}
 use Rattle.scc_svtree.specs.Settled.{combs_of, block_at}
 use Rattle.scc_svtree.specs.Sound.{Each, IsSound, IsSizedCode, AreSizedArms, AreSizedSets, AreSizedLoads, IsSizedBlock, is_among, targets, load_targets, loads_of, block_names, sets_read}
 use Rattle.scc_svtree.proofs.Agree.{eq_same, or_first, or_second}
-use Rattle.scc_svorder.specs.Schedule.{Placed, IsSchedule}
+use Rattle.scc_svtree_order.specs.Schedule.{Placed, IsSchedule}
 use Rattle.scc_svrun.specs.Runnable.{IsRunnable, AreRunnable, AreSettable, AreLoadable, IsRunnableBlock, AreRunnableBlocks}
 
 third : (a b c d : Bool) → c ≡ true → (a || b || c || d) ≡ true

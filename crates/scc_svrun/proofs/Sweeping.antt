@@ -8,8 +8,8 @@ use Rattle.scc_svtree.specs.Settled.{block_at, IsSettledFor, AreCombinational, S
 use Rattle.scc_svtree.proofs.Agree.{same_of_eq}
 use Rattle.scc_svtree.proofs.Kept.{run_keeps, fresh_result}
 use Rattle.scc_svtree.proofs.Settling.{settles_once}
-use Rattle.scc_svorder.specs.Cycles.{Feeds}
-use Rattle.scc_svorder.specs.Schedule.{Placed, IsSchedule}
+use Rattle.scc_svtree_order.specs.Cycles.{Feeds}
+use Rattle.scc_svtree_order.specs.Schedule.{Placed, IsSchedule}
 use Rattle.scc_svrun.specs.Swept.{swept}
 
 -- a block that assigns a variable

@@ -3,7 +3,7 @@ use Rattle.scc_svtree.specs.Variables.{IsWidth}
 use Rattle.scc_svtree.specs.declared.expr.VarId.{VarId}
 use Rattle.std.specs.Prelude.{ℕ, ◌<◌, ◌^◌, nat_eq, Bool, cond, ◌||◌, List, [], ◌∷◌, Option, Some, None}
 use Rattle.std.specs.List.{list_any}
-use Rattle.scc_kinds.specs.declared.kind.Word.{Word}
+use Rattle.scc_bits_kinds.specs.declared.kind.Word.{Word}
 use Rattle.scc_svtree.specs.declared.module.SvBlock.{SvBlock}
 use Rattle.scc_svtree.specs.declared.module.SvBlock.TheVariants.{Comb, Edge}
 use Rattle.scc_svtree.specs.Steps.{or_old, reset_word, edge_word}

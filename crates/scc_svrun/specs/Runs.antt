@@ -1,6 +1,6 @@
 -- A module that runs.
 use Rattle.std.specs.Prelude.{◌≡◌, ℕ, ◌<◌, ◌+◌, Bool, cond, not, ◌&&◌, true, List, [], ◌∷◌, length, map, slice_index}
-use Rattle.scc_kinds.specs.declared.kind.Word.{Word}
+use Rattle.scc_bits_kinds.specs.declared.kind.Word.{Word}
 use Rattle.scc_svtree.specs.declared.expr.VarId.{VarId}
 use Rattle.scc_svtree.specs.declared.module.SvModule.{SvModule}
 use Rattle.scc_svtree.specs.declared.module.SvVar.{SvVar}
@@ -10,7 +10,7 @@ use Rattle.scc_svtree.specs.Code.{Code}
 use Rattle.scc_svtree.specs.Settled.{combs_of}
 use Rattle.scc_svtree.specs.Sound.{IsSound}
 use Rattle.scc_svtree.specs.Steps.{is_input, is_clock, or_old}
-use Rattle.scc_svorder.specs.Schedule.{IsSchedule}
+use Rattle.scc_svtree_order.specs.Schedule.{IsSchedule}
 use Rattle.scc_svrun.specs.Edged.{handed}
 use Rattle.scc_svrun.specs.Valued.{IsValuation}
 

@@ -1,6 +1,6 @@
 //! The inputs of a module but its clocks, and words that are handed in for them.
 ghost use Rattle.std.specs.Prelude.{◌≡◌, ℕ, ◌<◌, ◌^◌, ◌||◌, nat_eq, true, length, IfOk};
-ghost use Rattle.scc_svorder.specs.Search.{is_seen};
+ghost use Rattle.scc_svtree_order.specs.Search.{is_seen};
 ghost use Rattle.scc_svtree.specs.Steps as steps;
 ghost use Rattle.scc_svtree.specs.Variables.{IsWidth, width_at, word_at};
 ghost use Rattle.scc_svrun.specs.Edged.{AreHanded, handed, over};

@@ -1,8 +1,8 @@
 -- Casts and signs by themselves.
 use Rattle.std.proofs.Common.{◌≡◌, ◌<◌, ◌^◌, ℕ, Bool, false, sym, ap, ◌∙◌, subst}
 use Rattle.std.specs.Prelude.{pos}
-use Rattle.scc_kinds.specs.Numbers.{low, reading}
-use Rattle.scc_kinds.proofs.Low.{low_word, low_reading}
+use Rattle.scc_bits_kinds.specs.Numbers.{low, reading}
+use Rattle.scc_bits_kinds.proofs.Low.{low_word, low_reading}
 use Rattle.scc_svtree.specs.declared.expr.SvExpr.{SvExpr, fold-roll-SvExpr}
 use Rattle.scc_svtree.specs.declared.expr.SvExprNode.{SvExprNode, roll-SvExprNode, fold-roll-SvExprNode}
 use Rattle.scc_svtree.specs.declared.expr.SvExprNode.TheVariants.{Cast, rolls-Cast, Sign, rolls-Sign}

@@ -3,7 +3,7 @@ use Rattle.std.proofs.Common.{◌≡◌, ◌<◌, ◌≤◌, ◌+◌, ◌*◌, �
 use Rattle.std.proofs.lemmas.Nat.{pow-add, pow_pos}
 use Rattle.std.proofs.Math.Nat.{mul-le-mul_right, le-mul_of_pos_right}
 use Rattle.std.proofs.Math.Pow.{pow_mono}
-use Rattle.scc_kinds.proofs.Low.{low_less}
+use Rattle.scc_bits_kinds.proofs.Low.{low_less}
 use Rattle.scc_svtree.specs.declared.class.Class.TheVariants.{Context, Shift, Comparison, Logical}
 use Rattle.scc_svtree.specs.declared.expr.SvLeft.TheVariants.{Whole, Bit, Range}
 use Rattle.scc_svtree.specs.declared.expr.SvUnary.TheVariants as unary

@@ -2,11 +2,11 @@
 use Rattle.std.proofs.Common.{◌≡◌, ◌<◌, ◌≤◌, ◌^◌, ℕ, Bool, true, false, refl, sym, ap, ◌∙◌, arith, subst, zero, suc}
 use Rattle.std.proofs.lemmas.Nat.{pow_pos}
 use Rattle.std.specs.Prelude.{pos, ℤ}
-use Rattle.scc_kinds.specs.declared.op.Op.{Op}
-use Rattle.scc_kinds.specs.declared.op.Op.TheVariants as op
-use Rattle.scc_kinds.specs.Numbers.{low, reading}
-use Rattle.scc_kinds.specs.Operators.{exact, Signs, Divisor}
-use Rattle.scc_kinds.proofs.Low.{low_word, low_less, low_low, low_reading}
+use Rattle.scc_bits_kinds.specs.declared.op.Op.{Op}
+use Rattle.scc_bits_kinds.specs.declared.op.Op.TheVariants as op
+use Rattle.scc_bits_kinds.specs.Numbers.{low, reading}
+use Rattle.scc_bits_kinds.specs.Operators.{exact, Signs, Divisor}
+use Rattle.scc_bits_kinds.proofs.Low.{low_word, low_less, low_low, low_reading}
 use Rattle.scc_svtree.proofs.Values.{own_fixed}
 use Rattle.scc_svtree.specs.Term.{Term, Literal, Sign}
 use Rattle.scc_svtree.specs.Classes.{IsContext, IsShift, IsComparison, IsLogical}

@@ -1,8 +1,8 @@
 -- Lengths, signs and words of terms.
 use Rattle.std.proofs.Common.{◌≡◌, ◌<◌, ◌+◌, ◌^◌, max, ℕ, false, ◌&&◌, refl, ap, ◌∙◌}
 use Rattle.std.specs.Prelude.{pos}
-use Rattle.scc_kinds.specs.Numbers.{low}
-use Rattle.scc_kinds.proofs.Low.{low_word}
+use Rattle.scc_bits_kinds.specs.Numbers.{low}
+use Rattle.scc_bits_kinds.proofs.Low.{low_word}
 use Rattle.scc_svtree.specs.declared.expr.SvLeft.TheVariants.{Whole, Bit, Range}
 use Rattle.scc_svtree.specs.declared.expr.SvUnary.TheVariants as unary
 use Rattle.scc_svtree.specs.declared.expr.SvBinary.TheVariants as binary

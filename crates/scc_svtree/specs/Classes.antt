@@ -1,7 +1,7 @@
 -- How an operator of two operands sizes them (IEEE 1800-2017, table 11-21).
 use Rattle.std.specs.Prelude.{true, false}
-use Rattle.scc_kinds.specs.declared.op.Op.{Op}
-use Rattle.scc_kinds.specs.declared.op.Op.TheVariants as op
+use Rattle.scc_bits_kinds.specs.declared.op.Op.{Op}
+use Rattle.scc_bits_kinds.specs.declared.op.Op.TheVariants as op
 use Rattle.scc_svtree.specs.declared.expr.SvBinary.{SvBinary}
 use Rattle.scc_svtree.specs.declared.expr.SvBinary.TheVariants as binary
 use Rattle.scc_svtree.specs.declared.class.Class.{Class}

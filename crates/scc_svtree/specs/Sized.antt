@@ -2,8 +2,8 @@
 use Rattle.std.specs.Prelude.{ℕ, ◌+◌, ◌^◌, ◌<◌, ◌≤◌, true, List, [], ◌∷◌}
 use Rattle.scc_svtree.specs.declared.expr.SvLeft.{SvLeft}
 use Rattle.scc_svtree.specs.declared.expr.SvLeft.TheVariants.{Whole, Bit, Range}
-use Rattle.scc_kinds.specs.declared.op.Op.{Op}
-use Rattle.scc_kinds.specs.declared.op.Op.TheVariants as op
+use Rattle.scc_bits_kinds.specs.declared.op.Op.{Op}
+use Rattle.scc_bits_kinds.specs.declared.op.Op.TheVariants as op
 use Rattle.scc_svtree.specs.declared.class.Class.{Class}
 use Rattle.scc_svtree.specs.declared.class.Class.TheVariants.{Context}
 use Rattle.scc_svtree.specs.Classes.{class_of}

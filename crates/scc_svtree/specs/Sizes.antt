@@ -1,9 +1,9 @@
 -- Length, sign and value of an expression (IEEE 1800-2017, 11.6, 11.8 and 11.4).
 use Rattle.std.specs.Prelude.{ℕ, ◌+◌, ◌-◌, ◌*◌, ◌/◌, ◌%◌, ◌^◌, max, Bool, false, cond, nat_eq, ◌&&◌, pos}
-use Rattle.scc_kinds.specs.Numbers.{low, reading}
-use Rattle.scc_kinds.specs.Operators.{exact}
-use Rattle.scc_kinds.specs.declared.op.Op.{Op}
-use Rattle.scc_kinds.specs.declared.op.Op.TheVariants as op
+use Rattle.scc_bits_kinds.specs.Numbers.{low, reading}
+use Rattle.scc_bits_kinds.specs.Operators.{exact}
+use Rattle.scc_bits_kinds.specs.declared.op.Op.{Op}
+use Rattle.scc_bits_kinds.specs.declared.op.Op.TheVariants as op
 use Rattle.scc_svtree.specs.Term.{Term, Literal, Part, Unary, Binary, Cond, Join, Cast, Sign}
 use Rattle.scc_svtree.specs.declared.expr.SvLeft.{SvLeft}
 use Rattle.scc_svtree.specs.declared.expr.SvLeft.TheVariants.{Whole, Bit, Range}

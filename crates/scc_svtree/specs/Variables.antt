@@ -1,6 +1,6 @@
 -- The variables of a module, and valuations, which give each of them a word.
 use Rattle.std.specs.Prelude.{ℕ, ◌<◌, ◌≤◌, ◌^◌, List, slice_get, unwrap_or, option_map}
-use Rattle.scc_kinds.specs.declared.kind.Word.{Word}
+use Rattle.scc_bits_kinds.specs.declared.kind.Word.{Word}
 use Rattle.scc_svtree.specs.declared.module.SvVar.{SvVar}
 
 -- the width of a variable, 0 where there is none

@@ -1,7 +1,7 @@
 //! Values of expressions.
 ghost use Rattle.std.specs.Prelude.{◌≡◌, ◌<◌, ◌≤◌, ◌^◌, ◌+◌, ◌*◌, ◌&&◌, false, max, map, pos};
-ghost use Rattle.scc_kinds.specs.Numbers.{low, reading};
-ghost use Rattle.scc_kinds.specs.Operators.{exact};
+ghost use Rattle.scc_bits_kinds.specs.Numbers.{low, reading};
+ghost use Rattle.scc_bits_kinds.specs.Operators.{exact};
 ghost use Rattle.scc_svtree.specs.Classes.{IsLogical};
 ghost use Rattle.scc_svtree.specs.Joined.{joined_word};
 ghost use Rattle.scc_svtree.specs.Sized.{AllSized, IsSelect, IsSized, total_length};

@@ -1,7 +1,7 @@
 //! Words of a length in another, and operators on words of one length.
 ghost use Rattle.std.specs.Prelude.{◌≡◌, ◌<◌, ◌≤◌, ◌+◌, ◌-◌, ◌^◌, false, pos};
-ghost use Rattle.scc_kinds.specs.Numbers.{low, reading};
-ghost use Rattle.scc_kinds.specs.Operators.{Divisor, Signs, exact};
+ghost use Rattle.scc_bits_kinds.specs.Numbers.{low, reading};
+ghost use Rattle.scc_bits_kinds.specs.Operators.{Divisor, Signs, exact};
 ghost use Rattle.scc_svtree.specs.Sizes.{part};
 ghost use Rattle.scc_svtree.specs.Variables.{IsWidth};
 

@@ -1,16 +1,16 @@
 //! Arguments of templates (C++, [temp.arg]).
 ghost use Rattle.std.specs.Prelude.{IfErr};
-ghost use Rattle.scc_scopes.specs.Refusals.{MayStop};
+ghost use Rattle.scc_templates_scopes.specs.Refusals.{MayStop};
 
 use crate::class_use::ClassUse;
 use crate::session::Templates;
 use crate::task::{ClassTask, Scope, Tasks, TypeTask};
 use scc_base::{Code, Name, Place, Stop, lost};
 use scc_bits::Kind;
-use scc_scopes::entry::{Context, Given};
-use scc_scopes::kinds::sort_kind;
-use scc_scopes::refuse::refuse;
-use scc_scopes::ty::{Arg, Base};
+use scc_templates_scopes::entry::{Context, Given};
+use scc_templates_scopes::kinds::sort_kind;
+use scc_templates_scopes::refuse::refuse;
+use scc_templates_scopes::ty::{Arg, Base};
 use scc_tree::{ExprNode, Param, TyArg, TyNode};
 
 // The name that an argument is, as an expression or a type.

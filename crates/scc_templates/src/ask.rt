@@ -1,14 +1,14 @@
 //! What is known, and what is being worked out.
 ghost use Rattle.std.specs.Prelude.{IfErr};
-ghost use Rattle.scc_scopes.specs.Refusals.{MayStop};
+ghost use Rattle.scc_templates_scopes.specs.Refusals.{MayStop};
 
 use crate::part::Thing;
 use crate::session::Templates;
 use scc_base::{Code, Name, NoMemory, Place, Stop};
 use scc_bits::Value;
-use scc_scopes::chain::{Chain, Reach};
-use scc_scopes::refuse::refuse;
-use scc_scopes::ty::{Base, InstanceId, TypeOf};
+use scc_templates_scopes::chain::{Chain, Reach};
+use scc_templates_scopes::refuse::refuse;
+use scc_templates_scopes::ty::{Base, InstanceId, TypeOf};
 
 /// What is worked out once. An `item` is a number among those of its scope, a class the number of its item.
 #[derive(Clone, Copy, PartialEq, Eq, Hash)]

@@ -1,6 +1,6 @@
 //! The bodies of functions that count (C++, [class.mfct], [temp.mem.func], [temp.expl.spec]).
 ghost use Rattle.std.specs.Prelude.{IfErr};
-ghost use Rattle.scc_scopes.specs.Refusals.{MayStop};
+ghost use Rattle.scc_templates_scopes.specs.Refusals.{MayStop};
 
 use crate::ask::Key;
 use crate::class_use::{ClassUse, Purpose, begin_use};
@@ -8,10 +8,10 @@ use crate::session::{Needed, Templates};
 use crate::table::Made;
 use crate::task::{BodyTask, Scope, Tasks};
 use scc_base::{Code, List, Name, NoMemory, Place, Stop, lost};
-use scc_scopes::entry::{Context, Given, class_at};
-use scc_scopes::index::{Group, Routine};
-use scc_scopes::refuse::{gone, number, refuse};
-use scc_scopes::ty::InstanceId;
+use scc_templates_scopes::entry::{Context, Given, class_at};
+use scc_templates_scopes::index::{Group, Routine};
+use scc_templates_scopes::refuse::{gone, number, refuse};
+use scc_templates_scopes::ty::InstanceId;
 use scc_tree::{ClassTree, ExprNode, FileTree, FunctionTree, Item, ItemNode, Param, TyArg, TyNode};
 
 /// A function of an instance, or of the file. The name of a constructor is that of its class.

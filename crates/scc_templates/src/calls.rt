@@ -1,6 +1,6 @@
 //! The calls of this crate.
 ghost use Rattle.std.specs.Prelude.{IfErr};
-ghost use Rattle.scc_scopes.specs.Refusals.{MayStop};
+ghost use Rattle.scc_templates_scopes.specs.Refusals.{MayStop};
 
 use crate::bodies::{BodyAt, FunctionKey};
 use crate::class_use::{ClassUse, Purpose, begin_use};
@@ -10,10 +10,10 @@ use crate::table::Instances;
 use crate::task::{BodyTask, ClassTask, Scope, Tasks, TypeTask};
 use scc_base::{Code, Name, Place, Stop, lost};
 use scc_bits::Value;
-use scc_scopes::entry::{Context, Found, class_at};
-use scc_scopes::index::Index;
-use scc_scopes::refuse::{gone, refuse};
-use scc_scopes::ty::{Args, ClassId, InstanceId, TypeOf};
+use scc_templates_scopes::entry::{Context, Found, class_at};
+use scc_templates_scopes::index::Index;
+use scc_templates_scopes::refuse::{gone, refuse};
+use scc_templates_scopes::ty::{Args, ClassId, InstanceId, TypeOf};
 use scc_tree::{Expr, FileTree, ItemNode, Ty};
 use std::mem;
 

@@ -1,16 +1,16 @@
 //! Uses of classes (C++, [temp.inst], [temp.expl.spec]).
 ghost use Rattle.std.specs.Prelude.{IfErr};
-ghost use Rattle.scc_scopes.specs.Refusals.{MayStop};
+ghost use Rattle.scc_templates_scopes.specs.Refusals.{MayStop};
 
 use crate::ask::{Key, Mark};
 use crate::session::{Needed, Templates};
 use crate::table::Made;
 use crate::task::{ClassTask, Scope, Tasks, TypeTask};
 use scc_base::{List, NoMemory, Place, Stop, lost};
-use scc_scopes::entry::{Context, class_at};
-use scc_scopes::index::Group;
-use scc_scopes::refuse::{gone, number};
-use scc_scopes::ty::{Args, Base, InstanceId, TypeOf};
+use scc_templates_scopes::entry::{Context, class_at};
+use scc_templates_scopes::index::Group;
+use scc_templates_scopes::refuse::{gone, number};
+use scc_templates_scopes::ty::{Args, Base, InstanceId, TypeOf};
 use scc_tree::{ItemNode, TyArg};
 
 /// What a class's arguments are worked out for.

@@ -1,6 +1,6 @@
 //! Constants and enumerators (C++, [dcl.dcl], [dcl.enum]).
 ghost use Rattle.std.specs.Prelude.{IfErr};
-ghost use Rattle.scc_scopes.specs.Refusals.{MayStop};
+ghost use Rattle.scc_templates_scopes.specs.Refusals.{MayStop};
 
 use crate::ask::Key;
 use crate::expression::converted;
@@ -8,10 +8,10 @@ use crate::session::Templates;
 use crate::task::{Scope, Tasks, TypeTask, ValueTask};
 use scc_base::{Code, Place, Stop, lost};
 use scc_bits::{Value, Word};
-use scc_scopes::entry::{Context, class_at};
-use scc_scopes::kinds::INT;
-use scc_scopes::refuse::{gone, refuse};
-use scc_scopes::ty::InstanceId;
+use scc_templates_scopes::entry::{Context, class_at};
+use scc_templates_scopes::kinds::INT;
+use scc_templates_scopes::refuse::{gone, refuse};
+use scc_templates_scopes::ty::InstanceId;
 use scc_tree::{Enumerator, Expr, Item, ItemNode};
 
 // An `int` of a word.

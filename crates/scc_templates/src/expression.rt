@@ -1,17 +1,17 @@
 //! Expressions that are constants (C++, [expr.const]). Each function takes a task.
 ghost use Rattle.std.specs.Prelude.{IfErr};
-ghost use Rattle.scc_scopes.specs.Refusals.{MayStop};
+ghost use Rattle.scc_templates_scopes.specs.Refusals.{MayStop};
 
 use crate::part::Thing;
 use crate::session::Templates;
 use crate::task::{Scope, Tasks, TypeTask, ValueTask};
 use scc_base::{Code, Name, Place, Stop, lost};
 use scc_bits::{Kind, Op, Value, Word};
-use scc_scopes::entry::{Context, Entry, Found};
-use scc_scopes::join::Joined;
-use scc_scopes::operator::{choose, operate, operate_one, operator_of};
-use scc_scopes::refuse::{gone, refuse};
-use scc_scopes::ty::Arg;
+use scc_templates_scopes::entry::{Context, Entry, Found};
+use scc_templates_scopes::join::Joined;
+use scc_templates_scopes::operator::{choose, operate, operate_one, operator_of};
+use scc_templates_scopes::refuse::{gone, refuse};
+use scc_templates_scopes::ty::Arg;
 use scc_tree::{Expr, ExprNode, Link, UnaryOp};
 
 /// A value in another kind.

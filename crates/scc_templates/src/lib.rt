@@ -18,9 +18,9 @@ mod types;
 
 pub use bodies::{BodyAt, FunctionKey, function_at};
 pub use scc_bits::Value;
-pub use scc_scopes::entry::{Context, Entry, Found, Given, class_at, class_of};
-pub use scc_scopes::layers::Layers;
-pub use scc_scopes::refuse::refused;
-pub use scc_scopes::ty::{Arg, Args, Base, ClassId, InstanceId, TypeOf};
+pub use scc_templates_scopes::entry::{Context, Entry, Found, Given, class_at, class_of};
+pub use scc_templates_scopes::layers::Layers;
+pub use scc_templates_scopes::refuse::refused;
+pub use scc_templates_scopes::ty::{Arg, Args, Base, ClassId, InstanceId, TypeOf};
 pub use session::{Needed, Templates};
 pub use table::Instances;

@@ -2,8 +2,8 @@
 use crate::session::Templates;
 use crate::task::Scope;
 use scc_base::Name;
-use scc_scopes::entry::{Context, Entry, Found, Given};
-use scc_scopes::ty::{Arg, InstanceId};
+use scc_templates_scopes::entry::{Context, Entry, Found, Given};
+use scc_templates_scopes::ty::{Arg, InstanceId};
 
 fn of_file(entry: Entry) -> Found {
     Found { scope: None, entry }

@@ -1,7 +1,7 @@
 //! What stands behind an expression: indices, members and calls. No constant has bits to pick or functions of its own to
 //! call, but numbers have the calls of the language.
 ghost use Rattle.std.specs.Prelude.{IfErr};
-ghost use Rattle.scc_scopes.specs.Refusals.{MayStop};
+ghost use Rattle.scc_templates_scopes.specs.Refusals.{MayStop};
 
 use crate::bodies::FunctionKey;
 use crate::expression::converted;
@@ -9,10 +9,10 @@ use crate::session::Templates;
 use crate::task::{BodyTask, Scope, Tasks, ValueTask};
 use scc_base::{Code, Name, Place, Stop, lost};
 use scc_bits::{Kind, Op, Value, has_bits};
-use scc_scopes::kinds::INT;
-use scc_scopes::operator::operate_one;
-use scc_scopes::refuse::{gone, refuse};
-use scc_scopes::ty::InstanceId;
+use scc_templates_scopes::kinds::INT;
+use scc_templates_scopes::operator::operate_one;
+use scc_templates_scopes::refuse::{gone, refuse};
+use scc_templates_scopes::ty::InstanceId;
 use scc_tree::{Expr, ExprNode, Part, PartNode};
 
 /// What an expression names before it is taken as a value.

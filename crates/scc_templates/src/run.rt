@@ -1,14 +1,14 @@
 //! The machine: one task after the other, the newest first. It ends, since what needs itself and chains of more than so
 //! many members are refused.
 ghost use Rattle.std.specs.Prelude.{IfErr};
-ghost use Rattle.scc_scopes.specs.Refusals.{MayStop};
+ghost use Rattle.scc_templates_scopes.specs.Refusals.{MayStop};
 
 use crate::ask::Level;
 use crate::session::Templates;
 use crate::task::{BodyTask, ClassTask, Task, Tasks, TypeTask, ValueTask};
 use scc_base::Stop;
-use scc_scopes::entry::Context;
-use scc_scopes::refuse::gone;
+use scc_templates_scopes::entry::Context;
+use scc_templates_scopes::refuse::gone;
 
 impl Templates {
     /// Forgets what an evaluation that was refused left.
@@ -189,5 +189,5 @@ impl Templates {
 fn mismatch(place: scc_base::Place) -> Result<(), Stop>
     ensures stop { IfErr result MayStop }
 {
-    scc_scopes::refuse::refuse(scc_base::Code::Mismatch, place)
+    scc_templates_scopes::refuse::refuse(scc_base::Code::Mismatch, place)
 }

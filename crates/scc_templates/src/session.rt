@@ -6,10 +6,10 @@ use crate::table::{Instances, Made};
 use indexmap::{IndexMap, IndexSet};
 use scc_base::{List, Name, NoMemory};
 use scc_bits::Value;
-use scc_scopes::entry::class_at;
-use scc_scopes::index::{Declared, Group, Index, Routine};
-use scc_scopes::join::Joined;
-use scc_scopes::ty::{Arg, Args, ClassId, InstanceId, TypeOf};
+use scc_templates_scopes::entry::class_at;
+use scc_templates_scopes::index::{Declared, Group, Index, Routine};
+use scc_templates_scopes::join::Joined;
+use scc_templates_scopes::ty::{Arg, Args, ClassId, InstanceId, TypeOf};
 use scc_tree::{ClassTree, FileTree};
 use std::alloc::Global;
 

@@ -1,11 +1,11 @@
 //! The table of instances.
 ghost use Rattle.std.specs.Prelude.{IfErr};
-ghost use Rattle.scc_scopes.specs.Refusals.{MayStop};
+ghost use Rattle.scc_templates_scopes.specs.Refusals.{MayStop};
 
 use indexmap::IndexMap;
 use scc_base::{Code, NoMemory, Place, Stop, lost, push};
-use scc_scopes::refuse::{number, refuse};
-use scc_scopes::ty::{Arg, Args, ClassId, InstanceId};
+use scc_templates_scopes::refuse::{number, refuse};
+use scc_templates_scopes::ty::{Arg, Args, ClassId, InstanceId};
 use std::alloc::Global;
 
 /// The most instances (this project's profile).

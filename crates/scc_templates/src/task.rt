@@ -4,8 +4,8 @@ use crate::bodies::{BodyWork, FunctionKey};
 use crate::class_use::ClassUse;
 use scc_base::{Name, NoMemory, Place, push};
 use scc_bits::{Kind, Op};
-use scc_scopes::entry::Given;
-use scc_scopes::ty::{InstanceId, TypeOf};
+use scc_templates_scopes::entry::Given;
+use scc_templates_scopes::ty::{InstanceId, TypeOf};
 use scc_tree::{Expr, Family, Link, Param, Part, Ty, TyArg, UnaryOp};
 use std::alloc::Global;
 

@@ -1,15 +1,15 @@
 //! Types (C++, [dcl.type]). Each function takes a task.
 ghost use Rattle.std.specs.Prelude.{IfErr};
-ghost use Rattle.scc_scopes.specs.Refusals.{MayStop};
+ghost use Rattle.scc_templates_scopes.specs.Refusals.{MayStop};
 
 use crate::ask::Key;
 use crate::session::Templates;
 use crate::task::{Port, Scope, Tasks, TypeTask, ValueTask};
 use scc_base::{Code, List, Name, Place, Stop, lost};
-use scc_scopes::entry::{Context, Entry, Found};
-use scc_scopes::kinds::{INT, family_kind};
-use scc_scopes::refuse::{gone, refuse};
-use scc_scopes::ty::{Arg, Base, InstanceId, TypeOf};
+use scc_templates_scopes::entry::{Context, Entry, Found};
+use scc_templates_scopes::kinds::{INT, family_kind};
+use scc_templates_scopes::refuse::{gone, refuse};
+use scc_templates_scopes::ty::{Arg, Base, InstanceId, TypeOf};
 use scc_tree::{Family, ItemNode, Ty, TyArg, TyNode};
 
 impl Templates {

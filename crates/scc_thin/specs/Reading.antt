@@ -1,8 +1,8 @@
 -- The grammar of a thin text: what stands at the front of a list of tokens, and what is behind it.
 use Rattle.std.specs.Prelude.{ℕ, zero, suc, List, [], ◌∷◌, ◌++◌, length, Bool, true, false, ◌&&◌, if◌then◌else◌, ◌==◌, nat_le, nat_lt, Option, Some, None, option_map, codes, bytes_eq}
-use Rattle.scc_kinds.specs.declared.kind.Kind.{Kind}
-use Rattle.scc_kinds.specs.declared.kind.Kind.TheVariants as kind
-use Rattle.scc_kinds.specs.declared.kind.Word as bits
+use Rattle.scc_bits_kinds.specs.declared.kind.Kind.{Kind}
+use Rattle.scc_bits_kinds.specs.declared.kind.Kind.TheVariants as kind
+use Rattle.scc_bits_kinds.specs.declared.kind.Word as bits
 use Rattle.scc_thin.specs.declared.design.Bitwise.{Bitwise}
 use Rattle.scc_thin.specs.declared.design.Bitwise.TheVariants as bitwise
 use Rattle.scc_thin.specs.declared.thin.token.Token.{Token}

@@ -1,6 +1,6 @@
 -- The design that joined tokens denote, where they are a thin text.
 use Rattle.std.specs.Prelude.{ℕ, List, Option}
-use Rattle.scc_lexer.specs.declared.token.Token.{Token}
+use Rattle.scc_tokens_lexer.specs.declared.token.Token.{Token}
 use Rattle.scc_thin.specs.declared.design.Design.{Design}
 use Rattle.scc_thin.specs.Gives.{◌>>=◌}
 use Rattle.scc_thin.specs.Tokens.{tokens_of}

@@ -1,9 +1,9 @@
 -- The tokens of a thin text, among joined tokens.
 use Rattle.std.specs.Prelude.{ℕ, List, Option, Some, None, option_map, slice_get}
 use Rattle.scc_base.specs.declared.names.Name.{Name}
-use Rattle.scc_lexer.specs.declared.token.Token as joined
-use Rattle.scc_lexer.specs.declared.token.TokenKind.{TokenKind}
-use Rattle.scc_lexer.specs.declared.token.TokenKind.TheVariants as token
+use Rattle.scc_tokens_lexer.specs.declared.token.Token as joined
+use Rattle.scc_tokens_lexer.specs.declared.token.TokenKind.{TokenKind}
+use Rattle.scc_tokens_lexer.specs.declared.token.TokenKind.TheVariants as token
 use Rattle.scc_thin.specs.declared.thin.token.Token.{Token}
 use Rattle.scc_thin.specs.declared.thin.token.Token.TheVariants as thin
 use Rattle.scc_thin.specs.Gives.{each}

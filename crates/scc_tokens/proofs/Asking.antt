@@ -4,11 +4,11 @@ use Rattle.scc_base.specs.Outside.{Shelf}
 use Rattle.scc_base.specs.declared.code.Code.{Code}
 use Rattle.scc_base.specs.declared.refusal.Place.{Place}
 use Rattle.scc_tokens.specs.Files.{HoldsAll, Asked, asked, asked_by, read_by, lexed_by, number_of, names_read, file_of, FileIs, NamesStay, Unread, AnswersIn, HasRoom, AllShort, FilesSay}
-use Rattle.scc_directives.specs.declared.directive.Words.{Words}
-use Rattle.scc_directives.specs.declared.file.File.{File}
-use Rattle.scc_directives.specs.declared.file.Source.{Source}
-use Rattle.scc_directives.specs.declared.halt.Halt.{Halt}
-use Rattle.scc_directives.specs.declared.halt.Halt.TheVariants as halt
+use Rattle.scc_tokens_directives.specs.declared.directive.Words.{Words}
+use Rattle.scc_tokens_directives.specs.declared.file.File.{File}
+use Rattle.scc_tokens_directives.specs.declared.file.Source.{Source}
+use Rattle.scc_tokens_directives.specs.declared.halt.Halt.{Halt}
+use Rattle.scc_tokens_directives.specs.declared.halt.Halt.TheVariants as halt
 use Rattle.scc_tokens.proofs.Numbered.{holds_less}
 use Rattle.scc_tokens.proofs.Shelving.{short_more}
 

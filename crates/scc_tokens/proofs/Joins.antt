@@ -3,14 +3,14 @@ use Rattle.std.proofs.Common.{◌≡◌, ℕ, List, [], Option, Some, None, Resu
 use Rattle.scc_base.specs.Names.{AllDiffer}
 use Rattle.scc_base.specs.Outside.{Shelf}
 use Rattle.scc_base.specs.declared.names.Name.{Name}
-use Rattle.scc_directives.specs.Directive.{IsWords, name_in, words_in, with_names, word_texts}
+use Rattle.scc_tokens_directives.specs.Directive.{IsWords, name_in, words_in, with_names, word_texts}
 use Rattle.scc_tokens.specs.Files.{HoldsAll, ToldAll, AllShort, FilesSay, Unread, number_of, shelf_of, first_part}
 use Rattle.scc_tokens.specs.Join.{starts, roots_joined, roots_finished, joined_from, join_of, LacksFault, Somewhere}
-use Rattle.scc_directives.specs.declared.directive.Words.{Words}
-use Rattle.scc_directives.specs.declared.file.File.{File}
-use Rattle.scc_directives.specs.declared.file.Source.{Source}
-use Rattle.scc_directives.specs.declared.halt.Halt.{Halt}
-use Rattle.scc_directives.specs.declared.halt.Halt.TheVariants as halt
+use Rattle.scc_tokens_directives.specs.declared.directive.Words.{Words}
+use Rattle.scc_tokens_directives.specs.declared.file.File.{File}
+use Rattle.scc_tokens_directives.specs.declared.file.Source.{Source}
+use Rattle.scc_tokens_directives.specs.declared.halt.Halt.{Halt}
+use Rattle.scc_tokens_directives.specs.declared.halt.Halt.TheVariants as halt
 use Rattle.scc_tokens.specs.declared.joining.Joined.{Joined}
 use Rattle.scc_tokens.specs.declared.joining.JoinFault.{JoinFault}
 use Rattle.scc_tokens.specs.declared.joining.JoinFault.TheVariants as fault

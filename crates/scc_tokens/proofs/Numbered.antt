@@ -6,18 +6,18 @@ use Rattle.scc_base.specs.Names.{Keeps, AllDiffer}
 use Rattle.scc_base.specs.Outside.{Shelf, HoldsFirst, Told}
 use Rattle.std.proofs.lemmas.Bool.Decides.{nat_tests}
 use Rattle.scc_base.specs.declared.code.Code.TheVariants as code
-use Rattle.scc_lexer.specs.Answers.{SpellsOk}
+use Rattle.scc_tokens_lexer.specs.Answers.{SpellsOk}
 use Rattle.scc_tokens.specs.Files.{number_in, kind_in, token_in, HoldsAll, first_part, ToldAll, file_by, file_with, file_of}
-use Rattle.scc_lexer.specs.Scan.{scan}
-use Rattle.scc_lexer.specs.Spelled.{Spelled, spelled, spelled_kind, spelled_all}
-use Rattle.scc_directives.specs.declared.directive.Words.{Words}
-use Rattle.scc_directives.specs.declared.file.Source.{Source}
-use Rattle.scc_lexer.specs.declared.piece.Form.{Form}
-use Rattle.scc_lexer.specs.declared.piece.Form.TheVariants as form
-use Rattle.scc_lexer.specs.declared.token.Token.{Token}
-use Rattle.scc_lexer.specs.declared.token.TokenKind.{TokenKind}
-use Rattle.scc_lexer.specs.declared.token.TokenKind.TheVariants as kind
-use Rattle.scc_lexer.proofs.Spelling.{front_of, get_keeps}
+use Rattle.scc_tokens_lexer.specs.Scan.{scan}
+use Rattle.scc_tokens_lexer.specs.Spelled.{Spelled, spelled, spelled_kind, spelled_all}
+use Rattle.scc_tokens_directives.specs.declared.directive.Words.{Words}
+use Rattle.scc_tokens_directives.specs.declared.file.Source.{Source}
+use Rattle.scc_tokens_lexer.specs.declared.piece.Form.{Form}
+use Rattle.scc_tokens_lexer.specs.declared.piece.Form.TheVariants as form
+use Rattle.scc_tokens_lexer.specs.declared.token.Token.{Token}
+use Rattle.scc_tokens_lexer.specs.declared.token.TokenKind.{TokenKind}
+use Rattle.scc_tokens_lexer.specs.declared.token.TokenKind.TheVariants as kind
+use Rattle.scc_tokens_lexer.proofs.Spelling.{front_of, get_keeps}
 
 first_place : (ns : List (List ℕ)) (t : List ℕ) (i : ℕ) → slice_get ns i ≡ Some t → ((j : ℕ) → slice_get ns j ≡ Some t → j ≡ i) → prefix_len (λ x. not (bytes_eq t x)) ns ≡ i
 first_place [] t i e only = cc

@@ -7,17 +7,17 @@ use Rattle.scc_base.specs.Names.{Keeps}
 use Rattle.scc_base.specs.Outside.{Shelf}
 use Rattle.scc_tokens.specs.Files.{HoldsAll, Reads, asked, ToldAll, FilesSay, HasRoom, AnswersIn}
 use Rattle.scc_tokens.specs.Join.{root_joined, roots_joined, asked_walked, number_after, finished, joined_with, length_at}
-use Rattle.scc_directives.specs.Out.{flushed}
-use Rattle.scc_directives.specs.Steps.{Step, Stopped, Refuses, Absent}
+use Rattle.scc_tokens_directives.specs.Out.{flushed}
+use Rattle.scc_tokens_directives.specs.Steps.{Step, Stopped, Refuses, Absent}
 use Rattle.scc_tokens.specs.Walk.{Full, file_walked, then_by}
-use Rattle.scc_directives.specs.declared.directive.Words.{Words}
-use Rattle.scc_directives.specs.declared.file.File.{File}
-use Rattle.scc_directives.specs.declared.file.Source.{Source}
-use Rattle.scc_directives.specs.declared.halt.Halt.{Halt}
-use Rattle.scc_directives.specs.declared.halt.Halt.TheVariants as halt
-use Rattle.scc_directives.specs.declared.out.Out.{Out}
+use Rattle.scc_tokens_directives.specs.declared.directive.Words.{Words}
+use Rattle.scc_tokens_directives.specs.declared.file.File.{File}
+use Rattle.scc_tokens_directives.specs.declared.file.Source.{Source}
+use Rattle.scc_tokens_directives.specs.declared.halt.Halt.{Halt}
+use Rattle.scc_tokens_directives.specs.declared.halt.Halt.TheVariants as halt
+use Rattle.scc_tokens_directives.specs.declared.out.Out.{Out}
 use Rattle.scc_tokens.specs.declared.walk.Joining.{Joining}
-use Rattle.scc_lexer.proofs.Scanning.{keeps_same, keeps_more}
+use Rattle.scc_tokens_lexer.proofs.Scanning.{keeps_same, keeps_more}
 use Rattle.scc_tokens.proofs.Shelving.{reads_same, reads_then}
 use Rattle.scc_tokens.proofs.Walking.{full, says_then}
 

@@ -7,7 +7,7 @@ use Rattle.std.proofs.lemmas.Slice.Eq.{bytes_eq-Decides}
 use Rattle.std.proofs.lemmas.Bool.Decides.{nat_tests}
 use Rattle.scc_base.specs.Outside.{Shelf}
 use Rattle.scc_tokens.specs.Files.{HoldsAll, AllShort, Reads, number_of, shelf_of, first_part}
-use Rattle.scc_directives.specs.declared.file.Source.{Source}
+use Rattle.scc_tokens_directives.specs.declared.file.Source.{Source}
 use Rattle.scc_tokens.proofs.Numbered.{holds_more, holds_less}
 
 pub reads_same : (src : List Source) → Reads src src

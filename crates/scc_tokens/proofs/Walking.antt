@@ -3,19 +3,19 @@ use Rattle.std.proofs.Common.{◌≡◌, ◌<◌, ◌≤◌, ℕ, zero, suc, ◌
 use Rattle.std.proofs.lemmas.List.{drop-drop, length-drop}
 use Rattle.scc_base.specs.Outside.{Shelf}
 use Rattle.scc_tokens.specs.Files.{HoldsAll, FilesSay, HasRoom, Gains, Moves, AnswersIn}
-use Rattle.scc_directives.specs.Steps.{Stopped, Refuses, Absent}
+use Rattle.scc_tokens_directives.specs.Steps.{Stopped, Refuses, Absent}
 use Rattle.scc_tokens.specs.Walk.{Full, Inside, in_file, at_file, tokens_of, tokens_at, step_taken, Stepped, walk_on, walk_behind, file_walked, then_by}
-use Rattle.scc_directives.specs.declared.directive.Words.{Words}
-use Rattle.scc_directives.specs.declared.file.File.{File}
-use Rattle.scc_directives.specs.declared.file.Source.{Source}
-use Rattle.scc_directives.specs.declared.halt.Halt.{Halt}
-use Rattle.scc_directives.specs.declared.halt.Halt.TheVariants as halt
-use Rattle.scc_directives.specs.declared.sides.Side.{Side}
-use Rattle.scc_lexer.specs.declared.token.Token.{Token}
+use Rattle.scc_tokens_directives.specs.declared.directive.Words.{Words}
+use Rattle.scc_tokens_directives.specs.declared.file.File.{File}
+use Rattle.scc_tokens_directives.specs.declared.file.Source.{Source}
+use Rattle.scc_tokens_directives.specs.declared.halt.Halt.{Halt}
+use Rattle.scc_tokens_directives.specs.declared.halt.Halt.TheVariants as halt
+use Rattle.scc_tokens_directives.specs.declared.sides.Side.{Side}
+use Rattle.scc_tokens_lexer.specs.declared.token.Token.{Token}
 use Rattle.scc_tokens.specs.declared.walk.Joining.{Joining}
-use Rattle.scc_lexer.proofs.Scanning.{keeps_same, keeps_more}
+use Rattle.scc_tokens_lexer.proofs.Scanning.{keeps_same, keeps_more}
 use Rattle.scc_tokens.proofs.Shelving.{reads_same, reads_then}
-use Rattle.scc_lexer.proofs.Spelling.{get_kept}
+use Rattle.scc_tokens_lexer.proofs.Spelling.{get_kept}
 
 abbrev pub Gone : Type 0
 Gone = Full × Result (Unit {0}) Stopped

@@ -6,21 +6,21 @@ use Rattle.scc_base.specs.Outside.{Shelf, Told, Rose}
 use Rattle.scc_base.specs.declared.code.Code.{Code}
 use Rattle.scc_base.specs.declared.code.Code.TheVariants as code
 use Rattle.scc_base.specs.declared.refusal.Place.{Place}
-use Rattle.scc_directives.specs.declared.directive.Words.{Words}
-use Rattle.scc_directives.specs.declared.file.File.{File}
-use Rattle.scc_directives.specs.declared.file.Source.{Source}
-use Rattle.scc_directives.specs.declared.halt.Halt.{Halt}
-use Rattle.scc_directives.specs.declared.halt.Halt.TheVariants as halt
-use Rattle.scc_lexer.specs.declared.piece.Form.{Form}
-use Rattle.scc_lexer.specs.declared.piece.Form.TheVariants as form
-use Rattle.scc_lexer.specs.declared.token.Token.{Token}
-use Rattle.scc_lexer.specs.declared.token.TokenKind.{TokenKind}
-use Rattle.scc_lexer.specs.declared.token.TokenKind.TheVariants as kind
-use Rattle.scc_directives.specs.File.{first_unclosed}
-use Rattle.scc_lexer.specs.Numbering.{names_after}
-use Rattle.scc_lexer.specs.Scan.{Scanned, scan}
-use Rattle.scc_lexer.specs.Spelled.{Spelled}
-use Rattle.scc_directives.specs.Steps.{Stopped, Refuses, Absent}
+use Rattle.scc_tokens_directives.specs.declared.directive.Words.{Words}
+use Rattle.scc_tokens_directives.specs.declared.file.File.{File}
+use Rattle.scc_tokens_directives.specs.declared.file.Source.{Source}
+use Rattle.scc_tokens_directives.specs.declared.halt.Halt.{Halt}
+use Rattle.scc_tokens_directives.specs.declared.halt.Halt.TheVariants as halt
+use Rattle.scc_tokens_lexer.specs.declared.piece.Form.{Form}
+use Rattle.scc_tokens_lexer.specs.declared.piece.Form.TheVariants as form
+use Rattle.scc_tokens_lexer.specs.declared.token.Token.{Token}
+use Rattle.scc_tokens_lexer.specs.declared.token.TokenKind.{TokenKind}
+use Rattle.scc_tokens_lexer.specs.declared.token.TokenKind.TheVariants as kind
+use Rattle.scc_tokens_directives.specs.File.{first_unclosed}
+use Rattle.scc_tokens_lexer.specs.Numbering.{names_after}
+use Rattle.scc_tokens_lexer.specs.Scan.{Scanned, scan}
+use Rattle.scc_tokens_lexer.specs.Spelled.{Spelled}
+use Rattle.scc_tokens_directives.specs.Steps.{Stopped, Refuses, Absent}
 
 -- the files that were read are what their names hold
 abbrev pub HoldsAll : Shelf → List Source → Type 0

@@ -5,20 +5,20 @@ use Rattle.scc_base.specs.declared.code.Code.{Code}
 use Rattle.scc_base.specs.declared.code.Code.TheVariants as code
 use Rattle.scc_base.specs.declared.refusal.Place.{Place}
 use Rattle.scc_base.specs.declared.refusal.Stop.TheVariants as stop
-use Rattle.scc_directives.specs.declared.directive.Words.{Words}
-use Rattle.scc_directives.specs.declared.file.Source.{Source}
-use Rattle.scc_directives.specs.declared.halt.Halt.{Halt}
-use Rattle.scc_directives.specs.declared.halt.Halt.TheVariants as halt
+use Rattle.scc_tokens_directives.specs.declared.directive.Words.{Words}
+use Rattle.scc_tokens_directives.specs.declared.file.Source.{Source}
+use Rattle.scc_tokens_directives.specs.declared.halt.Halt.{Halt}
+use Rattle.scc_tokens_directives.specs.declared.halt.Halt.TheVariants as halt
 use Rattle.scc_tokens.specs.declared.joining.Joined.{Joined}
 use Rattle.scc_tokens.specs.declared.joining.JoinFault.{JoinFault}
 use Rattle.scc_tokens.specs.declared.joining.JoinFault.TheVariants as fault
-use Rattle.scc_directives.specs.declared.out.Out.{Out}
-use Rattle.scc_lexer.specs.declared.token.Token.{Token}
+use Rattle.scc_tokens_directives.specs.declared.out.Out.{Out}
+use Rattle.scc_tokens_lexer.specs.declared.token.Token.{Token}
 use Rattle.scc_tokens.specs.declared.walk.Joining.{Joining}
 use Rattle.scc_tokens.specs.Files.{Asked, HoldsAll, asked, first_part}
-use Rattle.scc_directives.specs.Directive.{words_in, with_names, word_texts}
-use Rattle.scc_directives.specs.Out.{flushed}
-use Rattle.scc_directives.specs.Steps.{Stopped, Refuses, Absent}
+use Rattle.scc_tokens_directives.specs.Directive.{words_in, with_names, word_texts}
+use Rattle.scc_tokens_directives.specs.Out.{flushed}
+use Rattle.scc_tokens_directives.specs.Steps.{Stopped, Refuses, Absent}
 use Rattle.scc_tokens.specs.Walk.{Full, file_walked, then_by}
 
 -- what joining knows at the start: the macro `SCC_SYNTHESIS`, which has no tokens

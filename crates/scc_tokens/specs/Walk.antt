@@ -5,25 +5,25 @@ use Rattle.std.specs.Str.{is_utf8}
 use Rattle.scc_base.specs.Outside.{Shelf}
 use Rattle.scc_base.specs.declared.code.Code.TheVariants as code
 use Rattle.scc_base.specs.declared.refusal.Place.{Place}
-use Rattle.scc_directives.specs.declared.directive.Words.{Words}
-use Rattle.scc_directives.specs.declared.directive.Directive.{Directive}
-use Rattle.scc_directives.specs.declared.directive.Directive.TheVariants as directive
-use Rattle.scc_directives.specs.declared.file.File.{File}
-use Rattle.scc_directives.specs.declared.file.Source.{Source}
-use Rattle.scc_directives.specs.declared.included.Operand.{Operand}
-use Rattle.scc_directives.specs.declared.included.Operand.TheVariants as operand
-use Rattle.scc_directives.specs.declared.sides.Side.{Side}
-use Rattle.scc_lexer.specs.declared.token.Token.{Token}
+use Rattle.scc_tokens_directives.specs.declared.directive.Words.{Words}
+use Rattle.scc_tokens_directives.specs.declared.directive.Directive.{Directive}
+use Rattle.scc_tokens_directives.specs.declared.directive.Directive.TheVariants as directive
+use Rattle.scc_tokens_directives.specs.declared.file.File.{File}
+use Rattle.scc_tokens_directives.specs.declared.file.Source.{Source}
+use Rattle.scc_tokens_directives.specs.declared.included.Operand.{Operand}
+use Rattle.scc_tokens_directives.specs.declared.included.Operand.TheVariants as operand
+use Rattle.scc_tokens_directives.specs.declared.sides.Side.{Side}
+use Rattle.scc_tokens_lexer.specs.declared.token.Token.{Token}
 use Rattle.scc_tokens.specs.declared.walk.Joining.{Joining}
-use Rattle.scc_directives.specs.Active.{token_taken}
-use Rattle.scc_directives.specs.Define.{defined, undefined, with_once}
-use Rattle.scc_directives.specs.Directive.{directive_of, is_line_end, line_len}
-use Rattle.scc_directives.specs.File.{is_hash}
+use Rattle.scc_tokens_directives.specs.Active.{token_taken}
+use Rattle.scc_tokens_directives.specs.Define.{defined, undefined, with_once}
+use Rattle.scc_tokens_directives.specs.Directive.{directive_of, is_line_end, line_len}
+use Rattle.scc_tokens_directives.specs.File.{is_hash}
 use Rattle.scc_tokens.specs.Files.{Asked, asked, number_of}
-use Rattle.scc_directives.specs.Included.{operand_of, quoted, is_own, included_name}
-use Rattle.scc_directives.specs.Lines.{side_opened, side_turned, side_closed}
-use Rattle.scc_directives.specs.Sides.{is_live, opened}
-use Rattle.scc_directives.specs.Steps.{Stopped, Refuses, Step, goes}
+use Rattle.scc_tokens_directives.specs.Included.{operand_of, quoted, is_own, included_name}
+use Rattle.scc_tokens_directives.specs.Lines.{side_opened, side_turned, side_closed}
+use Rattle.scc_tokens_directives.specs.Sides.{is_live, opened}
+use Rattle.scc_tokens_directives.specs.Steps.{Stopped, Refuses, Step, goes}
 
 -- the directive of a line, with what stands behind its word
 abbrev pub split_line : Words → List Token → Directive × List Token

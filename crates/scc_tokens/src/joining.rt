@@ -4,16 +4,16 @@ ghost use Rattle.scc_base.specs.Names.{Keeps};
 ghost use Rattle.scc_base.specs.Outside.{Shelf, Rose, Told};
 ghost use Rattle.scc_base.specs.declared.refusal.Stop.TheVariants as stop;
 ghost use Rattle.scc_tokens.specs.declared.joining.JoinFault.TheVariants as join_fault;
-ghost use Rattle.scc_directives.specs.Directive.{IsWords};
+ghost use Rattle.scc_tokens_directives.specs.Directive.{IsWords};
 ghost use Rattle.scc_tokens.specs.Files.{AnswersIn, HoldsAll, Moves, ToldAll, Reads, Unread, FilesSay, err_of, HasRoom, AllShort};
 ghost use Rattle.scc_tokens.specs.Join.{starts, settled, fault_err, root_joined, roots_joined, finished, roots_finished, JoinSays, Somewhere, join_of, fault_halt};
-ghost use Rattle.scc_directives.specs.Steps.{Finds};
+ghost use Rattle.scc_tokens_directives.specs.Steps.{Finds};
 
 use crate::read::ask;
 use crate::walk::{Joining, LEVELS, walk_file};
 use scc_base::{Code, Files, List, Names, NoMemory, Place, Refusal, Stop, Text};
-use scc_directives::{File, Halt, Macros, Out, Source, TOKENS, Words};
-use scc_lexer::Tokens;
+use scc_tokens_directives::{File, Halt, Macros, Out, Source, TOKENS, Words};
+use scc_tokens_lexer::Tokens;
 use std::alloc::Global;
 
 /// The joined tokens, and where the last root ends.

@@ -6,7 +6,7 @@ mod read;
 mod walk;
 
 pub use joining::{JoinFault, Joined, join};
-pub use scc_directives::{Source, macros_are_expanded};
-pub use scc_lexer::{
+pub use scc_tokens_directives::{Source, macros_are_expanded};
+pub use scc_tokens_lexer::{
     Keyword, MARKS, Punct, Token, TokenKind, Tokens, WORDS, lex, text_has_one_reading,
 };

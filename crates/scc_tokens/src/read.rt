@@ -5,8 +5,8 @@ ghost use Rattle.scc_base.specs.Outside.{Shelf, Told};
 ghost use Rattle.scc_tokens.specs.Files.{asked, number_of, file_of, AnswersIn, HoldsAll, ToldAll, first_part, FileIs, NamesStay, names_read, Reads, Unread, IsReadFault, FilesSay, err_of, HasRoom, Gains};
 
 use scc_base::{Code, FileFault, Files, List, Names, NoMemory, Place, Stop, Text};
-use scc_directives::{File, Halt, Source, Words, first_unclosed};
-use scc_lexer::scanned;
+use scc_tokens_directives::{File, Halt, Source, Words, first_unclosed};
+use scc_tokens_lexer::scanned;
 use std::alloc::Global;
 
 /// How many bytes of a file are asked for: one more than a file may have.

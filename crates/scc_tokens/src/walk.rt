@@ -3,19 +3,19 @@ ghost use Rattle.std.specs.Prelude.{◌≡◌, ◌==◌, ◌+◌, ◌<◌, ◌�
 ghost use Rattle.std.specs.List.{list_any};
 ghost use Rattle.scc_base.specs.Names.{Keeps};
 ghost use Rattle.scc_base.specs.Outside.{Shelf};
-ghost use Rattle.scc_directives.specs.Steps.{Does, Finds, Makes};
+ghost use Rattle.scc_tokens_directives.specs.Steps.{Does, Finds, Makes};
 ghost use Rattle.scc_tokens.specs.Files.{number_of, AnswersIn, HoldsAll, ToldAll, Reads, Unread, FilesSay, err_of, HasRoom, Gains, Moves};
 ghost use Rattle.scc_tokens.specs.Walk.{split_line, idle_line, active_line, wanted_name, is_once, admitted, front_taken, line_taken, text_if, file_included, tokens_of, step_taken, file_walked};
 
 use crate::read::{ask, number_of};
 use scc_base::{Code, Files, List, Names, Place, Text};
-use scc_directives::define::{define, include_once, undefine};
-use scc_directives::{
+use scc_tokens_directives::define::{define, include_once, undefine};
+use scc_tokens_directives::{
     Directive, File, Halt, Macros, Operand, Out, Sides, Source, Words, close_side, directive_of,
     included_name, is_hash, is_line_end, is_own, line_len, open_side, operand_of, quoted,
     take_token, turn_side,
 };
-use scc_lexer::{Token, TokenKind};
+use scc_tokens_lexer::{Token, TokenKind};
 use std::alloc::Global;
 use std::str;
 

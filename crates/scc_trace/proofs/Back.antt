@@ -9,7 +9,7 @@ use Rattle.std.proofs.lemmas.Nat.{pow-add, mod-pow-add}
 use Rattle.std.proofs.Math.Nat.{mod-eq_of_lt}
 use Rattle.std.proofs.Math.Pow.{pow_mono}
 use Rattle.scc_base.specs.declared.code.Code.TheVariants.{StimText, StimPort as WrongPorts}
-use Rattle.scc_kinds.specs.declared.kind.Word.{Word}
+use Rattle.scc_bits_kinds.specs.declared.kind.Word.{Word}
 use Rattle.scc_trace.specs.declared.stim.StimPort.{StimPort}
 use Rattle.scc_trace.specs.declared.stim.StimStep.{StimStep}
 use Rattle.scc_trace.specs.declared.stim.Version.TheVariants.{Two}

@@ -4,7 +4,7 @@ use Rattle.std.proofs.Common.{sym, ◌∙◌, ap, append_assoc, arith}
 use Rattle.std.proofs.lemmas.List.{append-nil, drop_more, drop_all}
 use Rattle.scc_base.specs.declared.refusal.Refusal.{Refusal}
 use Rattle.scc_base.specs.declared.code.Code.TheVariants.{StimText}
-use Rattle.scc_kinds.specs.declared.kind.Word.{Word}
+use Rattle.scc_bits_kinds.specs.declared.kind.Word.{Word}
 use Rattle.scc_trace.specs.declared.stim.StimPort.{StimPort}
 use Rattle.scc_trace.specs.declared.found.Found.{Found}
 use Rattle.scc_trace.specs.Cut.{Bytes, Piece, lines, words_behind}

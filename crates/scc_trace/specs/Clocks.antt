@@ -1,7 +1,7 @@
 -- What a stimulus text of version 3 says, or where it is refused first. This project's own.
 use Rattle.std.specs.Prelude.{ℕ, if◌then◌else◌, List, [], ◌∷◌, length, codes, bytes_eq, Option, Some, None, Ok}
 use Rattle.scc_base.specs.declared.code.Code.TheVariants.{StimText, StimValue}
-use Rattle.scc_kinds.specs.declared.kind.Word.{Word}
+use Rattle.scc_bits_kinds.specs.declared.kind.Word.{Word}
 use Rattle.scc_trace.specs.declared.stim.StimPort.{StimPort}
 use Rattle.scc_trace.specs.declared.stim.ClockStep.{ClockStep}
 use Rattle.scc_trace.specs.declared.found.Found.{Found}

@@ -2,8 +2,8 @@
 use super::texts::{BOTH, FLAT, INVERTER, TOP, text};
 use scc_base::{List, NoMemory, Stop};
 use scc_hier::{HierPlan, HierPort, flatten, hier};
-use scc_hierread::{read_flattened, read_hier};
-use scc_hiertext::print_hier;
+use scc_hier_read::{read_flattened, read_hier};
+use scc_hier_text::print_hier;
 use scc_svread::read;
 use scc_svtext::print;
 use scc_svtree::VarId;

@@ -2,7 +2,7 @@
 use super::texts::{at_byte, refused, text};
 use itoa::Buffer;
 use scc_base::{Code, NoMemory, Stop, Text};
-use scc_hierread::read_flattened;
+use scc_hier_read::read_flattened;
 use std::alloc::Global;
 
 // Adds a text with a number in it.

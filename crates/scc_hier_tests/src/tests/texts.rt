@@ -1,6 +1,6 @@
 //! The parts that small texts are made of, and why a text is refused.
 use scc_base::{Code, NoMemory, Place, Refusal, Stop, Text};
-use scc_hierread::read_hier;
+use scc_hier_read::read_hier;
 use std::alloc::Global;
 
 /// Two inverters, up to the line of the first.

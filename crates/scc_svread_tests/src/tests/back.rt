@@ -2,8 +2,8 @@
 use super::texts::{END, FIRST, HEAD, PAIR, PORTS, RESETS, SETS, TAIL, text};
 use super::worked::{AND_BOTH, AND_NAMES, AND_PORTS, COUNT, WORKED};
 use scc_base::{NoMemory, Stop};
-use scc_svraw::read_raw;
 use scc_svread::{module_of, read, read_many};
+use scc_svread_raw::read_raw;
 use scc_svtext::print;
 use scc_svtree::SvModule;
 use std::alloc::Global;

@@ -2,9 +2,9 @@
 use super::texts::{END, PAIR, PORTS, Table, at_byte, refused, row_text, text};
 use super::worked::WORKED;
 use scc_base::{Code, NoMemory};
-use scc_svorder::first_cycle;
-use scc_svraw::read_raw;
 use scc_svread::module_of;
+use scc_svread_raw::read_raw;
+use scc_svtree_order::first_cycle;
 use std::alloc::Global;
 use std::test::Fail;
 

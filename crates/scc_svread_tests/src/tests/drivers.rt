@@ -4,7 +4,7 @@ use super::texts::{
 };
 use super::worked::{AND_NAMES, AND_PORTS, EDGE_NAMES, EDGE_PORTS, EDGE_SETS};
 use scc_base::Code;
-use scc_svcheck::Wrong;
+use scc_svread_check::Wrong;
 use std::test::Fail;
 
 const STATEMENTS: [(&str, &str); 17] = [

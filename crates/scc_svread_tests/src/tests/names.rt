@@ -1,7 +1,7 @@
 //! E703: names that are not declared, or declared before, where no size is wrong.
 use super::texts::{BLOCK, END, HEAD, PORTS, TAIL, Table, at_byte, refused, row_text, wrong_in};
 use scc_base::Code;
-use scc_svcheck::Wrong;
+use scc_svread_check::Wrong;
 use std::test::Fail;
 
 const STATEMENTS: [(&str, &str); 13] = [

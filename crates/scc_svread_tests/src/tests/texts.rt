@@ -1,8 +1,8 @@
 //! The parts that small texts are made of, and what is found in a text.
 use scc_base::{Code, NoMemory, Place, Refusal, Stop, Text};
-use scc_svcheck::{Wrong, first_wrong};
-use scc_svraw::read_raw;
 use scc_svread::{read, read_many};
+use scc_svread_check::{Wrong, first_wrong};
+use scc_svread_raw::read_raw;
 use std::alloc::Global;
 use std::test::Fail;
 

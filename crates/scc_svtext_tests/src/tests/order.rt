@@ -1,7 +1,7 @@
 //! Orders of blocks and the first on a cycle, of few blocks and of many.
 use scc_base::{Boxed, List, NoMemory};
-use scc_svorder::first_of;
 use scc_svtree::{SvBinary, SvBlock, SvExpr, SvExprNode, SvLeft, SvStmt, VarId};
+use scc_svtree_order::first_of;
 use std::alloc::Global;
 
 fn expr(alloc: Global, node: SvExprNode) -> Result<SvExpr, NoMemory> {

@@ -1,6 +1,6 @@
 //! Texts that are read, and the first byte of those that are not.
 use scc_base::{NoMemory, Text};
-use scc_svraw::{Halt, read_raw};
+use scc_svread_raw::{Halt, read_raw};
 use std::alloc::Global;
 
 const AND: &str = "module And (

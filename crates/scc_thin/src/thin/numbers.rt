@@ -1,5 +1,5 @@
 //! The words and marks of thin texts, by their numbers in tokens.
-use scc_lexer::{Keyword, Punct};
+use scc_tokens_lexer::{Keyword, Punct};
 
 pub const VOID: u8 = Keyword::Void as u8;
 

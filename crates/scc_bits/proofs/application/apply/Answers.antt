@@ -1,7 +1,7 @@
 use Rattle.std.specs.Prelude.{◌≤◌, ◌<◌, ◌^◌, IfSome, Option}
 use Rattle.std.proofs.Common.{sym, ◌∙◌, subst}
-use Rattle.scc_kinds.specs.declared.kind.Kind.{Kind}
-use Rattle.scc_kinds.specs.Kinds.{Fits}
+use Rattle.scc_bits_kinds.specs.declared.kind.Kind.{Kind}
+use Rattle.scc_bits_kinds.specs.Kinds.{Fits}
 use Rattle.scc_bits.proofs.Validity.{width_valid}
 use Rattle.scc_bits.proofs.Lowered.{kinds, answer_is}
 use Rattle.scc_bits.proofs.Applied.{operands_are, divisor_stands, applied_stands}

@@ -1,6 +1,6 @@
 use Rattle.std.proofs.Common.{sym, subst}
 use Rattle.scc_bits.specs.declared.taken.Taken.{Taken}
-use Rattle.scc_kinds.specs.Counts.{common_of}
+use Rattle.scc_bits_kinds.specs.Counts.{common_of}
 use Rattle.scc_bits.specs.Standing.{Stands}
 use Rattle.scc_bits.proofs.Standing.{common_width, common_stands}
 use Rattle.scc_bits.proofs.taken.in_common.Goals as goal

@@ -1,9 +1,9 @@
 use Rattle.std.specs.Prelude.{◌≡◌, ◌+◌, true, if◌then◌else◌, ◌⊎◌, Some}
 use Rattle.std.proofs.Common.{refl, ◌∙◌, ap, arith, inl, inr}
-use Rattle.scc_kinds.specs.declared.kind.Kind.TheVariants as kind
-use Rattle.scc_kinds.specs.declared.rule.Rule.TheVariants as rule
-use Rattle.scc_kinds.specs.Kinds.{width_of, is_signed}
-use Rattle.scc_kinds.specs.Counts.{room, quotient_bits, some_signed, count_of}
+use Rattle.scc_bits_kinds.specs.declared.kind.Kind.TheVariants as kind
+use Rattle.scc_bits_kinds.specs.declared.rule.Rule.TheVariants as rule
+use Rattle.scc_bits_kinds.specs.Kinds.{width_of, is_signed}
+use Rattle.scc_bits_kinds.specs.Counts.{room, quotient_bits, some_signed, count_of}
 use Rattle.scc_bits.specs.declared.operands.Operands.{Operands}
 use Rattle.scc_bits.specs.Placed.{placed_of}
 use Rattle.scc_bits.specs.Standing.{Stands}

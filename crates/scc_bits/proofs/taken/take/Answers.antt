@@ -1,8 +1,8 @@
 use Rattle.std.specs.Prelude.{false}
 use Rattle.std.proofs.Common.{refl, ◌∙◌, ap}
-use Rattle.scc_kinds.specs.declared.rule.Rule.TheVariants as rule
-use Rattle.scc_kinds.specs.Kinds.{is_signed}
-use Rattle.scc_kinds.specs.Numbers.{reading}
+use Rattle.scc_bits_kinds.specs.declared.rule.Rule.TheVariants as rule
+use Rattle.scc_bits_kinds.specs.Kinds.{is_signed}
+use Rattle.scc_bits_kinds.specs.Numbers.{reading}
 use Rattle.scc_bits.proofs.Standing.{finish, in_own, amount}
 use Rattle.scc_bits.proofs.taken.take.Goals as goal
 

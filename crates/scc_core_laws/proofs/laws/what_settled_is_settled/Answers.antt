@@ -1,7 +1,7 @@
 use Rattle.std.specs.Prelude.{◌≡◌, ℕ, List, None}
-use Rattle.scc_meaning_core.specs.Program.{Program}
-use Rattle.scc_meaning_core.specs.Rules.{first_rule}
-use Rattle.scc_meaning_core.specs.Source.{Home}
+use Rattle.scc_core_spec.specs.Program.{Program}
+use Rattle.scc_core_spec.specs.Rules.{first_rule}
+use Rattle.scc_core_spec.specs.Source.{Home}
 use Rattle.scc_core_effect_laws.specs.Follows.{IsResolved}
 use Rattle.scc_core_effect_laws.specs.Ordering.{HasOrder, IsOrdered}
 use Rattle.scc_core_effect_laws.proofs.Counted.{short}
@@ -11,7 +11,7 @@ use Rattle.scc_core_laws.proofs.OnlyOne.{only-one}
 use Rattle.scc_core_laws.proofs.Rules.{misses, alone, no-self}
 use Rattle.scc_core_laws.proofs.Asking.{tied-answers}
 use Rattle.scc_core_laws.proofs.Settling.{settle-comes}
-use Rattle.scc_meaning_blocks.specs.Turns.{settled}
+use Rattle.scc_blocks_spec.specs.Turns.{settled}
 use Rattle.scc_core_effect_laws.proofs.Told.{obeys}
 use Rattle.scc_core_laws.proofs.laws.what_settled_is_settled.Goals as goal
 

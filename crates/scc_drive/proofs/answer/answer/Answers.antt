@@ -1,7 +1,7 @@
 use Rattle.std.proofs.Common.{◌∙◌, sym, inl, refl, subst, length}
 use Rattle.std.specs.Prelude.{IfSome}
 use Rattle.scc_drive.proofs.Commanded.{command_answers, bad_words}
-use Rattle.scc_words.specs.Within.{Within}
+use Rattle.scc_drive_words.specs.Within.{Within}
 use Rattle.scc_drive.proofs.answer.answer.Goals as goal
 
 pub done-requires : goal.done-requires

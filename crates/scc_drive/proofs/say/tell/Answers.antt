@@ -1,7 +1,7 @@
 use Rattle.std.proofs.Common.{[], sym, subst}
 use Rattle.scc_drive.specs.Said.{SaysPart}
 use Rattle.scc_drive.specs.Answer.{stopped_text}
-use Rattle.scc_stopped.specs.Texts.{missing_text, failed_text}
+use Rattle.scc_drive_errors.specs.Texts.{missing_text, failed_text}
 use Rattle.scc_drive.proofs.Saying.{faults_alone}
 use Rattle.scc_drive.proofs.say.tell.Goals as goal
 

@@ -1,6 +1,6 @@
 use Rattle.std.proofs.Common.{◌<◌, ◌≤◌, ◌^◌, sym, subst, length, arith, false}
-use Rattle.scc_svtrace.specs.Traced.{IsTrace, IsUntraced}
-use Rattle.scc_svsim.proofs.Taken.{sound_many, few_variables}
+use Rattle.scc_svrun_trace.specs.Traced.{IsTrace, IsUntraced}
+use Rattle.scc_drive_svsim.proofs.Taken.{sound_many, few_variables}
 use Rattle.scc_drive.proofs.Emitting.{trace_given, trace_refused}
 use Rattle.scc_drive.proofs.svsim.traced.Goals as goal
 

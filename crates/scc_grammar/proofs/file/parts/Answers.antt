@@ -1,6 +1,6 @@
 use Rattle.std.proofs.Common.{sym, ◌∙◌}
 use Rattle.std.proofs.lemmas.Result.{err_from_is_err_and}
-use Rattle.scc_syntax.specs.Bodies as b
+use Rattle.scc_grammar_spec.specs.Bodies as b
 use Rattle.scc_grammar.proofs.ItemLoops.{loop_file}
 use Rattle.scc_grammar.proofs.file.parts.Goals as goal
 

@@ -1,6 +1,6 @@
 use Rattle.std.proofs.Common.{◌≡◌, length}
-use Rattle.scc_syntax.specs.Bodies as b
-use Rattle.scc_syntax.specs.ParseFile as p
+use Rattle.scc_grammar_spec.specs.Bodies as b
+use Rattle.scc_grammar_spec.specs.ParseFile as p
 use Rattle.scc_reading.specs.Reading.{repeat_on}
 use Rattle.scc_grammar.proofs.file.parts.Given as goal
 

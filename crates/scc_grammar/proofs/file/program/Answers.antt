@@ -1,5 +1,5 @@
 use Rattle.std.proofs.Common.{sym, ◌∙◌}
-use Rattle.scc_syntax.specs.Bodies.{body_of}
+use Rattle.scc_grammar_spec.specs.Bodies.{body_of}
 use Rattle.scc_grammar.proofs.FileEnd.{goes_on, ends, program_read}
 use Rattle.scc_grammar.proofs.file.program.Goals as goal
 

@@ -1,8 +1,8 @@
 use Rattle.std.proofs.Common.{sym, ◌∙◌}
 use Rattle.std.proofs.lemmas.Result.{err_from_is_err_and}
-use Rattle.scc_syntax.specs.Bodies.{begun}
-use Rattle.scc_terminals.specs.Names.{no_names}
-use Rattle.scc_syntax.specs.ParseFile.{members}
+use Rattle.scc_grammar_spec.specs.Bodies.{begun}
+use Rattle.scc_grammar_terminals.specs.Names.{no_names}
+use Rattle.scc_grammar_spec.specs.ParseFile.{members}
 use Rattle.scc_grammar.proofs.ItemLoops.{loop_members, member_next}
 use Rattle.scc_grammar.proofs.member.all_members.Goals as goal
 

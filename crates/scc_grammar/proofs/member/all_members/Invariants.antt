@@ -1,7 +1,7 @@
 use Rattle.std.proofs.Common.{◌≡◌, length}
-use Rattle.scc_syntax.specs.Bodies.{body_of}
-use Rattle.scc_syntax.specs.ParseFile.{is_member}
-use Rattle.scc_syntax.specs.ParseFile as p
+use Rattle.scc_grammar_spec.specs.Bodies.{body_of}
+use Rattle.scc_grammar_spec.specs.ParseFile.{is_member}
+use Rattle.scc_grammar_spec.specs.ParseFile as p
 use Rattle.scc_reading.specs.Reading.{repeat_on}
 use Rattle.scc_grammar.proofs.member.all_members.Given as goal
 

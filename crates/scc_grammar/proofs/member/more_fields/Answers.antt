@@ -1,6 +1,6 @@
 use Rattle.std.proofs.Common.{◌≡◌, ◌∷◌, ◌++◌, [], sym, ◌∙◌, ap}
 use Rattle.std.proofs.lemmas.Result.{err_from_is_err_and}
-use Rattle.scc_syntax.specs.Bodies.{body_of, field_of}
+use Rattle.scc_grammar_spec.specs.Bodies.{body_of, field_of}
 use Rattle.scc_grammar.proofs.FieldLoops.{field_turn, field_fails, field_stops, decl_shorter, same_type, same_field}
 use Rattle.scc_grammar.proofs.member.more_fields.Goals as goal
 

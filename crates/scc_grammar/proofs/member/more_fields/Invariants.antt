@@ -1,10 +1,10 @@
 use Rattle.std.proofs.Common.{◌≡◌, length}
 use Rattle.scc_tree.specs.declared.ty.Ty.{Ty}
-use Rattle.scc_syntax.specs.Bodies as b
-use Rattle.scc_syntax.specs.Fields.{Again, fields_onto}
-use Rattle.scc_terminals.specs.Marks as m
-use Rattle.scc_syntax.specs.ParseFile as p
-use Rattle.scc_terminals.specs.Text.{next_is}
+use Rattle.scc_grammar_spec.specs.Bodies as b
+use Rattle.scc_grammar_spec.specs.Fields.{Again, fields_onto}
+use Rattle.scc_grammar_terminals.specs.Marks as m
+use Rattle.scc_grammar_spec.specs.ParseFile as p
+use Rattle.scc_grammar_terminals.specs.Text.{next_is}
 use Rattle.scc_reading.specs.Reading.{repeat}
 use Rattle.scc_grammar.proofs.member.more_fields.Given as goal
 

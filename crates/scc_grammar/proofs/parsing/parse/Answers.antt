@@ -1,8 +1,8 @@
 use Rattle.std.proofs.Common.{◌≡◌, ap, sym, subst, ◌∙◌, refl, Err}
-use Rattle.scc_terminals.specs.Answer.{Fails}
+use Rattle.scc_grammar_terminals.specs.Answer.{Fails}
 use Rattle.scc_grammar.specs.Claim.{ReadsOnly, stop_of, text_of}
-use Rattle.scc_syntax.specs.ParseFile.{program}
-use Rattle.scc_terminals.specs.View.{seen_all}
+use Rattle.scc_grammar_spec.specs.ParseFile.{program}
+use Rattle.scc_grammar_terminals.specs.View.{seen_all}
 use Rattle.scc_grammar.proofs.Parsed.{read_file, fault_at, only_file, only_fault}
 use Rattle.scc_grammar.proofs.parsing.parse.Goals as goal
 

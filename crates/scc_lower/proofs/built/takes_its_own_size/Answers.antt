@@ -1,6 +1,6 @@
 use Rattle.std.proofs.Common.{map, ap, sym, ◌∙◌}
 use Rattle.scc_svtree.specs.Term.{term_of}
-use Rattle.scc_lowered.specs.Conversion.{takes_own_size}
+use Rattle.scc_lower_spec.specs.Conversion.{takes_own_size}
 use Rattle.scc_lower.proofs.Terms.{term_concat, joined_own}
 use Rattle.scc_lower.proofs.built.takes_its_own_size.Goals as goal
 

@@ -1,5 +1,5 @@
 use Rattle.std.proofs.Common.{◌≡◌, ◌++◌, take}
-use Rattle.scc_lowered.specs.Parts.{behind}
+use Rattle.scc_lower_spec.specs.Parts.{behind}
 use Rattle.scc_lower.proofs.name.text_of.Given as goal
 
 abbrev pub invariant-loop-p : goal.invariant-loop-p

@@ -1,5 +1,5 @@
-use Rattle.scc_svwritten.proofs.CountedSizes.{sizes_counted}
-use Rattle.scc_svwritten.proofs.CountedNames.{names_counted}
+use Rattle.scc_svread_written.proofs.CountedSizes.{sizes_counted}
+use Rattle.scc_svread_written.proofs.CountedNames.{names_counted}
 use Rattle.scc_svread.proofs.laws.walks_count_the_bytes.Goals as goal
 
 pub returns-clause-sizes : goal.returns-clause-sizes

@@ -1,4 +1,4 @@
-use Rattle.scc_svwritten.proofs.Modules.{back_module}
+use Rattle.scc_svread_written.proofs.Modules.{back_module}
 use Rattle.scc_svread.proofs.laws.what_is_written_says_which_module.Goals as goal
 
 pub returns : goal.returns

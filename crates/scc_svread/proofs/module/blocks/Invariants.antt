@@ -1,5 +1,5 @@
 use Rattle.std.proofs.Common.{◌≡◌, ◌++◌, map, drop}
-use Rattle.scc_svwritten.specs.Resolved.{block_of, blocks_in}
+use Rattle.scc_svread_written.specs.Resolved.{block_of, blocks_in}
 use Rattle.scc_svread.proofs.module.blocks.Given as goal
 
 abbrev pub invariant-loop-i : goal.invariant-loop-i

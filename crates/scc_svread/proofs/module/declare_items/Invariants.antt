@@ -1,5 +1,5 @@
 use Rattle.std.proofs.Common.{◌≡◌, ◌++◌, map, drop}
-use Rattle.scc_svwritten.specs.Resolved.{declared, named, variable_of, with_names}
+use Rattle.scc_svread_written.specs.Resolved.{declared, named, variable_of, with_names}
 use Rattle.scc_svread.proofs.module.declare_items.Given as goal
 
 abbrev pub invariant-loop-i : goal.invariant-loop-i

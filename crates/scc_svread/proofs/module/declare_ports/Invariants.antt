@@ -1,5 +1,5 @@
 use Rattle.std.proofs.Common.{◌≡◌, ◌++◌, map, drop}
-use Rattle.scc_svwritten.specs.Resolved.{named, variable_of, with_names}
+use Rattle.scc_svread_written.specs.Resolved.{named, variable_of, with_names}
 use Rattle.scc_svread.proofs.module.declare_ports.Given as goal
 
 abbrev pub invariant-loop-v : goal.invariant-loop-v

@@ -1,5 +1,5 @@
 use Rattle.std.proofs.Common.{◌≡◌, ◌++◌, map, drop}
-use Rattle.scc_svwritten.specs.Resolved.{load_of}
+use Rattle.scc_svread_written.specs.Resolved.{load_of}
 use Rattle.scc_svread.proofs.module.loads.Given as goal
 
 abbrev pub invariant-loop-l : goal.invariant-loop-l

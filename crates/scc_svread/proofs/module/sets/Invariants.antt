@@ -1,5 +1,5 @@
 use Rattle.std.proofs.Common.{◌≡◌, ◌++◌, map, drop}
-use Rattle.scc_svwritten.specs.Resolved.{set_of}
+use Rattle.scc_svread_written.specs.Resolved.{set_of}
 use Rattle.scc_svread.proofs.module.sets.Given as goal
 
 abbrev pub invariant-loop-s : goal.invariant-loop-s

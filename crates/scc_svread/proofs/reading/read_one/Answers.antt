@@ -1,7 +1,7 @@
 use Rattle.std.proofs.Common.{sym, subst}
 use Rattle.std.specs.Prelude.{Err}
-use Rattle.scc_svgrammar.specs.Levels.{deep}
-use Rattle.scc_svwritten.specs.Written.{raw_of}
+use Rattle.scc_svread_grammar.specs.Levels.{deep}
+use Rattle.scc_svread_written.specs.Written.{raw_of}
 use Rattle.scc_svread.specs.Read.{Answered}
 use Rattle.scc_svread.proofs.Linked.{answered_halt, judged_back, judged_read}
 use Rattle.scc_svread.proofs.reading.read_one.Goals as goal

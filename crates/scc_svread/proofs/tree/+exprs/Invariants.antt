@@ -1,5 +1,5 @@
 use Rattle.std.proofs.Common.{◌≡◌, ◌++◌, map, drop}
-use Rattle.scc_svwritten.specs.Resolved.{expr_of}
+use Rattle.scc_svread_written.specs.Resolved.{expr_of}
 use Rattle.scc_svread.proofs.tree.+exprs.Given as goal
 
 abbrev pub invariant-exprs-loop-e : goal.invariant-exprs-loop-e

@@ -1,5 +1,5 @@
 use Rattle.std.proofs.Common.{◌≡◌, ◌++◌, map, drop}
-use Rattle.scc_svwritten.specs.Resolved.{arm_of, stmt_of}
+use Rattle.scc_svread_written.specs.Resolved.{arm_of, stmt_of}
 use Rattle.scc_svread.proofs.tree.+stmts.Given as goal
 
 abbrev pub invariant-stmts-loop-s : goal.invariant-stmts-loop-s

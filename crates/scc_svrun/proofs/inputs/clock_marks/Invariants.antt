@@ -1,5 +1,5 @@
 use Rattle.std.proofs.Common.{◌≡◌, ◌<◌, ◌||◌, ℕ, length, drop}
-use Rattle.scc_svorder.specs.Search.{is_seen}
+use Rattle.scc_svtree_order.specs.Search.{is_seen}
 use Rattle.scc_svtree.specs.Steps as steps
 use Rattle.scc_svrun.proofs.inputs.clock_marks.Given as goal
 

@@ -1,5 +1,5 @@
 use Rattle.std.proofs.Common.{◌≡◌, ◌<◌, ◌≤◌, length, arith}
-use Rattle.scc_kinds.specs.declared.kind.Word.{Word}
+use Rattle.scc_bits_kinds.specs.declared.kind.Word.{Word}
 use Rattle.scc_svtree.specs.declared.expr.VarId.{VarId}
 use Rattle.scc_svtree.specs.Variables.{width_at, word_at}
 use Rattle.scc_svrun.proofs.Over.{handed_at, hand_turn}

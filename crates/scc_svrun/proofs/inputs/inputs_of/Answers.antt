@@ -1,5 +1,5 @@
 use Rattle.std.proofs.Common.{◌≡◌, ◌<◌, ◌+◌, ℕ, length, ap, ◌∙◌, arith}
-use Rattle.scc_svorder.specs.Search.{is_seen}
+use Rattle.scc_svtree_order.specs.Search.{is_seen}
 use Rattle.scc_svtree.specs.Steps as steps
 use Rattle.scc_svrun.specs.Runs as runs
 use Rattle.scc_svrun.proofs.Running.{inputs_agree}

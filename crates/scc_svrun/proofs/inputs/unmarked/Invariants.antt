@@ -1,5 +1,5 @@
 use Rattle.std.proofs.Common.{◌≡◌, ◌++◌, length, drop}
-use Rattle.scc_svorder.specs.Search.{is_seen}
+use Rattle.scc_svtree_order.specs.Search.{is_seen}
 use Rattle.scc_svrun.specs.Runs as runs
 use Rattle.scc_svrun.proofs.inputs.unmarked.Given as goal
 

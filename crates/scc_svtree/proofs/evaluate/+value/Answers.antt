@@ -1,8 +1,8 @@
 use Rattle.std.proofs.Common.{rules, ◌≡◌, ◌<◌, ◌≤◌, ◌+◌, ◌*◌, ◌^◌, ℕ, suc, max, map, drop, drop-cons, add-one, get_or, length, false, List, ◌∷◌, ap, sym, subst, ◌∙◌, arith}
 use Rattle.scc_svtree.specs.declared.expr.SvExprNode.TheViews.{the_lemmas}
 use Rattle.std.specs.Prelude.{pos}
-use Rattle.scc_kinds.specs.Numbers.{low, reading}
-use Rattle.scc_kinds.specs.Operators.{Divisor}
+use Rattle.scc_bits_kinds.specs.Numbers.{low, reading}
+use Rattle.scc_bits_kinds.specs.Operators.{Divisor}
 use Rattle.scc_svtree.specs.Joined.{joined_word}
 use Rattle.scc_svtree.specs.Sized.{AllSized, HasDivisor, IsSized, TakesDivisor, total_length}
 use Rattle.scc_svtree.specs.Sizes.{length_of, sized, sized_class, value_of}

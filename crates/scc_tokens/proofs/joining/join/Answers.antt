@@ -1,7 +1,7 @@
 use Rattle.std.proofs.Common.{ap, sym, subst, map, string_bytes}
 use Rattle.scc_tokens.specs.Files.{AllShort, HoldsAll, shelf_of}
 use Rattle.scc_tokens.specs.Join.{JoinSays, fault_halt}
-use Rattle.scc_directives.specs.declared.halt.Halt.TheVariants as halt
+use Rattle.scc_tokens_directives.specs.declared.halt.Halt.TheVariants as halt
 use Rattle.scc_tokens.proofs.Joins.{words_are, join_is, somewhere_by, somewhere_none, unread_missing, unread_failed}
 use Rattle.scc_tokens.proofs.joining.join.Goals as goal
 

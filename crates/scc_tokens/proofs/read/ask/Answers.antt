@@ -1,7 +1,7 @@
 use Rattle.std.proofs.Common.{◌≡◌, ap, sym, ◌∙◌, subst, None, Ok, Err, length, ◌≤◌}
 use Rattle.std.proofs.lemmas.Result.{err_from_is_err_and}
-use Rattle.scc_directives.specs.declared.file.File.{File}
-use Rattle.scc_directives.specs.declared.file.Source.{Source}
+use Rattle.scc_tokens_directives.specs.declared.file.File.{File}
+use Rattle.scc_tokens_directives.specs.declared.file.Source.{Source}
 use Rattle.scc_tokens.specs.Files.{number_of, names_read, file_of, FileIs, NamesStay}
 use Rattle.scc_tokens.proofs.Asking.{asked_bad, asked_good, room_more, cut_says, cut_unread, same_last}
 use Rattle.scc_tokens.proofs.Shelving.{reads_one}

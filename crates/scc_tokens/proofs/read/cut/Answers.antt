@@ -1,7 +1,7 @@
 use Rattle.std.proofs.Common.{ap, ◌∙◌}
-use Rattle.scc_directives.specs.File.{first_unclosed}
+use Rattle.scc_tokens_directives.specs.File.{first_unclosed}
 use Rattle.scc_tokens.proofs.Numbered.{file_is}
-use Rattle.scc_lexer.proofs.Scanning.{keeps_same}
+use Rattle.scc_tokens_lexer.proofs.Scanning.{keeps_same}
 use Rattle.scc_tokens.proofs.read.cut.Goals as goal
 
 pub returns-clause-value : goal.returns-clause-value

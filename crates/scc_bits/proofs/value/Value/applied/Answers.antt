@@ -1,5 +1,5 @@
 use Rattle.std.proofs.Common.{◌≡◌, Some, IfSome, sym, subst, ◌∙◌}
-use Rattle.scc_kinds.specs.Kinds.{Fits}
+use Rattle.scc_bits_kinds.specs.Kinds.{Fits}
 use Rattle.scc_bits.specs.Values.{kind_of}
 use Rattle.scc_bits.proofs.Valued.{kind_valid}
 use Rattle.scc_bits.proofs.value.Value.applied.Goals as goal

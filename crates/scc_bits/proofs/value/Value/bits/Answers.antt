@@ -1,7 +1,7 @@
 use Rattle.std.specs.Prelude.{◌≡◌}
 use Rattle.std.proofs.Common.{subst}
-use Rattle.scc_kinds.specs.Kinds.{is_signed}
-use Rattle.scc_kinds.specs.Numbers.{reading}
+use Rattle.scc_bits_kinds.specs.Kinds.{is_signed}
+use Rattle.scc_bits_kinds.specs.Numbers.{reading}
 use Rattle.scc_bits.specs.Value.{Number, exactly}
 use Rattle.scc_bits.proofs.Numbers.{extended}
 use Rattle.scc_bits.proofs.value.Value.bits.Goals as goal

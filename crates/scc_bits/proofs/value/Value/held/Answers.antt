@@ -1,7 +1,7 @@
 use Rattle.std.specs.Prelude.{IsTrue}
 use Rattle.std.proofs.Common.{arith, rules}
 use Rattle.std.proofs.lemmas.Grind.{common_steps}
-use Rattle.scc_kinds.specs.Kinds.{IsValid, Fits}
+use Rattle.scc_bits_kinds.specs.Kinds.{IsValid, Fits}
 use Rattle.scc_bits.specs.Value.{exactly}
 use Rattle.scc_bits.proofs.Numbers.{kept, is_held}
 use Rattle.scc_bits.proofs.value.Value.held.Goals as goal

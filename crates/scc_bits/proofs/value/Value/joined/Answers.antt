@@ -1,6 +1,6 @@
 use Rattle.std.specs.Prelude.{◌<◌, ◌≤◌, ◌+◌, ◌^◌}
 use Rattle.std.proofs.Common.{sym, ◌∙◌, subst, arith}
-use Rattle.scc_kinds.specs.Kinds.{width_of}
+use Rattle.scc_bits_kinds.specs.Kinds.{width_of}
 use Rattle.scc_bits.proofs.Valued.{upper_fits, parts_fit}
 use Rattle.scc_bits.proofs.value.Value.joined.Goals as goal
 

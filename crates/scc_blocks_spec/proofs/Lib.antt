@@ -1,0 +1,6 @@
+mod Edges
+pub mod Telling
+pub mod Scheduling
+pub mod Lowering
+pub mod Edged
+pub mod Generated

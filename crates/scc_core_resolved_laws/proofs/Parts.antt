@@ -1,0 +1,42 @@
+-- The tests of a resolved core.
+use Rattle.std.proofs.Common.{◌≡◌, ℕ, true, ◌&&◌, Some}
+use Rattle.std.specs.Prelude.{slice_get, not, ◌||◌, is_some}
+use Rattle.std.specs.List.{list_all}
+use Rattle.scc_core_spec.specs.Program.{Program, Process, Cell}
+use Rattle.scc_states_laws.specs.Alike.{IsFitCode}
+use Rattle.scc_states_path_laws.specs.Exits.{exits_within}
+use Rattle.scc_core_resolved_laws.specs.Fit.{fit_code}
+use Rattle.scc_core_resolved_laws.specs.IsResolved.{IsResolved, processes_apart, cells_apart, fit_cell, fit_process}
+use Rattle.scc_core_resolved_laws.proofs.Bools.{and-first, and-second, all-at}
+use Rattle.scc_core_resolved_laws.proofs.Fitting.{code-fits}
+
+module _ (p : Program) (r : IsResolved p) where
+  pub processes-apart : processes_apart p.processes ≡ true
+  processes-apart = and-first (processes_apart p.processes) (cells_apart p.cells && (list_all (fit_cell p.processes p.cells) p.cells && list_all (fit_process p.cells) p.processes)) r
+
+  more : (cells_apart p.cells && (list_all (fit_cell p.processes p.cells) p.cells && list_all (fit_process p.cells) p.processes)) ≡ true
+  more = and-second (processes_apart p.processes) (cells_apart p.cells && (list_all (fit_cell p.processes p.cells) p.cells && list_all (fit_process p.cells) p.processes)) r
+
+  pub cells-apart : cells_apart p.cells ≡ true
+  cells-apart = and-first (cells_apart p.cells) (list_all (fit_cell p.processes p.cells) p.cells && list_all (fit_process p.cells) p.processes) more
+
+  rest : (list_all (fit_cell p.processes p.cells) p.cells && list_all (fit_process p.cells) p.processes) ≡ true
+  rest = and-second (cells_apart p.cells) (list_all (fit_cell p.processes p.cells) p.cells && list_all (fit_process p.cells) p.processes) more
+
+  pub cell-fits : (n : ℕ) (x : Cell) → slice_get p.cells n ≡ Some x → fit_cell p.processes p.cells x ≡ true
+  cell-fits n x g = all-at (fit_cell p.processes p.cells) p.cells n x (and-first (list_all (fit_cell p.processes p.cells) p.cells) (list_all (fit_process p.cells) p.processes) rest) g
+
+  pub process-fits : (i : ℕ) (q : Process) → slice_get p.processes i ≡ Some q → fit_process p.cells q ≡ true
+  process-fits i q g = all-at (fit_process p.cells) p.processes i q (and-second (list_all (fit_cell p.processes p.cells) p.cells) (list_all (fit_process p.cells) p.processes) rest) g
+
+  pub code-fit : (i : ℕ) (q : Process) → slice_get p.processes i ≡ Some q → fit_code p.cells q q.body ≡ true
+  code-fit i q g = and-second (exits_within 0 q.body) (fit_code p.cells q q.body) (and-second (not q.is_thread || is_some q.edge) (exits_within 0 q.body && fit_code p.cells q q.body) (process-fits i q g))
+
+  pub has-clock : (i : ℕ) (q : Process) → slice_get p.processes i ≡ Some q → (not q.is_thread || is_some q.edge) ≡ true
+  has-clock i q g = and-first (not q.is_thread || is_some q.edge) (exits_within 0 q.body && fit_code p.cells q q.body) (process-fits i q g)
+
+pub exits : (p : Program) (i : ℕ) (q : Process) → IsResolved p → slice_get p.processes i ≡ Some q → exits_within 0 q.body ≡ true
+exits p i q r g = and-first (exits_within 0 q.body) (fit_code p.cells q q.body) (and-second (not q.is_thread || is_some q.edge) (exits_within 0 q.body && fit_code p.cells q q.body) (process-fits p r i q g))
+
+pub fits : (p : Program) (i : ℕ) (q : Process) → IsResolved p → slice_get p.processes i ≡ Some q → IsFitCode q p.cells q.body
+fits p i q r g = code-fits p.cells q (cells-apart p r) q.body (code-fit p r i q g)

@@ -1,0 +1,63 @@
+-- A worked value: two inverters in a row. This project's own.
+-- `Inv` has an input x and an output y that is its complement, the top `Two` an input a, an output b, a signal m and instances p and q.
+use Rattle.std.specs.Prelude.{ℕ, List, [], ◌∷◌, ◌++◌, codes}
+use Rattle.scc_svtree.specs.declared.expr.SvExpr.{SvExpr}
+use Rattle.scc_svtree.specs.declared.expr.SvExprNode.{SvExprNode, roll-SvExprNode}
+use Rattle.scc_svtree.specs.declared.expr.SvExprNode.TheOpen as node
+use Rattle.scc_svtree.specs.declared.expr.SvLeft.TheVariants.{Whole}
+use Rattle.scc_svtree.specs.declared.expr.SvUnary.TheVariants.{LogNot}
+use Rattle.scc_svtree.specs.declared.stmt.SvStmt.{SvStmt, roll-SvStmt}
+use Rattle.scc_svtree.specs.declared.stmt.SvStmt.TheOpen as stmt
+use Rattle.scc_svtree.specs.declared.module.SvVar.{SvVar}
+use Rattle.scc_svtree.specs.declared.module.Dir.{Dir}
+use Rattle.scc_svtree.specs.declared.module.Dir.TheVariants as dir
+use Rattle.scc_svtree.specs.declared.module.SvBlock.TheVariants as block
+use Rattle.scc_svtree.specs.Term as term
+use Rattle.scc_svtree.specs.Code.{Assign, End}
+use Rattle.scc_hier_text.specs.declared.tree.Hier.{Hier}
+use Rattle.scc_hier_text.specs.declared.tree.HierModule.{HierModule}
+use Rattle.scc_hier_text.specs.declared.tree.Instance.{Instance}
+use Rattle.scc_blocks_spec.specs.Renamed.{BlockCode, Comb}
+
+abbrev pub bit : List ℕ → Dir → SvVar
+bit name d = record { name = name; width = 1; dir = d }
+
+abbrev pub expr : SvExprNode → SvExpr
+expr n = record { node = n }
+
+abbrev pub assign : ℕ → SvExprNode → SvStmt
+assign v e = roll-SvStmt (stmt.Assign (Whole (record { 0 = v })) (expr e))
+
+abbrev pub variable : ℕ → SvExpr
+variable v = expr (roll-SvExprNode (node.Left (Whole (record { 0 = v }))))
+
+abbrev pub inverter : HierModule
+inverter = record {
+  name = codes "Two$p";
+  vars = bit (codes "x") dir.Input ∷ bit (codes "y") dir.Output ∷ [];
+  instances = [];
+  blocks = block.Comb (assign 1 (roll-SvExprNode (node.Literal (record { width = 1; value = record { bits = 0 } })))
+      ∷ assign 1 (roll-SvExprNode (node.Unary LogNot (variable 0))) ∷ []) ∷ [];
+}
+
+abbrev pub wired : List ℕ → ℕ → ℕ → Instance
+wired name x y = record { «module» = 1; name = name; wires = record { 0 = x } ∷ record { 0 = y } ∷ [] }
+
+abbrev pub outer : HierModule
+outer = record {
+  name = codes "Two";
+  vars = bit (codes "a") dir.Input ∷ bit (codes "b") dir.Output ∷ bit (codes "m") dir.Inner ∷ [];
+  instances = wired (codes "p") 0 2 ∷ wired (codes "q") 2 1 ∷ [];
+  blocks = [];
+}
+
+abbrev pub two : Hier
+two = record { modules = outer ∷ inverter ∷ [] }
+
+-- what each inverter is in the flattening
+abbrev pub inverts : ℕ → ℕ → BlockCode
+inverts x y = Comb (Assign (Whole (record { 0 = y })) (term.Literal 1 0) (Assign (Whole (record { 0 = y })) (term.Unary LogNot (term.Part (Whole (record { 0 = x })))) End))
+
+abbrev pub written : List ℕ
+written = codes "module Two (\n  input logic a,\n  output logic b\n);\n  logic m;\n  Two$p p (.x(a), .y(m));\n  Two$p q (.x(m), .y(b));\nendmodule\n"
+    ++ codes "module Two$p (\n  input logic x,\n  output logic y\n);\n  always_comb begin\n    y = 1'h0;\n    y = (!x);\n  end\nendmodule\n"

@@ -1,0 +1,3 @@
+pub mod Inlined
+pub mod Static
+pub mod Stages

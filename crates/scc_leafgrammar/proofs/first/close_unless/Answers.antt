@@ -1,4 +1,0 @@
-use Rattle.scc_leafgrammar.proofs.first.close_unless.Goals as goal
-
-pub returns : goal.returns
-returns c = rw c.if-both.false c.close.ensures

@@ -1,5 +1,0 @@
-use Rattle.scc_lowered.proofs.Converted.{converted_gives}
-use Rattle.scc_lowered.proofs.laws.conversions_give_converted_words.Goals as goal
-
-pub returns : goal.returns
-returns c = λ wide width x from to t y h g. converted_gives wide width x from to t y h g

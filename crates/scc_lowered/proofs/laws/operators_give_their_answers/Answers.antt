@@ -1,5 +1,0 @@
-use Rattle.scc_lowered.proofs.Operators.{binary_gives}
-use Rattle.scc_lowered.proofs.laws.operators_give_their_answers.Goals as goal
-
-pub returns : goal.returns
-returns c = λ wide width x o j k y z p text t u v a b d f h n e g m is. binary_gives wide width x o j k y z p text t u v a b d f h n e g m is

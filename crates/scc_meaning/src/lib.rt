@@ -1,2 +1,0 @@
-//! What a run of a design means: definitions alone, which other crates cite.
-#![tactic(auto)]

@@ -1,5 +1,0 @@
-pub mod Telling
-pub mod Scheduling
-pub mod Lowering
-pub mod Edged
-pub mod Generated

@@ -1,9 +1,0 @@
-use Rattle.scc_directives.specs.Steps as join
-use Rattle.scc_meaning_command.specs.Stopped.{in_joining}
-use Rattle.scc_meaning_command.proofs.laws.what_joining_refuses_stops_first.Goals as goal
-
-pub returns-clause-refused : goal.returns-clause-refused
-returns-clause-refused c q shelf names sources code place d = in_joining names sources (join.Refuses code place) d
-
-pub returns-clause-absent : goal.returns-clause-absent
-returns-clause-absent c q shelf names sources name d = in_joining names sources (join.Absent name) d

@@ -1,6 +1,0 @@
-use Rattle.std.specs.Prelude.{[]}
-use Rattle.scc_meaning_core.specs.Feeding.{done}
-use Rattle.scc_meaning_core.proofs.laws.no_methods_are_ordered.Goals as goal
-
-pub returns : goal.returns
-returns c = done [] (λ i h. h)

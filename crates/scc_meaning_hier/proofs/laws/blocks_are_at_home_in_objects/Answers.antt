@@ -1,7 +1,0 @@
-use Rattle.scc_meaning_hier.proofs.laws.blocks_are_at_home_in_objects.Goals as goal
-
-pub returns-clause-design : goal.returns-clause-design
-returns-clause-design c text p d q m paths homes h = h.objects
-
-pub returns-clause-split : goal.returns-clause-split
-returns-clause-split c text p d q m h s = (s.paths, s.homes, s.splits)

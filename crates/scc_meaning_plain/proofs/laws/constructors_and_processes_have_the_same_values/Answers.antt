@@ -1,5 +1,0 @@
-use Rattle.scc_meaning_plain.proofs.Valued.{valued}
-use Rattle.scc_meaning_plain.proofs.laws.constructors_and_processes_have_the_same_values.Goals as goal
-
-pub returns : goal.returns
-returns c s regular = valued s regular

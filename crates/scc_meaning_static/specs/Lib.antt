@@ -1,5 +1,0 @@
-pub mod Walk
-pub mod Walked
-pub mod World
-pub mod Stage
-pub mod Worked

@@ -1,6 +1,0 @@
-use Rattle.scc_meaning_text.specs.Matches.{block_views, process_views}
-use Rattle.scc_meaning_text.proofs.Edges.{stands_in}
-use Rattle.scc_meaning_text.proofs.laws.modules_show_designs.Goals as goal
-
-pub returns-clause-edges : goal.returns-clause-edges
-returns-clause-edges c text own kept d m top k e p h = stands_in (process_views text d) (block_views m) k e p.edges h

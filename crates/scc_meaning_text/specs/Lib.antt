@@ -1,3 +1,0 @@
-pub mod Matches
-pub mod Emitted
-pub mod Renamed

@@ -1,0 +1,125 @@
+//! What variables hold, and locations.
+use scc_base::{NoMemory, lost};
+use scc_bits::Kind;
+use scc_plain_tree::{Base, PlainLeft, Reach, Shape};
+use scc_templates as templates;
+use scc_templates::TypeOf;
+use scc_tree::Hold;
+
+/// What a variable holds, but for the sizes of its arrays.
+#[derive(Clone, Copy, PartialEq, Eq)]
+pub struct Form {
+    pub base: Base,
+    pub reach: Reach,
+    /// Whether it is an `sc_vector` of the base (IEEE 1666-2011, 8.5).
+    pub vector: bool,
+    /// How many arrays are round it.
+    pub dims: u32,
+}
+
+/// A location, with what it holds. A reference is the thing that it leads to.
+#[derive(Drop)]
+pub struct Loc {
+    pub left: PlainLeft,
+    pub form: Form,
+    /// The kind of the bits that are picked.
+    pub pick: Option<Kind>,
+}
+
+/// A base with the number of its class.
+pub fn base_of(base: templates::Base) -> Base {
+    match base {
+        templates::Base::Number(kind) => Base::Number(kind),
+        templates::Base::Class(i) => Base::Class(i.0),
+        templates::Base::Input(kind) => Base::Input(kind),
+        templates::Base::Output(kind) => Base::Output(kind),
+        templates::Base::Signal(kind) => Base::Signal(kind),
+        templates::Base::ModuleName => Base::ModuleName,
+    }
+}
+
+/// What `*` and `&` say of a declared name.
+pub fn reach_of(hold: Hold) -> Reach {
+    match hold {
+        Hold::Direct => Reach::Direct,
+        Hold::Pointer => Reach::Pointer,
+        Hold::Reference => Reach::Reference,
+    }
+}
+
+/// The kind of a type that is a number's.
+pub fn number_kind(t: TypeOf) -> Option<Kind> {
+    match t.base {
+        templates::Base::Number(kind) if !t.vector => Some(kind),
+        _ => None,
+    }
+}
+
+impl Form {
+    /// That of one thing by itself.
+    pub fn direct(base: Base) -> Form {
+        Form {
+            base,
+            reach: Reach::Direct,
+            vector: false,
+            dims: 0,
+        }
+    }
+
+    /// That of a shape.
+    pub fn of(shape: &Shape) -> Result<Form, NoMemory> {
+        Ok(Form {
+            base: shape.base,
+            reach: shape.reach,
+            vector: shape.vector,
+            dims: u32::try_from(shape.sizes.len()).map_err(|_| lost())?,
+        })
+    }
+
+    /// Whether it is a pointer, or arrays of them.
+    pub fn is_pointer(self) -> bool {
+        self.reach == Reach::Pointer
+    }
+
+    /// Whether nothing of an array, vector or pointer is left to take.
+    pub fn is_whole(self) -> bool {
+        self.dims == 0 && !self.vector && !self.is_pointer()
+    }
+
+    /// Whether two hold things of one type.
+    pub fn is_like(self, other: Form) -> bool {
+        self.base == other.base && self.vector == other.vector
+    }
+
+    /// The kind of a port's or signal's value.
+    pub fn port_kind(self) -> Option<Kind> {
+        match self.base {
+            Base::Input(kind) | Base::Output(kind) | Base::Signal(kind) => Some(kind),
+            _ => None,
+        }
+    }
+
+    /// The kind of a number's, port's or signal's value.
+    pub fn value_kind(self) -> Option<Kind> {
+        match self.base {
+            Base::Number(kind) => Some(kind),
+            _ => self.port_kind(),
+        }
+    }
+
+    /// Whether it is one port or signal.
+    pub fn is_port(self) -> bool {
+        self.is_whole() && self.port_kind().is_some()
+    }
+}
+
+impl Loc {
+    /// A location of which no bits are picked.
+    pub fn new(left: PlainLeft, form: Form) -> Loc {
+        Loc {
+            left,
+            form,
+            pick: None,
+        }
+    }
+}

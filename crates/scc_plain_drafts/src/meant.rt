@@ -1,0 +1,297 @@
+//! What expressions name before they are taken as values.
+ghost use Rattle.std.specs.Prelude.{IfErr};
+ghost use Rattle.scc_plain_drafts.specs.Refusals.{MayStop};
+
+use crate::call::{Call, of_method, of_subject};
+use crate::draft::{Draft, load, read};
+use crate::form::{Form, Loc};
+use crate::refusal::{gone, refuse};
+use crate::target::{at_location, behind};
+use scc_base::{Code, Name, Place, Stop};
+use scc_plain_tree::{Base, PlainBase, PlainExprNode, PlainLeft, PlainTarget, Reach};
+use scc_templates::InstanceId;
+use std::alloc::Global;
+
+/// A call of the language on a port or signal that is no value (IEEE 1666-2011, 6.4, 6.8 and 6.12).
+#[derive(Clone, Copy, PartialEq, Eq)]
+pub enum PortCall {
+    Write,
+    Bind,
+    Pos,
+    Neg,
+}
+
+/// A call of the language (IEEE 1666-2011, 6 and 7.2).
+#[derive(Clone, Copy, PartialEq, Eq)]
+pub enum Method {
+    Read,
+    Port(PortCall),
+    Range,
+    AndReduce,
+    OrReduce,
+    XorReduce,
+    ToInt,
+    ToUint,
+    ToInt64,
+    ToUint64,
+}
+
+/// What a call of the language is made on.
+#[derive(Drop)]
+pub enum Subject {
+    Value(Draft),
+    Loc(Loc),
+}
+
+/// What an expression names.
+pub enum Meant {
+    Value(Draft),
+    Loc(Loc),
+    /// A function with the place of its name; `object` is None where none is written.
+    Function {
+        scope: Option<InstanceId>,
+        name: Name,
+        object: Option<PlainLeft>,
+        place: Place,
+    },
+    /// The name of a call of the language.
+    Built {
+        method: Method,
+        of: Subject,
+    },
+    /// A call that stands only as a statement or a sensitivity. Its arguments are not walked: they are `last_args` of the
+    /// expression.
+    Done {
+        call: PortCall,
+        of: Subject,
+    },
+    /// A call of a function without a result.
+    Void,
+    Null,
+    This,
+    Address(Loc),
+    Text,
+}
+
+impl Drop for Meant {
+    fn drop(self) {
+        match self {
+            Meant::Value(_value) => {}
+            Meant::Loc(_loc) | Meant::Address(_loc) => {}
+            Meant::Function {
+                scope: _scope,
+                name: _name,
+                object: _object,
+                place: _place,
+            } => {}
+            Meant::Built {
+                method: _method,
+                of: _of,
+            } => {}
+            Meant::Done {
+                call: _call,
+                of: _of,
+            } => {}
+            Meant::Void | Meant::Null | Meant::This | Meant::Text => {}
+        }
+    }
+}
+
+impl Subject {
+    /// The location, where it is one without picked bits.
+    pub fn location(self) -> Option<PlainLeft> {
+        match self {
+            Subject::Loc(l) => {
+                if l.pick.is_some() {
+                    return None;
+                }
+                Some(l.left)
+            }
+            Subject::Value(_) => None,
+        }
+    }
+
+    /// It as a value; E304 at the place where it is none.
+    pub fn value(self, alloc: Global, place: Place) -> Result<Draft, Stop>
+        ensures stop { IfErr result MayStop }
+    {
+        match self {
+            Subject::Value(x) => Ok(x),
+            Subject::Loc(l) => value_at(alloc, l, place),
+        }
+    }
+}
+
+fn is_answer(x: &Draft) -> bool {
+    match x.expr.node.get() {
+        PlainExprNode::Load(left) => matches!(left.base, PlainBase::Answer(_)),
+        _ => false,
+    }
+}
+
+impl Meant {
+    /// It as what a call of the language is made on, where it is a value or a location.
+    pub fn subject(self) -> Option<Subject> {
+        match self {
+            Meant::Value(x) => Some(Subject::Value(x)),
+            Meant::Loc(l) => Some(Subject::Loc(l)),
+            _ => None,
+        }
+    }
+
+    /// The location, where it is one.
+    pub fn loc(self) -> Option<Loc> {
+        match self {
+            Meant::Loc(l) => Some(l),
+            _ => None,
+        }
+    }
+
+    /// The location, where it is one without picked bits.
+    pub fn location(self) -> Option<PlainLeft> {
+        self.subject()?.location()
+    }
+
+    /// It as a value; E304 at the place where it is none.
+    pub fn value(self, alloc: Global, place: Place) -> Result<Draft, Stop>
+        ensures stop { IfErr result MayStop }
+    {
+        match self.subject() {
+            Some(of) => of.value(alloc, place),
+            None => refuse(Code::Mismatch, place),
+        }
+    }
+
+    /// A call that stands only as a statement or a sensitivity, with what it is made on; else what it is.
+    pub fn done(self) -> Result<(PortCall, Subject), Meant> {
+        match self {
+            Meant::Done { call, of } => Ok((call, of)),
+            other => Err(other),
+        }
+    }
+
+    /// What brackets with so many arguments are behind it.
+    pub fn call(self, count: usize) -> Call {
+        match self {
+            Meant::Function {
+                scope,
+                name,
+                object,
+                place,
+            } => Call::Function {
+                scope,
+                name,
+                object,
+                place,
+            },
+            Meant::Built { method, of } => of_method(method, of, count),
+            Meant::Loc(l) => {
+                let is_port = l.form.is_port();
+                of_subject(Subject::Loc(l), is_port, count)
+            }
+            Meant::Value(x) => of_subject(Subject::Value(x), false, count),
+            _ => Call::Wrong,
+        }
+    }
+
+    /// What a pointer or reference of a form is given by it; `own` is the instance whose body it is. E304 where it is of another
+    /// type.
+    pub fn aimed(
+        self,
+        alloc: Global,
+        form: Form,
+        own: Option<InstanceId>,
+        place: Place,
+    ) -> Result<PlainTarget, Stop>
+        ensures stop { IfErr result MayStop }
+    {
+        match self {
+            Meant::Loc(l) => at_location(l, form, place),
+            other => {
+                if form.reach != Reach::Pointer {
+                    return refuse(Code::Mismatch, place);
+                }
+                other.pointed(alloc, form, own, place)
+            }
+        }
+    }
+
+    // What a pointer is given by what is no location.
+    fn pointed(
+        self,
+        alloc: Global,
+        form: Form,
+        own: Option<InstanceId>,
+        place: Place,
+    ) -> Result<PlainTarget, Stop>
+        ensures stop { IfErr result MayStop }
+    {
+        match self {
+            Meant::Null => Ok(PlainTarget::Null),
+            Meant::This => match own {
+                Some(i) if form.is_like(Form::direct(Base::Class(i.0))) => {
+                    Ok(PlainTarget::Address(PlainLeft::new(alloc, place, PlainBase::This)))
+                }
+                _ => refuse(Code::Mismatch, place),
+            },
+            Meant::Address(l) => {
+                if l.form.is_pointer() || !l.form.is_like(form) {
+                    return refuse(Code::Mismatch, place);
+                }
+                Ok(PlainTarget::Address(l.left))
+            }
+            _ => refuse(Code::Mismatch, place),
+        }
+    }
+
+    /// What it leads to as a pointer; `own` is the instance whose body it is. E304 where it is none.
+    pub fn followed(self, alloc: Global, own: Option<InstanceId>, place: Place) -> Result<Loc, Stop>
+        ensures stop { IfErr result MayStop }
+    {
+        match self {
+            Meant::This => match own {
+                Some(i) => {
+                    let left = PlainLeft::new(alloc, place, PlainBase::This);
+                    Ok(Loc::new(left, Form::direct(Base::Class(i.0))))
+                }
+                None => gone(),
+            },
+            Meant::Address(l) => Ok(l),
+            Meant::Loc(l) => behind(alloc, l, place),
+            _ => refuse(Code::Mismatch, place),
+        }
+    }
+
+    /// Whether it is a call of a function: one without a result, or its result.
+    pub fn is_call(&self) -> bool {
+        match self {
+            Meant::Void => true,
+            Meant::Value(x) => is_answer(x),
+            _ => false,
+        }
+    }
+
+    /// Whether it is the name of a module, which an `sc_module_name` is given (IEEE 1666-2011, 5.3).
+    pub fn is_module_name(&self) -> bool {
+        match self {
+            Meant::Loc(l) => l.form.base == Base::ModuleName && l.form.is_whole(),
+            _ => false,
+        }
+    }
+}
+
+// What a variable, port or signal holds.
+fn value_at(alloc: Global, l: Loc, place: Place) -> Result<Draft, Stop>
+    ensures stop { IfErr result MayStop }
+{
+    if !l.form.is_whole() {
+        return refuse(Code::Mismatch, place);
+    }
+    match l.form.base {
+        Base::Number(kind) => Ok(load(alloc, place, l.pick.unwrap_or(kind), l.left)?),
+        Base::Input(kind) | Base::Output(kind) | Base::Signal(kind) => {
+            Ok(read(alloc, place, kind, l.left)?)
+        }
+        Base::Class(_) | Base::ModuleName => refuse(Code::Mismatch, place),
+    }
+}

@@ -1,0 +1,214 @@
+//! Elements of arrays and vectors, bits, ranges of bits, and calls of the language on numbers (IEEE 1666-2011, 7.2 and 8.5).
+ghost use Rattle.std.specs.Prelude.{◌<◌, ◌≤◌, IfErr, IfSome};
+ghost use Rattle.scc_bits_kinds.specs.Kinds.{width_of};
+ghost use Rattle.scc_plain_drafts.specs.Refusals.{MayStop};
+
+use crate::draft::{Draft, bits, convert, operate_one};
+use crate::form::{Form, Loc};
+use crate::meant::{Meant, Method, Subject};
+use crate::refusal::refuse;
+use scc_base::{Code, Name, Place, Stop};
+use scc_bits::{Kind, Op, has_bits, is_small, range_kind, valid, width};
+use scc_plain_tree::{Base, PlainExprNode, PlainPart, PlainPick};
+use std::alloc::Global;
+
+/// The call of the language that a name is, None where it is none: the names of these calls have the first numbers.
+pub fn method_of(name: Name) -> Option<Method> {
+    use crate::meant::PortCall;
+    Some(match name.0 {
+        0 => Method::Read,
+        1 => Method::Port(PortCall::Write),
+        2 => Method::Port(PortCall::Bind),
+        3 => Method::Port(PortCall::Pos),
+        4 => Method::Port(PortCall::Neg),
+        5 => Method::Range,
+        6 => Method::AndReduce,
+        7 => Method::OrReduce,
+        8 => Method::XorReduce,
+        9 => Method::ToInt,
+        10 => Method::ToUint,
+        11 => Method::ToInt64,
+        12 => Method::ToUint64,
+        _ => return None,
+    })
+}
+
+fn is_read(x: &Draft) -> bool {
+    matches!(x.expr.node.get(), PlainExprNode::Read(_))
+}
+
+// The kind of which bits can be picked.
+fn bits_of(of: &Subject) -> Option<Kind> {
+    let kind = match of {
+        Subject::Value(x) => {
+            if !is_read(x) {
+                return None;
+            }
+            x.expr.kind
+        }
+        Subject::Loc(l) => {
+            if !l.form.is_whole() || l.pick.is_some() {
+                return None;
+            }
+            l.form.value_kind()?
+        }
+    };
+    has_bits(kind).then_some(kind)
+}
+
+// Bits of a variable, which are a location, or of what a port or signal shows.
+fn picked(
+    alloc: Global,
+    of: Subject,
+    pick: PlainPick,
+    kind: Kind,
+    place: Place,
+) -> Result<Meant, Stop>
+    ensures stop { IfErr result MayStop }
+{
+    match of {
+        Subject::Loc(mut l) => {
+            if let Base::Number(_) = l.form.base {
+                l.left.pick = Some(pick);
+                l.pick = Some(kind);
+                return Ok(Meant::Loc(l));
+            }
+            let x = Subject::Loc(l).value(alloc, place)?;
+            Ok(Meant::Value(bits(alloc, place, kind, x, pick)?))
+        }
+        Subject::Value(x) => Ok(Meant::Value(bits(alloc, place, kind, x, pick)?)),
+    }
+}
+
+fn bit(alloc: Global, of: Subject, i: Draft, place: Place) -> Result<Meant, Stop>
+    ensures stop { IfErr result MayStop }
+{
+    match bits_of(&of) {
+        Some(_) => picked(alloc, of, PlainPick::Bit(i.expr), Kind::Bool, place),
+        None => refuse(Code::Mismatch, place),
+    }
+}
+
+// What an element of an array or a vector holds.
+fn inner_form(form: Form) -> Form {
+    if form.dims == 0 {
+        return Form::direct(form.base);
+    }
+    Form {
+        base: form.base,
+        reach: form.reach,
+        vector: form.vector,
+        dims: form.dims - 1,
+    }
+}
+
+fn element(l: Loc, i: Draft) -> Result<Loc, Stop>
+    ensures stop { IfErr result MayStop }
+{
+    let form = inner_form(l.form);
+    let mut left = l.left;
+    left.parts.push(PlainPart::Index(i.expr))?;
+    Ok(Loc::new(left, form))
+}
+
+/// `m[i]`: an element or a bit. Refuses by E304.
+pub fn indexed(alloc: Global, m: Meant, i: Draft, place: Place) -> Result<Meant, Stop>
+    ensures stop { IfErr result MayStop }
+{
+    if !is_small(i.expr.kind) {
+        return refuse(Code::Mismatch, place);
+    }
+    match m.subject() {
+        Some(Subject::Loc(l)) => {
+            if l.form.dims > 0 || l.form.vector && !l.form.is_pointer() {
+                return Ok(Meant::Loc(element(l, i)?));
+            }
+            bit(alloc, Subject::Loc(l), i, place)
+        }
+        Some(of) => bit(alloc, of, i, place),
+        None => refuse(Code::Mismatch, place),
+    }
+}
+
+// Bits h down to l of a kind.
+#[derive(Clone, Copy)]
+struct Range {
+    h: u32,
+    l: u32,
+    kind: Kind,
+}
+
+fn range_in(kind: Kind, h: Option<u32>, l: Option<u32>) -> Option<Range>
+    ensures order { IfSome result (λ r. (r.l ≤ r.h) × (r.h < width_of kind)) }
+{
+    let h = h?;
+    let l = l?;
+    if !valid(kind) || h < l || width(kind) <= h {
+        return None;
+    }
+    let kind = range_kind(kind, h, l)?;
+    Some(Range { h, l, kind })
+}
+
+/// Bits h down to l, of which a negative number is None. Refuses by E304 and E312.
+pub fn ranged(
+    alloc: Global,
+    of: Subject,
+    h: Option<u32>,
+    l: Option<u32>,
+    place: Place,
+) -> Result<Meant, Stop>
+    ensures stop { IfErr result MayStop }
+{
+    let Some(kind) = bits_of(&of) else {
+        return refuse(Code::Mismatch, place);
+    };
+    match range_in(kind, h, l) {
+        Some(r) => picked(
+            alloc,
+            of,
+            PlainPick::Range { h: r.h, l: r.l },
+            r.kind,
+            place,
+        ),
+        None => refuse(Code::RangeOrder, place),
+    }
+}
+
+fn native(bits: u8, signed: bool) -> Kind {
+    Kind::Native { bits, signed }
+}
+
+fn is_port(of: &Subject) -> bool {
+    match of {
+        Subject::Loc(l) => l.form.port_kind().is_some(),
+        Subject::Value(_) => false,
+    }
+}
+
+/// A call of the language without arguments that gives a value. Refuses by E304.
+pub fn answered(alloc: Global, method: Method, of: Subject, place: Place) -> Result<Draft, Stop>
+    ensures stop { IfErr result MayStop }
+{
+    let is_port = is_port(&of);
+    let x = of.value(alloc, place)?;
+    if method == Method::Read {
+        if is_port {
+            return Ok(x);
+        }
+        return refuse(Code::Mismatch, place);
+    }
+    if !has_bits(x.expr.kind) {
+        return refuse(Code::Mismatch, place);
+    }
+    match method {
+        Method::AndReduce => operate_one(alloc, place, Op::AndReduce, x),
+        Method::OrReduce => operate_one(alloc, place, Op::OrReduce, x),
+        Method::XorReduce => operate_one(alloc, place, Op::XorReduce, x),
+        Method::ToInt => convert(alloc, x, native(32, true)),
+        Method::ToUint => convert(alloc, x, native(32, false)),
+        Method::ToInt64 => convert(alloc, x, native(64, true)),
+        Method::ToUint64 => convert(alloc, x, native(64, false)),
+        Method::Read | Method::Port(_) | Method::Range => refuse(Code::Mismatch, place),
+    }
+}

@@ -1,0 +1,8 @@
+use Rattle.std.proofs.Common.{◌≡◌, map, drop}
+use Rattle.scc_plain_places.specs.Expressions.{any}
+use Rattle.scc_plain_places.specs.Items as spec
+use Rattle.scc_plain_places.proofs.items.in_prms.Given as goal
+
+abbrev pub invariant-loop-x : goal.invariant-loop-x
+invariant-loop-x l =
+    any (map spec.prm (drop l.x-index l.list)) l.place ≡ any (map spec.prm l.list) l.place

@@ -1,9 +1,0 @@
-//! How designs run, for the whole source language: definitions that other crates cite, each cited here by a law.
-#![tactic(auto)]
-
-mod laws;
-
-pub use laws::{
-    a_design_without_processes_shows_its_ports, nothing_differs_from_nothing,
-    nothing_is_shown_alike,
-};

@@ -1,0 +1,16 @@
+pub mod Location
+pub mod Places
+pub mod Store
+pub mod Expressions
+pub mod Scene
+pub mod Body
+pub mod Value
+pub mod Machine
+pub mod Design
+pub mod Process
+pub mod Run
+pub mod Start
+pub mod Same
+pub mod Schedule
+pub mod Statement
+pub mod Steady

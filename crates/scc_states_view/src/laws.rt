@@ -1,0 +1,54 @@
+//! Laws on what passes answer.
+ghost use Rattle.std.specs.Prelude.{◌≡◌, ℕ, ◌+◌, true, false, List, [], ◌∷◌, map, unwrap_or, slice_get, Result, Ok, Err, Some, None};
+ghost use Rattle.scc_base.specs.declared.refusal.Place.{Place};
+ghost use Rattle.scc_base.specs.declared.refusal.Refusal.{Refusal};
+ghost use Rattle.scc_base.specs.declared.refusal.Stop.TheVariants as stop;
+ghost use Rattle.scc_core.specs.declared.stmt.CoreStmt.{CoreStmt};
+ghost use Rattle.scc_core.specs.declared.expr.CoreExpr.{CoreExpr};
+ghost use Rattle.scc_states.specs.declared.types.SegStmt.{SegStmt};
+ghost use Rattle.scc_states.specs.declared.types.SegNode.TheVariants as node;
+ghost use Rattle.scc_core_spec.specs.Resolved.{Made, Stopped, made_map};
+ghost use Rattle.scc_core_spec.specs.Segments.{Segment, Plain, Test, Halt};
+ghost use Rattle.scc_core_spec.specs.Static.{Cells};
+ghost use Rattle.scc_core_spec.specs.Unpointed.{unpointed};
+ghost use Rattle.scc_core_spec.specs.Worked.{pointer_cells, through};
+ghost use Rattle.scc_core_spec.specs.WorkedRun.{counting};
+ghost use Rattle.scc_core_view.specs.Codes.{code_of};
+ghost use Rattle.scc_core_view.specs.Kinded.{kinded, kinded_code};
+ghost use Rattle.scc_core_view.specs.Terms.{term_of};
+ghost use Rattle.scc_states_view.specs.Answers.{Answers, said_by, unless};
+ghost use Rattle.scc_states_view.specs.IsResolved.{IsResolved, is_resolved_code};
+ghost use Rattle.scc_states_view.specs.IsSplit.{IsSplit};
+ghost use Rattle.scc_states_view.specs.Segments.{before, stmt_segment};
+ghost use Rattle.scc_states_view.specs.Worked.{waiting, waiting_split};
+
+/// The counting thread is resolved. What lies behind a pointer isn't, and its object is.
+pub fn the_counting_thread_is_resolved()
+    ensures counting { IsResolved counting }
+    ensures behind { is_resolved_code (through 0) ≡ false }
+    ensures object { made_map is_resolved_code (unpointed (record { cells = pointer_cells; vectors = []; local = λ n. None }) (through 0)) ≡ Made true }
+{}
+
+/// A statement of a segment stands before what follows it, a test with that behind each branch; a wait ends the segment.
+pub fn statements_are_segments()
+    ensures plain { (cs : Cells) (waits : List ℕ) (p : Place) (s : CoreStmt) (rest : Segment) →
+        stmt_segment cs waits (record { place = p; node = node.Plain s }) rest ≡ Plain (kinded_code cs (code_of (s ∷ []))) rest }
+    ensures test { (cs : Cells) (waits : List ℕ) (p : Place) (t : CoreExpr) (a b : List SegStmt) (rest : Segment) →
+        stmt_segment cs waits (record { place = p; node = node.If t a b }) rest
+        ≡ Test p (kinded cs (term_of t)) (before (map (stmt_segment cs waits) a) rest) (before (map (stmt_segment cs waits) b) rest) }
+    ensures wait { (cs : Cells) (waits : List ℕ) (p : Place) (n : ℕ) (rest : Segment) →
+        stmt_segment cs waits (record { place = p; node = node.Wait n }) rest ≡ Halt p n (unwrap_or (slice_get waits n) 0) }
+{}
+
+/// A thread that waits for one edge, and then for two, again and again.
+pub fn a_waiting_thread_is_split()
+    ensures { IsSplit waiting 0 waiting_split }
+{}
+
+/// What is given is the definition's, what is refused is refused by it, and want of memory tells nothing.
+pub fn a_call_answers_its_definition()
+    ensures given { Answers (λ n. n + 1) (said_by (Made 3)) (Ok 2) }
+    ensures refused { (r : Refusal) → Answers (λ n. n + 1) (said_by (Stopped r)) (Err (stop.Refused r)) }
+    ensures first { (r : Refusal) → Answers (λ n. n + 1) (unless (Some r) 3) (Err (stop.Refused r)) }
+    ensures memory { (o : Result ℕ Refusal) → Answers (λ n. n + 1) o (Err stop.NoMemory) }
+{}

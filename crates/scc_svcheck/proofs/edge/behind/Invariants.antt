@@ -1,6 +1,0 @@
-use Rattle.std.proofs.Common.{◌≡◌, drop}
-use Rattle.scc_svcheck.specs.Drivers.{behind}
-use Rattle.scc_svcheck.proofs.edge.behind.Given as goal
-
-abbrev pub invariant-loop-i : goal.invariant-loop-i
-invariant-loop-i l = behind l.name (drop l.i l.list) ≡ behind l.name l.list

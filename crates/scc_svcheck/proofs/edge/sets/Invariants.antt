@@ -1,6 +1,0 @@
-use Rattle.std.proofs.Common.{◌≡◌, [], drop}
-use Rattle.scc_svcheck.specs.Drivers.{sets_names}
-use Rattle.scc_svcheck.proofs.edge.sets.Given as goal
-
-abbrev pub invariant-loop-s : goal.invariant-loop-s
-invariant-loop-s l = sets_names l.f l.taken l.before (drop l.s-index l.list) l.n l.walk ≡ sets_names l.f l.taken [] l.list l.n l.fn.w

@@ -1,6 +1,0 @@
-use Rattle.std.proofs.Common.{◌≡◌, drop}
-use Rattle.scc_svcheck.specs.Scope.{declare_all}
-use Rattle.scc_svcheck.proofs.first.declare_ports.Given as goal
-
-abbrev pub invariant-loop-v : goal.invariant-loop-v
-invariant-loop-v l = declare_all l.names (drop l.v-index l.list) ≡ declare_all l.initial.names l.list

@@ -1,6 +1,0 @@
-use Rattle.std.proofs.Common.{◌≡◌, map, drop}
-use Rattle.scc_svcheck.specs.Mentioned.{each, item_read}
-use Rattle.scc_svcheck.proofs.mentioned.items_read.Given as goal
-
-abbrev pub invariant-loop-i : goal.invariant-loop-i
-invariant-loop-i l = each (map item_read (drop l.i-index l.list)) l.found ≡ each (map item_read l.list) l.initial.found

@@ -1,6 +1,0 @@
-use Rattle.std.proofs.Common.{◌≡◌, map, drop}
-use Rattle.scc_svcheck.specs.Mentioned.{each, load_assigned}
-use Rattle.scc_svcheck.proofs.mentioned.loads_assign.Given as goal
-
-abbrev pub invariant-loop-l : goal.invariant-loop-l
-invariant-loop-l l = each (map load_assigned (drop l.l-index l.list)) l.found ≡ each (map load_assigned l.list) l.initial.found

@@ -1,7 +1,0 @@
-use Rattle.std.proofs.Common.{◌≡◌, ◌≤◌, min, drop}
-use Rattle.scc_svgrammar.specs.Lexical.{number, number_from}
-use Rattle.scc_svcheck.specs.Scope.{greatest}
-use Rattle.scc_svcheck.proofs.number.decimal.Given as goal
-
-abbrev pub invariant-loop-b : goal.invariant-loop-b
-invariant-loop-b l = (min (number_from l.n (drop l.b-index l.digits)) greatest ≡ min (number l.digits) greatest) × (l.n ≤ greatest)

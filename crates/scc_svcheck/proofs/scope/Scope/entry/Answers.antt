@@ -1,9 +1,0 @@
-use Rattle.std.proofs.Common.{sym, ◌∙◌, ap}
-use Rattle.scc_svcheck.specs.Scope.{entry_of}
-use Rattle.scc_svcheck.proofs.Scopes.{entry_seen}
-use Rattle.scc_svcheck.proofs.scope.Scope.entry.Goals as goal
-
-pub returns : goal.returns
-returns c =
-    c.copied.ensures ∙ c.get.ensures.value ∙ sym (entry_seen (λ k. k.items) c.args.name.now c.self.inside.highs.entries)
-    ∙ ap (λ s. entry_of s c.args.name.now) c.self.view_is

@@ -1,6 +1,0 @@
-use Rattle.std.proofs.Common.{◌≡◌, ◌++◌, drop}
-use Rattle.scc_svorder.specs.Fed.{needs_of}
-use Rattle.scc_svorder.proofs.feeds.needs_of.Given as goal
-
-abbrev pub invariant-loop-v : goal.invariant-loop-v
-invariant-loop-v l = l.found ++ needs_of l.owners l.k (drop l.v-index l.list) ≡ needs_of l.owners l.k l.list

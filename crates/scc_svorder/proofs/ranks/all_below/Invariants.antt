@@ -1,7 +1,0 @@
-use Rattle.std.proofs.Common.{◌≡◌, ◌<◌, ℕ, true, take}
-use Rattle.std.specs.Prelude.{slice_index}
-use Rattle.scc_svorder.specs.Fed.{has}
-use Rattle.scc_svorder.proofs.ranks.all_below.Given as goal
-
-abbrev pub invariant-loop-j : goal.invariant-loop-j
-invariant-loop-j l = (i : ℕ) → has (take l.j-index l.list) i ≡ true → slice_index l.rank i < l.top

@@ -1,5 +1,0 @@
-use Rattle.std.proofs.Common.{length}
-use Rattle.scc_svrawexpressions.proofs.bytes.+text.Given as goal
-
-abbrev pub decreases-text : goal.decreases-text
-decreases-text l = length l.word.now

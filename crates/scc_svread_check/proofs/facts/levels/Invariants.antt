@@ -1,0 +1,7 @@
+use Rattle.std.proofs.Common.{◌≡◌, map, drop}
+use Rattle.scc_svread_check.specs.Mentioned.{each}
+use Rattle.scc_svread_check.specs.Drivers.{level_of}
+use Rattle.scc_svread_check.proofs.facts.levels.Given as goal
+
+abbrev pub invariant-loop-v : goal.invariant-loop-v
+invariant-loop-v l = each (map level_of (drop l.v-index l.list)) l.found ≡ each (map level_of l.list) l.initial.found

@@ -1,0 +1,11 @@
+use Rattle.std.proofs.Common.{arith}
+use Rattle.scc_svread_grammar.proofs.Lengths.{number_step, number_end}
+use Rattle.scc_svread_check.specs.Scope.{greatest}
+use Rattle.scc_svread_check.proofs.number.decimal.Goals as goal
+
+pub loop-b-preserved : goal.loop-b-preserved
+loop-b-preserved c =
+    (number_step greatest c.loop-b.n c.loop-b.b-index c.with_digit-n.result _ c.args.digits.now c.loop-b-test.true c.with_digit-n.ensures c.loop-b.invariant.0, omega (arith, c.with_digit-n.type_inv))
+
+pub returns : goal.returns
+returns c = number_end greatest c.loop-b.n c.loop-b.b-index _ c.args.digits.now c.loop-b-test.false c.loop-b.invariant.1 c.loop-b.invariant.0

@@ -1,0 +1,5 @@
+use Rattle.scc_svread_grammar.proofs.Whole.{one_module}
+use Rattle.scc_svread_grammar.proofs.laws.a_text_is_one_module.Goals as goal
+
+pub returns : goal.returns
+returns c = one_module

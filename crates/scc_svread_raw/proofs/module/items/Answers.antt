@@ -1,0 +1,21 @@
+use Rattle.std.proofs.Common.{◌∙◌, sym}
+use Rattle.std.proofs.lemmas.Result.{err_from_is_err_and}
+use Rattle.scc_svread_grammar.specs.Reader.{items}
+use Rattle.scc_svread_expressions.proofs.Turns.{turns_items}
+use Rattle.scc_svread_raw.proofs.module.items.Goals as goal
+
+pub returns-in_err-next : goal.returns-in_err-next
+unfolding items
+returns-in_err-next c =
+    let p = err_from_is_err_and c.from_residual.result c.from_residual.ensures.1 in
+    rw (p.1, p.2) ((turns_items c.args.levels).fails c.in_err-next.field-0.0 c.loop-alloc.found c.loop-alloc.begun c.loop-alloc.rest.now _ (sym c.is_next.ensures ∙ c.loop-alloc-test.true) c.in_err-next.ensures c.loop-alloc.invariant)
+
+pub loop-alloc-smaller : goal.loop-alloc-smaller
+loop-alloc-smaller c = (turns_items c.args.levels).shorter c.loop-alloc.begun c.loop-alloc.rest.now c.in_ok-next.next c.in_ok-next.now c.in_ok-next.after.now c.in_ok-next.ensures
+
+pub loop-alloc-preserved : goal.loop-alloc-preserved
+loop-alloc-preserved c = rw c.in_ok-push.ensures.ok ((turns_items c.args.levels).turn c.loop-alloc.found c.loop-alloc.begun c.loop-alloc.rest.now c.in_ok-next.next c.in_ok-next.now c.in_ok-next.after.now _ (sym c.is_next.ensures ∙ c.loop-alloc-test.true) c.in_ok-next.ensures c.loop-alloc.invariant)
+
+pub returns : goal.returns
+unfolding items
+returns c = (turns_items c.args.levels).stops c.loop-alloc.found c.loop-alloc.begun c.loop-alloc.rest.now _ (sym c.is_next.ensures ∙ c.loop-alloc-test.false) c.loop-alloc.invariant

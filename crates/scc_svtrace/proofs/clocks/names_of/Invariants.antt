@@ -1,6 +1,0 @@
-use Rattle.std.proofs.Common.{◌≡◌, ◌++◌, drop}
-use Rattle.scc_svtrace.specs.Clocked as clocked
-use Rattle.scc_svtrace.proofs.clocks.names_of.Given as goal
-
-abbrev pub invariant-loop-v : goal.invariant-loop-v
-invariant-loop-v l = l.list ++ clocked.names_at l.m.vars (drop l.v-index l.vars) ≡ clocked.names_at l.m.vars l.vars

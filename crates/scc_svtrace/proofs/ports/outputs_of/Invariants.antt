@@ -1,6 +1,0 @@
-use Rattle.std.proofs.Common.{◌≡◌, ◌++◌, drop}
-use Rattle.scc_svtrace.specs.Ports as ports
-use Rattle.scc_svtrace.proofs.ports.outputs_of.Given as goal
-
-abbrev pub invariant-loop-n : goal.invariant-loop-n
-invariant-loop-n l = l.list ++ ports.outputs_from l.n (drop l.n l.vars) ≡ ports.outputs_from 0 l.vars

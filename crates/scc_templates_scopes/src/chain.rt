@@ -1,0 +1,115 @@
+//! The chain of instances under evaluation, which has a most (this project's profile).
+ghost use Rattle.std.specs.Prelude.{IfErr};
+ghost use Rattle.scc_templates_scopes.specs.Refusals.{MayStop};
+
+use crate::refuse::refuse;
+use crate::ty::InstanceId;
+use scc_base::{Code, Place, Stop};
+
+/// The most members of a chain.
+pub const CHAIN: u32 = 64;
+
+/// The members so far: instances whose constants are evaluated, and templates whose defaults are. An instance is no
+/// further member directly behind itself.
+#[derive(Clone, Copy)]
+pub struct Chain {
+    length: u32,
+    last: Option<InstanceId>,
+}
+
+/// How many members an evaluation adds to a chain at most, and the first of them, where all that reach so far begin with
+/// one instance. Behind that instance it is one less.
+#[derive(Clone, Copy)]
+pub struct Reach {
+    most: u32,
+    first: Option<InstanceId>,
+}
+
+impl Chain {
+    pub fn new() -> Chain {
+        Chain {
+            length: 0,
+            last: None,
+        }
+    }
+
+    fn longer(self, last: Option<InstanceId>, at: Place) -> Result<Chain, Stop>
+        ensures stop { IfErr result MayStop }
+    {
+        if self.length >= CHAIN {
+            return refuse(Code::TemplateDepth, at);
+        }
+        let length = self.length + 1;
+        Ok(Chain { length, last })
+    }
+
+    /// The chain behind which an instance stands.
+    pub fn with(self, i: InstanceId, at: Place) -> Result<Chain, Stop>
+        ensures stop { IfErr result MayStop }
+    {
+        if self.last == Some(i) {
+            return Ok(self);
+        }
+        self.longer(Some(i), at)
+    }
+
+    /// The chain behind which a template stands whose defaults are worked out.
+    pub fn filling(self, at: Place) -> Result<Chain, Stop>
+        ensures stop { IfErr result MayStop }
+    {
+        self.longer(None, at)
+    }
+
+    /// Whether there is room for what an evaluation adds.
+    pub fn holds(self, reach: Reach) -> bool {
+        match self.length.checked_add(reach.behind(self.last)) {
+            Some(length) => length <= CHAIN,
+            None => false,
+        }
+    }
+}
+
+impl Reach {
+    pub fn new() -> Reach {
+        Reach {
+            most: 0,
+            first: None,
+        }
+    }
+
+    // What it adds behind a member.
+    fn behind(self, last: Option<InstanceId>) -> u32 {
+        if self.first.is_some() && self.first == last {
+            self.most.saturating_sub(1)
+        } else {
+            self.most
+        }
+    }
+
+    /// What a member adds in which this is evaluated; a template has no number.
+    pub fn of(self, member: Option<InstanceId>) -> Reach {
+        Reach {
+            most: self.behind(member).saturating_add(1),
+            first: member,
+        }
+    }
+
+    /// What both add.
+    pub fn or(self, other: Reach) -> Reach {
+        if other.most < self.most {
+            return self;
+        }
+        if self.most < other.most {
+            return other;
+        }
+        let first = if self.first == other.first {
+            self.first
+        } else {
+            None
+        };
+        Reach {
+            most: self.most,
+            first,
+        }
+    }
+}

@@ -1,0 +1,15 @@
+pub mod Tree
+pub mod Replace
+pub mod Statements
+pub mod ReplaceBody
+pub mod Source
+pub mod View
+pub mod StatementView
+pub mod SourceView
+pub mod Twice
+pub mod WorkedSource
+pub mod Walk
+pub mod Walked
+pub mod World
+pub mod Stage
+pub mod Worked

@@ -1,8 +1,0 @@
-use Rattle.std.proofs.Common.{◌≡◌, map, drop}
-use Rattle.scc_treeplaces.specs.Expressions.{any}
-use Rattle.scc_treeplaces.specs.Items as spec
-use Rattle.scc_treeplaces.proofs.items.in_enumerators.Given as goal
-
-abbrev pub invariant-loop-x : goal.invariant-loop-x
-invariant-loop-x l =
-    any (map spec.enumerator (drop l.x-index l.list)) l.place ≡ any (map spec.enumerator l.list) l.place
