@@ -15,7 +15,7 @@ use scc_plain_drafts::join::Joining;
 use scc_plain_drafts::meant::Meant;
 use scc_plain_drafts::pick::{answered, indexed};
 use scc_plain_drafts::refusal::refuse;
-use scc_plain_drafts::syntax::{is_lazy, is_text, made_args, operator_of};
+use scc_plain_drafts::syntax::{is_lazy, is_text, made_args, operator_of, operator_on};
 use scc_plain_drafts::target::is_zero;
 use scc_plain_tree::{Base, PlainArg, PlainTarget, Reach};
 use scc_templates::TypeOf;
@@ -52,7 +52,7 @@ impl Walk {
             }
             ExprNode::Unary { op, of } => {
                 let m = self.meant(of, tree, flow, b)?;
-                self.unary(m, *op, of.place, place, b)
+                self.unary(m, *op, of, place, b)
             }
             ExprNode::Cond { test, yes, no } => {
                 let x = self.value(test, tree, flow, b)?;
@@ -131,11 +131,12 @@ impl Walk {
         Ok(Meant::Value(choose(self.alloc, place, test, yes, no)?))
     }
 
-    fn unary(&self, m: Meant, op: UnaryOp, of: Place, place: Place, b: &Body) -> Result<Meant, Stop>
+    fn unary(&self, m: Meant, op: UnaryOp, of: &Expr, place: Place, b: &Body) -> Result<Meant, Stop>
         ensures stop { IfErr result MayStop }
     {
         if let Some(op) = operator_of(op) {
-            let x = m.value(self.alloc, of)?;
+            let x = m.value(self.alloc, of.place)?;
+            let op = operator_on(op, of, &x);
             return Ok(Meant::Value(operate_one(self.alloc, place, op, x)?));
         }
         if op == UnaryOp::Deref {

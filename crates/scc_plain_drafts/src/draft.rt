@@ -17,6 +17,17 @@ pub struct Draft {
     pub place: Place,
 }
 
+impl Draft {
+    /// Whether it is one bit that an index picks.
+    pub fn is_bit(&self) -> bool {
+        match self.expr.node.get() {
+            PlainExprNode::Load(left) => matches!(left.pick, Some(PlainPick::Bit(_))),
+            PlainExprNode::Pick { pick, .. } => matches!(pick, PlainPick::Bit(_)),
+            _ => false,
+        }
+    }
+}
+
 pub fn made(
     alloc: Global,
     place: Place,

@@ -1,4 +1,5 @@
 //! What the tree of an expression shows.
+use crate::draft::Draft;
 use scc_bits::Op;
 use scc_tree::{Expr, ExprNode, PartNode, UnaryOp};
 
@@ -11,6 +12,15 @@ pub fn operator_of(op: UnaryOp) -> Option<Op> {
         UnaryOp::Not => Some(Op::Not),
         UnaryOp::Deref | UnaryOp::Address => None,
     }
+}
+
+/// The operator before an operand of that value. `~` of a bit-select is its complement, a `bool` (IEEE 1666-2011, 7.2.5), as
+/// `!` is; every other `bool` is promoted (C++, [expr.unary.op]), also what a cast makes of a bit.
+pub fn operator_on(op: Op, of: &Expr, x: &Draft) -> Op {
+    if op == Op::Not && x.is_bit() && matches!(of.node.get(), ExprNode::Parts { .. }) {
+        return Op::LogNot;
+    }
+    op
 }
 
 /// Whether the right operand isn't always evaluated (C++, [expr.log.and], [expr.log.or]).

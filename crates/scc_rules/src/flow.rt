@@ -307,12 +307,12 @@ fn look(
     Ok(())
 }
 
+// Whether a location may name a cell that isn't written yet. Under an open index each element is asked by itself: of an
+// array that a process writes in part the others are constants.
 fn is_unwritten(watched: &Watched<'_>, here: &CellSet, named: &Named) -> bool {
-    if watched.early.get(named.base as usize) != Some(&true) {
-        return false;
-    }
     for number in 0..named.count() {
-        if !is_in(watched, here, named.cell(number)) {
+        let cell = named.cell(number);
+        if watched.early.get(cell as usize) == Some(&true) && !is_in(watched, here, cell) {
             return true;
         }
     }
