@@ -6,7 +6,8 @@
 # shipped example, and where a command fails. Tools that aren't installed are left out.
 set -euo pipefail
 cd "$(dirname "$0")/.."
-[[ -n ${SCC:-} ]] || ./scc compile And examples/and/and.cpp >/dev/null
+SCC=${SCC:-$(tools/scc --program)}
+export SCC
 failed=0
 python3 bench/growth.py compile || failed=1
 python3 bench/compile.py || failed=1

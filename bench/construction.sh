@@ -3,5 +3,6 @@
 # Fails where twice the source takes more than 2.2 times as long. See growth.py.
 set -euo pipefail
 cd "$(dirname "$0")/.."
-[[ -n ${SCC:-} ]] || ./scc compile And examples/and/and.cpp >/dev/null
+SCC=${SCC:-$(tools/scc --program)}
+export SCC
 exec python3 bench/growth.py construction

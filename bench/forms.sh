@@ -5,5 +5,6 @@
 # printed. See growth.py.
 set -euo pipefail
 cd "$(dirname "$0")/.."
-[[ -n ${SCC:-} ]] || ./scc compile And examples/and/and.cpp >/dev/null
+SCC=${SCC:-$(tools/scc --program)}
+export SCC
 exec python3 bench/growth.py forms

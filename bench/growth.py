@@ -1,7 +1,8 @@
 #!/usr/bin/env python3
 """Prints how long `scc compile` takes on sources at half of a size and at the size, and its greatest memory.
 
-  growth.py STAGE [SHAPE ..]    STAGE: construction, middle, compile, forms (what the flags do)
+  growth.py STAGE [SHAPE ..]    STAGE: construction, middle, compile, forms (what the flags do), arrays (under an index, at all
+                                doublings from a small size on)
 
 The program is that of SCC, else crates/scc/out/scc. Fails where an answer is another than the shape's, or where
 twice the source takes more than 2.2 times as long (times under 20 milliseconds aren't compared), however often both
@@ -113,6 +114,11 @@ def memory(n):
     return clocked(f"  sc_uint<8> m[{n}];\n  sc_uint<16> i;", "q.write(m[i]); m[i] = a.read(); i = i + 1;")
 
 
+def array(body):
+    """An array of so many bytes, and a body that uses it under the indices i and j."""
+    return lambda n: clocked(f"  sc_in<sc_uint<16> > i, j;\n  sc_uint<8> m[{n}];", body)
+
+
 def clocks(n):
     return (f"{HEAD}SC_MODULE(T) {{\n" + repeated(n, "  sc_in<bool> c#;\n  sc_out<bool> q#;\n  bool m#;\n  void f#() { m# = !m#; q#.write(m#); }\n") +
             "  SC_CTOR(T) {\n" + repeated(n, "    SC_METHOD(f#); sensitive << c#.pos();\n") + "  }\n};\n")
@@ -144,10 +150,14 @@ FORMS = {
 }
 # the stimulus of those that want one
 STIMULI = {"hierarchy, svsim": "scc-stim 1\nports a\nstep 1\nstep 0\n", "cells, sim": all_clocks(), "cells, svsim": all_clocks()}
-# printed only: each clock's part of a design has all its cells, so the time grows with clocks times cells, which both grow here
-PRINTED = {"clocks"}
+# printed only: each clock's part of a design has all its cells, so the time grows with clocks times cells, which both grow here; a
+# statement that writes an element under an index has its value once for each element, so a read under an index in it is as often in
+# the text as there are elements
+PRINTED = {"clocks", "written, read in one statement"}
 # measured at a quarter of the size, too
 QUARTERED = {"generated stages"}
+# the least size of those that are measured at all doublings
+LEAST = {"arrays": 512}
 
 # for each stage: name, the source of a size, the size, the module's name, the code of the refusal or None
 SHAPES = {
@@ -162,7 +172,22 @@ SHAPES = {
     "forms": [("hierarchy", modules, 10000, "T", None), ("hierarchy, svsim", modules, 10000, "T", None),
               ("memory", memory, 65000, "T", None), ("clocks", clocks, CLOCKS, "T", None), ("cells", cells, 4096, "T", None),
               ("cells, sim", cells, 4096, "T", None), ("cells, svsim", cells, 4096, "T", None)],
+    "arrays": [("read", array("q.write(m[i.read()]);\nm[0] = a.read();"), 65000, "T", None),
+               ("written", array("m[i.read()] = a.read();\nq.write(m[0]);"), 65000, "T", None),
+               ("read and written", array("q.write(m[i.read()]);\nm[j.read()] = a.read();"), 65000, "T", None),
+               ("read, then written", array("sc_uint<8> x = m[i.read()];\nm[j.read()] = x;\nq.write(m[0]);"), 65000, "T", None),
+               ("written, read in one statement", array("m[j.read()] = m[i.read()];\nq.write(m[0]);"), 512, "T", None)],
 }
+
+
+def sizes(stage, name, size):
+    """The sizes at which a shape is measured, each about twice the one before."""
+    if stage not in LEAST:
+        return (size // 4, size // 2, size) if name in QUARTERED else (size // 2, size)
+    found = [size]
+    while found[0] // 2 >= min(LEAST[stage], size // 4):
+        found.insert(0, found[0] // 2)
+    return found
 
 
 # Starts a command without its output, and writes its status, its seconds and its kilobytes. Linux begins the greatest memory
@@ -240,7 +265,7 @@ def main():
             if wanted and name not in wanted:
                 continue
             half = None
-            for n in (size // 4, size // 2, size) if name in QUARTERED else (size // 2, size):
+            for n in sizes(stage, name, size):
                 home = pathlib.Path(folder, str(n))
                 home.mkdir(exist_ok=True)
                 words = prepared(stage, name, top, source(n), home)
@@ -251,7 +276,7 @@ def main():
                     if half is not None and name not in PRINTED and is_steep(half, now):
                         for one in (half, now):
                             one[2] = min(one[2], measured(one[0], one[1])[2])
-                print(f"{name:<20} {n:>7} {now[2] * 1000:>9.1f} ms {memory:>8} KB", flush=True)
+                print(f"{name:<30} {n:>7} {now[2] * 1000:>9.1f} ms {memory:>8} KB", flush=True)
                 right = status == 0 if code is None else status == 1 and f" {code} " in said
                 if not right:
                     print(f"{name}: status {status}: {said[:200].strip()}")

@@ -4,5 +4,4 @@
 # fails, and where `gen 1000` writes another line than it should.
 set -euo pipefail
 cd "$(dirname "$0")/.."
-[[ -n ${SCC:-} ]] || ./scc compile And examples/and/and.cpp >/dev/null
-exec python3 bench/run.py "${SCC:-crates/scc/out/scc}"
+exec python3 bench/run.py "${SCC:-$(tools/scc --program)}"

@@ -3,7 +3,7 @@
 # on thin texts of 250, 500 and 1,000 ports, whose cost is to grow with their length.
 set -euo pipefail
 cd "$(dirname "$0")/.."
-[[ -n ${SCC:-} ]] || ./scc compile And examples/and/and.cpp >/dev/null
+program=${SCC:-$(tools/scc --program)}
 work=$(mktemp -d)
 trap 'rm -rf "$work"' EXIT
 
@@ -35,7 +35,6 @@ timed() {
   printf '%-28s %5d.%02d ms\n' "$name" $((best / 1000)) $((best % 1000 / 10))
 }
 
-program=${SCC:-crates/scc/out/scc}
 timed 'true' /bin/true
 [[ -n ${SCC:-} ]] || timed './scc compile And' ./scc compile And examples/and/and.cpp
 timed 'the program itself' "$program" compile And examples/and/and.cpp

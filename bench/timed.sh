@@ -1,7 +1,6 @@
 # What the benches that time `scc compile` share; they read it by `source` at the top of the repository. The program is that of SCC,
 # else the one that ./scc builds.
-[[ -n ${SCC:-} ]] || ./scc compile And examples/and/and.cpp >/dev/null
-program=${SCC:-crates/scc/out/scc}
+program=${SCC:-$(tools/scc --program)}
 work=$(mktemp -d)
 trap 'rm -rf "$work"' EXIT
 

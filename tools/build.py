@@ -1,5 +1,5 @@
 #!/usr/bin/env python3
-"""Proves the compiler and the libraries that it stands on, several side by side, and builds it. ./scc calls it.
+"""Proves the compiler and the libraries that it stands on, several side by side, and builds it. ./scc runs what it made.
 
   tools/build.py
 
@@ -28,6 +28,8 @@ TOP = Path(__file__).resolve().parent.parent
 PROGRAM = "scc"
 # The merge gate leaves this part of a crate's `out` as it was.
 BUILT = TOP / "crates" / PROGRAM / "out" / "rlib"
+# what ./scc starts, where it is newer than the sources
+PROVED = TOP / "crates" / PROGRAM / "out" / PROGRAM
 # The memory in bytes that a check takes at most, as seen for the crates of this repository.
 MEMORY_OF_A_CHECK = 4 << 30
 
@@ -49,6 +51,14 @@ class Kit:
 
     def library(self, name):
         return self.top / "rlibs" / f"{name}.rlib"
+
+    def link(self, object_file, program):
+        """Makes the program; answers the linker's status, and prints what it said where that isn't 0."""
+        words = ["--target", "x86_64-unknown-linux-gnu", "--toolchain", f"{self.top}/toolchain", "-o", program, object_file]
+        libraries = [self.top / "c" / "libos_c.a", self.top / "c" / "liblibc_c.a"]
+        run = subprocess.run([self.top / "bin" / "rattle-link", *words, *libraries], capture_output=True, text=True, errors="replace")
+        print(run.stderr if run.returncode else "", file=sys.stderr, end="")
+        return run.returncode
 
 
 def crates_below(name):
@@ -121,11 +131,6 @@ class Build:
         words += ["--toolchain", f"{kit.top}/toolchain", "--backend", "llvm"] if is_program else ["--statements"]
         return [*words, "--jobs", str(jobs), "-o", str(product)]
 
-    def link(self, object_file, program):
-        kit = self.kit.top
-        words = ["--target", "x86_64-unknown-linux-gnu", "--toolchain", f"{kit}/toolchain", "-o", program, object_file]
-        return subprocess.run([kit / "bin" / "rattle-link", *words, kit / "c" / "libos_c.a", kit / "c" / "liblibc_c.a"]).returncode
-
     def begin(self, folder):
         """Begins what can begin. Where fewer checks than processors can run, each gets several."""
         ready = [it for it in self.left if self.built.issuperset(self.own(it))]
@@ -146,7 +151,7 @@ class Build:
         minutes, product, status = (time.monotonic() - since) / 60, self.product(crate), check.wait()
         if not status and crate == PROGRAM:
             linked = made.with_suffix(".linked")
-            status, made = self.link(made, linked), linked
+            status, made = self.kit.link(made, linked), linked
         if status == -signal.SIGKILL and crate not in self.alone:
             # most likely for want of memory
             self.alone.add(crate)
@@ -186,7 +191,7 @@ class Build:
     def hand_out(self, folder):
         """Copies the program to where ./scc starts it: the merge gate replaces what is there."""
         shutil.copy(self.product(PROGRAM), Path(folder, PROGRAM))
-        Path(folder, PROGRAM).replace(BUILT.parent / PROGRAM)
+        Path(folder, PROGRAM).replace(PROVED)
 
 
 def free_memory():

@@ -9,12 +9,14 @@ What is looked at:
 - a word `NAME.rt` in backticks is a file of the crate of the heading, or of any crate where the heading names none;
 - below a heading of a crate, names in round brackets, as (`ok`, `err`), are clauses or public functions of it;
 - a path in backticks that begins with a folder of the repository, but what is built, below `out`;
-- the table of docs/ARCHITECTURE.md has a row for each crate of crates.txt.
+- the table of docs/ARCHITECTURE.md has a row for each crate of crates.txt;
+- docs/MAP.md is what tools/map.py writes.
 Lines of tables and of code aren't measured. The status is 1 where something is wrong.
 """
 import functools
 import os
 import re
+import subprocess
 import sys
 from pathlib import Path
 
@@ -110,12 +112,17 @@ def crates_without_row():
         yield f"{page.relative_to(REPOSITORY)}: no row for {crate}"
 
 
+def map_faults():
+    made = subprocess.run([REPOSITORY / "tools" / "map.py", "--check"], capture_output=True, text=True)
+    return made.stderr.splitlines()
+
+
 def main():
     names = [Path(n).resolve() for n in sys.argv[1:]]
     documents = names or [*REPOSITORY.glob("*.md"), *sorted((REPOSITORY / "docs").rglob("*.md")),
                           *sorted((REPOSITORY / "examples").rglob("*.md"))]
     faults = [fault for document in documents for fault in faults_of(document)]
-    faults += [] if names else crates_without_row()
+    faults += [] if names else [*crates_without_row(), *map_faults()]
     for fault in faults:
         print(fault)
     print(f"{len(documents)} documents, {len(faults)} faults")

@@ -8,11 +8,8 @@
 #   SCC names another program: SCC=/usr/local/bin/scc tools/lint.sh
 set -u
 top=$(cd "$(dirname "$0")/.." && pwd)
-scc=${SCC:-$top/scc}
-if [ -z "${SCC:-}" ] && [ ! -x "$top/crates/scc/out/scc" ]; then
-  echo "the compiler isn't built: run ./scc (README.md says how long it takes), or name one by SCC" >&2
-  exit 2
-fi
+scc=${SCC:-$("$top/tools/scc" --program)}
+[ -n "$scc" ] || exit 2
 expected_always='UNUSEDSIGNAL|CASEINCOMPLETE'
 expected_of_icarus='constant selects in always_|process has no sensitivities'
 expected_of_yosys='Replacing memory .* with list of registers'
@@ -55,8 +52,10 @@ lint_icarus() {
   fi
 }
 
+# it is given the text that Yosys 0.23 reads too
 lint_yosys() {
-  if yosys -q -p "read_verilog -sv $1; hierarchy -check -auto-top; proc; check -assert
+  "$top/tools/portable.py" "$1" >"$folder/portable.sv"
+  if yosys -q -p "read_verilog -sv $folder/portable.sv; hierarchy -check -auto-top; proc; check -assert
       select -assert-none t:\$dlatch t:\$adlatch t:\$dlatchsr t:\$sr" >"$folder/output" 2>&1; then
     grep -vE "$expected_of_yosys" "$folder/output" >"$folder/said"
     registers=$(grep -cE "$expected_of_yosys" "$folder/output")

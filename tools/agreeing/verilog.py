@@ -1,9 +1,10 @@
 """A testbench in SystemVerilog that runs a stimulus and writes the trace that `scc sim` writes."""
 
 
-def testbench(module, stimulus, registers_are_named=True):
-    """For Icarus and Verilator. Where registers are named, they begin as 0, as those of `scc svsim` do."""
-    lines = ["`timescale 1ns/1ns", "module testbench;"]
+def testbench(module, stimulus, registers_are_named=True, name="testbench", start=None):
+    """For Icarus and Verilator. Where registers are named, they begin as 0, as those of `scc svsim` do. With a start, it begins
+    then, and another module ends the run."""
+    lines = ["`timescale 1ns/1ns", f"module {name};"]
     for p in module.ports:
         kind = "reg" if p.is_input else "wire"
         lines.append(f"  {kind} [{p.width - 1}:0] {p.spelling};")
@@ -14,6 +15,7 @@ def testbench(module, stimulus, registers_are_named=True):
         lines += [f"    dut.{register} = 0;" for register in module.registers]
         lines += ["`endif"]
     clocks = module.clocks_of(stimulus)
+    lines += [] if start is None else [f"    #{start};"]
     lines += [assigned(c, not c.rising) for c in clocks]
     # a reset that is active from the start has no edge, so it is inactive for a moment first
     lines += [assigned(r, not r.active) for r in module.resets]
@@ -32,8 +34,19 @@ def testbench(module, stimulus, registers_are_named=True):
             lines += ["    #1;", observation(module, f"{number}+")]
             lines += [assigned(c, not c.rising) for c in chosen]
             lines += ["    #1;"] if chosen else []
-    lines += ["    $finish;", "  end", "endmodule", ""]
-    return "\n".join(lines)
+    lines += ["    $finish;"] if start is None else []
+    return "\n".join([*lines, "  end", "endmodule", ""])
+
+
+def testbenches(designs):
+    """Of several modules with their stimuli, one after the other in one run: the text and the name of its top."""
+    texts, start = [], 1
+    for k, (module, stimulus) in enumerate(designs):
+        texts.append(testbench(module, stimulus, name=f"testbench_{k}", start=start))
+        start += 4 * len(stimulus.steps) + 4
+    made = [f"  testbench_{k} bench_{k}();" for k in range(len(designs))]
+    texts.append("\n".join(["module testbenches;", *made, f"  initial #{start} $finish;", "endmodule", ""]))
+    return "".join(texts), "testbenches"
 
 
 def assigned(port, level):
