@@ -3,3 +3,4 @@ pub mod Along
 pub mod Loops
 pub mod Names
 pub mod Numbers
+pub mod Chains

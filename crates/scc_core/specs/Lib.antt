@@ -1,4 +1,5 @@
 pub mod Passes
+pub mod Copies
 pub mod Known
 pub mod Names
 pub mod Numbers

@@ -1,6 +1,10 @@
 //! Copies, in which counters may stand as literals. First operands and pointers in one another are as many as a source is
 //! long, so they are copied by loops.
-ghost use Rattle.std.specs.Prelude.{◌≡◌, ◌+◌, IfOk};
+ghost use Rattle.std.specs.Prelude.{◌≡◌, ◌+◌, ◌<◌, IfOk, IfSome, map};
+ghost use Rattle.std.specs.Option.{option_copied};
+ghost use Rattle.scc_core.specs.declared.expr.CoreLeft.{size-CoreLeft};
+ghost use Rattle.scc_core.specs.Operands.{first_of};
+ghost use Rattle.scc_core.specs.Copies.{IsPlain, IsChain, loaded, pointer_in_left};
 
 use crate::{
     CellName, CoreBase, CoreExpr, CoreExprNode, CoreLeft, CoreNode, CorePart, CorePick, CoreStmt,
@@ -33,32 +37,57 @@ pub fn deeper(levels: u32) -> Result<u32, NoMemory>
 }
 
 /// An expression and its first operands, from the outermost on.
-pub fn spine(alloc: Global, e: &CoreExpr) -> Result<Vec<&CoreExpr>, NoMemory> {
+pub fn spine(alloc: Global, e: &CoreExpr) -> Result<Vec<&CoreExpr>, NoMemory>
+    ensures { IfOk result (λ v. IsChain first_of e.now (map (λ x. x.now) v.items)) }
+{
     let mut found = Vec::new(alloc);
     let mut here = e;
     push(&mut found, here)?;
-    while let Some(inner) = first_operand(here) {
-        here = inner;
-        push(&mut found, here)?;
+    loop {
+        match first_operand(here) {
+            Some(inner) => {
+                here = inner;
+                push(&mut found, here)?;
+            }
+            None => return Ok(found),
+        }
     }
-    Ok(found)
 }
 
 /// A location and the pointers by which it is reached, from the outermost on.
-pub fn pointers(alloc: Global, left: &CoreLeft) -> Result<Vec<&CoreLeft>, NoMemory> {
+pub fn pointers(alloc: Global, left: &CoreLeft) -> Result<Vec<&CoreLeft>, NoMemory>
+    ensures { IfOk result (λ v. IsChain pointer_in_left left.now (map (λ x. x.now) v.items)) }
+{
     let mut found = Vec::new(alloc);
     let mut here = left;
     push(&mut found, here)?;
-    while let CoreBase::Follow { pointer, .. } = &here.base {
-        here = pointer.get();
-        push(&mut found, here)?;
+    loop {
+        match pointer_of(here) {
+            Some(pointer) => {
+                here = pointer;
+                push(&mut found, here)?;
+            }
+            None => return Ok(found),
+        }
     }
-    Ok(found)
+}
+
+// The pointer by which a location is reached.
+fn pointer_of(left: &CoreLeft) -> Option<&CoreLeft>
+    ensures smaller { IfSome result (λ x. size-CoreLeft x.now < size-CoreLeft left.now) }
+    ensures pointer { option_copied result ≡ pointer_in_left left.now }
+{
+    match &left.base {
+        CoreBase::Follow { pointer, .. } => Some(pointer.get()),
+        _ => None,
+    }
 }
 
 impl Copies<'static> {
     /// Copies as they stand.
-    pub fn plain(alloc: Global) -> Copies<'static> {
+    pub fn plain(alloc: Global) -> Copies<'static>
+        ensures plain { IsPlain result }
+    {
         Copies {
             alloc,
             counters: None,
@@ -87,7 +116,9 @@ impl<'a> Copies<'a> {
     }
 
     // The number of a cell in the copy.
-    fn number(&self, cell: u32) -> Result<u32, NoMemory> {
+    fn number(&self, cell: u32) -> Result<u32, NoMemory>
+        ensures { IsPlain self.now → IfOk result (λ n. n ≡ cell) }
+    {
         let Some(numbers) = self.numbers else {
             return Ok(cell);
         };
@@ -98,33 +129,39 @@ impl<'a> Copies<'a> {
     }
 
     /// A copy of an expression.
-    pub fn expr(&self, e: &CoreExpr) -> Result<CoreExpr, NoMemory> {
+    pub fn expr(&self, e: &CoreExpr) -> Result<CoreExpr, NoMemory>
+        ensures { IsPlain self.now → IfOk result (λ x. x ≡ e.now) }
+    {
         self.expr_in(e, LEVELS)
     }
 
     /// A copy of a location.
-    pub fn left(&self, left: &CoreLeft) -> Result<CoreLeft, NoMemory> {
+    pub fn left(&self, left: &CoreLeft) -> Result<CoreLeft, NoMemory>
+        ensures { IsPlain self.now → IfOk result (λ x. x ≡ left.now) }
+    {
         self.left_in(left, LEVELS)
     }
 
     #[cycle(copied)]
-    fn expr_in(&self, e: &CoreExpr, levels: u32) -> Result<CoreExpr, NoMemory> {
+    fn expr_in(&self, e: &CoreExpr, levels: u32) -> Result<CoreExpr, NoMemory>
+        ensures { IsPlain self.now → IfOk result (λ x. x ≡ e.now) }
+    {
         let levels = deeper(levels)?;
+        let list = spine(self.alloc, e)?;
         let mut made = None;
-        for node in spine(self.alloc, e)?.iter().rev() {
-            made = Some(self.over(node, made, levels)?);
+        let mut left = list.len();
+        while left > 0 {
+            left -= 1;
+            made = Some(self.over(list[left], made, levels)?);
         }
         made.ok_or(lost())
     }
 
     // A copy of an expression whose first operand is copied, if it has one.
     #[cycle(copied)]
-    fn over(
-        &self,
-        e: &CoreExpr,
-        first: Option<CoreExpr>,
-        levels: u32,
-    ) -> Result<CoreExpr, NoMemory> {
+    fn over(&self, e: &CoreExpr, first: Option<CoreExpr>, levels: u32) -> Result<CoreExpr, NoMemory>
+        ensures { IsPlain self.now → first ≡ first_of e.now → IfOk result (λ x. x ≡ e.now) }
+    {
         let node = match (e.node.get(), first) {
             (CoreExprNode::Lit(word), _) => CoreExprNode::Lit(*word),
             (CoreExprNode::Load(left), _) => return self.load(left, e, levels),
@@ -161,7 +198,9 @@ impl<'a> Copies<'a> {
 
     // A copy of a read of a location; a counter's is its literal, or bits of it.
     #[cycle(copied)]
-    fn load(&self, left: &CoreLeft, e: &CoreExpr, levels: u32) -> Result<CoreExpr, NoMemory> {
+    fn load(&self, left: &CoreLeft, e: &CoreExpr, levels: u32) -> Result<CoreExpr, NoMemory>
+        ensures { IsPlain self.now → IfOk result (λ x. x ≡ loaded e.now left.now) }
+    {
         let alloc = self.alloc;
         let counter = match (&left.base, self.counters) {
             (CoreBase::Cell(cell), Some(counters)) if left.parts.is_empty() => counters
@@ -183,7 +222,9 @@ impl<'a> Copies<'a> {
     }
 
     #[cycle(copied)]
-    fn list(&self, list: &[CoreExpr], levels: u32) -> Result<List<CoreExpr>, NoMemory> {
+    fn list(&self, list: &[CoreExpr], levels: u32) -> Result<List<CoreExpr>, NoMemory>
+        ensures { IsPlain self.now → IfOk result (λ x. x ≡ list.now) }
+    {
         let mut made = List::new(self.alloc);
         for e in list {
             made.push(self.expr_in(e, levels)?)?;
@@ -192,7 +233,9 @@ impl<'a> Copies<'a> {
     }
 
     #[cycle(copied)]
-    fn pick(&self, pick: &CorePick, levels: u32) -> Result<CorePick, NoMemory> {
+    fn pick(&self, pick: &CorePick, levels: u32) -> Result<CorePick, NoMemory>
+        ensures { IsPlain self.now → IfOk result (λ x. x ≡ pick.now) }
+    {
         match pick {
             CorePick::Bit(at) => Ok(CorePick::Bit(self.expr_in(at, levels)?)),
             CorePick::Range { h, l } => Ok(CorePick::Range { h: *h, l: *l }),
@@ -200,7 +243,9 @@ impl<'a> Copies<'a> {
     }
 
     #[cycle(copied)]
-    fn parts(&self, list: &[CorePart], levels: u32) -> Result<List<CorePart>, NoMemory> {
+    fn parts(&self, list: &[CorePart], levels: u32) -> Result<List<CorePart>, NoMemory>
+        ensures { IsPlain self.now → IfOk result (λ x. x ≡ list.now) }
+    {
         let mut made = List::new(self.alloc);
         for part in list {
             let copy = match part {
@@ -216,11 +261,16 @@ impl<'a> Copies<'a> {
     }
 
     #[cycle(copied)]
-    fn left_in(&self, left: &CoreLeft, levels: u32) -> Result<CoreLeft, NoMemory> {
+    fn left_in(&self, left: &CoreLeft, levels: u32) -> Result<CoreLeft, NoMemory>
+        ensures { IsPlain self.now → IfOk result (λ x. x ≡ left.now) }
+    {
         let levels = deeper(levels)?;
+        let list = pointers(self.alloc, left)?;
         let mut made = None;
-        for one in pointers(self.alloc, left)?.iter().rev() {
-            made = Some(self.behind(one, made, levels)?);
+        let mut more = list.len();
+        while more > 0 {
+            more -= 1;
+            made = Some(self.behind(list[more], made, levels)?);
         }
         made.ok_or(lost())
     }
@@ -232,7 +282,9 @@ impl<'a> Copies<'a> {
         left: &CoreLeft,
         pointer: Option<CoreLeft>,
         levels: u32,
-    ) -> Result<CoreLeft, NoMemory> {
+    ) -> Result<CoreLeft, NoMemory>
+        ensures { IsPlain self.now → pointer ≡ pointer_in_left left.now → IfOk result (λ x. x ≡ left.now) }
+    {
         let base = match (&left.base, pointer) {
             (CoreBase::Cell(cell), _) => CoreBase::Cell(self.number(*cell)?),
             (CoreBase::Prefix(name), _) => CoreBase::Prefix(name.copied(self.alloc)?),
@@ -258,7 +310,9 @@ impl<'a> Copies<'a> {
 
     /// A copy of a list of statements.
     #[cycle(copied_statements)]
-    pub fn stmts(&self, list: &[CoreStmt]) -> Result<List<CoreStmt>, NoMemory> {
+    pub fn stmts(&self, list: &[CoreStmt]) -> Result<List<CoreStmt>, NoMemory>
+        ensures { IsPlain self.now → IfOk result (λ x. x ≡ list.now) }
+    {
         let mut made = List::new(self.alloc);
         for s in list {
             made.push(self.stmt(s)?)?;
@@ -268,7 +322,9 @@ impl<'a> Copies<'a> {
 
     /// A copy of a statement.
     #[cycle(copied_statements)]
-    pub fn stmt(&self, s: &CoreStmt) -> Result<CoreStmt, NoMemory> {
+    pub fn stmt(&self, s: &CoreStmt) -> Result<CoreStmt, NoMemory>
+        ensures { IsPlain self.now → IfOk result (λ x. x ≡ s.now) }
+    {
         let node = match &s.node {
             CoreNode::If { test, yes, no } => {
                 let test = self.expr(test)?;
@@ -305,7 +361,9 @@ impl<'a> Copies<'a> {
     }
 
     /// A copy of how a loop counts.
-    pub fn count(&self, c: &Count) -> Result<Count, NoMemory> {
+    pub fn count(&self, c: &Count) -> Result<Count, NoMemory>
+        ensures { IsPlain self.now → IfOk result (λ x. x ≡ c.now) }
+    {
         Ok(Count {
             cell: self.number(c.cell)?,
             start: self.expr(&c.start)?,
@@ -317,7 +375,9 @@ impl<'a> Copies<'a> {
     }
 
     /// A copy of what an `Alias` sets.
-    pub fn pointed(&self, to: &Pointed) -> Result<Pointed, NoMemory> {
+    pub fn pointed(&self, to: &Pointed) -> Result<Pointed, NoMemory>
+        ensures { IsPlain self.now → IfOk result (λ x. x ≡ to.now) }
+    {
         match to {
             Pointed::Declared(cell) => Ok(Pointed::Declared(*cell)),
             Pointed::Assigned(left) => Ok(Pointed::Assigned(self.left(left)?)),
@@ -337,7 +397,9 @@ impl CellName {
     }
 
     /// A copy.
-    pub fn copied(&self, alloc: Global) -> Result<CellName, NoMemory> {
+    pub fn copied(&self, alloc: Global) -> Result<CellName, NoMemory>
+        ensures { IfOk result (λ x. x ≡ self.now) }
+    {
         let mut indices = List::new(alloc);
         for i in self.indices.as_slice() {
             indices.push(*i)?;

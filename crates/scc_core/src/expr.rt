@@ -1,4 +1,6 @@
 //! Expressions and locations over cells. A chain of operators is as deep as it is long, so it is let go by a loop along its first operands.
+ghost use Rattle.std.specs.Prelude.{◌≡◌, IfOk};
+
 use crate::CellName;
 use scc_base::{Boxed, List, Name, NoMemory, Place};
 use scc_bits::{Kind, Op, Word};
@@ -92,7 +94,9 @@ impl CoreExpr {
         place: Place,
         kind: Kind,
         node: CoreExprNode,
-    ) -> Result<CoreExpr, NoMemory> {
+    ) -> Result<CoreExpr, NoMemory>
+        ensures { IfOk result (λ e. e ≡ record { place = place; kind = kind; node = node }) }
+    {
         Ok(CoreExpr {
             place,
             kind,

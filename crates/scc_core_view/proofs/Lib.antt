@@ -5,3 +5,4 @@ mod StaticNames
 mod StaticElements
 mod StaticTerms
 mod StaticWorked
+pub mod Layers

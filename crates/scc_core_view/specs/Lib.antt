@@ -5,3 +5,4 @@ pub mod Kinded
 pub mod WorkedBit
 pub mod Whole
 pub mod WorkedStatic
+pub mod Bodies

@@ -5,16 +5,17 @@ ghost use Rattle.scc_elab.specs.Refusals.{may_stop};
 ghost use Rattle.scc_elab.specs.Roots.{are_rooted, processes_fit};
 ghost use Rattle.scc_elab.specs.Storage.{storage_of};
 
-use crate::after::{check_functions, check_ports};
+use crate::after::check_ports;
 use crate::clocks::processes_of;
 use crate::design::design_of;
 use crate::make::make_one;
 use crate::refusals::allowed;
 use crate::statements::run;
-use scc_base::{Code, Stop};
+use scc_base::Stop;
+use scc_elab_checks::{check_functions, check_top};
 use scc_elab_design::Design;
 use scc_elab_state::grown::Grown;
-use scc_elab_state::program::{class_of, function_of};
+use scc_elab_state::program::class_of;
 use scc_elab_state::spots::TOP;
 use scc_elab_state::work::Stack;
 use scc_plain_tree::{Base, Plain};
@@ -66,7 +67,7 @@ fn built(p: &Plain, many: bool, g: &mut Grown) -> Result<Design, Stop>
     ensures { IfOk result (λ d. storage_of d.objects ≤ 1048576) }
 {
     construct(p, g)?;
-    check_functions(p, g.alloc)?;
+    check_functions(g.alloc, p)?;
     check_ports(g)?;
     let processes = processes_of(g, many)?;
     Ok(design_of(g, processes)?)
@@ -78,23 +79,4 @@ fn construct(p: &Plain, g: &mut Grown) -> Result<(), Stop> {
     let mut stack = Stack::new(g.alloc);
     make_one(&[], Base::Class(p.top), TOP, place, p, &mut stack, g)?;
     run(&mut stack, p, g)
-}
-
-// The top's constructor has no parameter but its name: the first one that is a module's name.
-fn check_top(p: &Plain) -> Result<(), Stop> {
-    let Some(number) = class_of(p, p.top)?.constructor else {
-        return Ok(());
-    };
-    let function = function_of(p, number)?;
-    let mut is_named = false;
-    for (at, param) in function.locals.as_slice().iter().enumerate() {
-        if at >= function.params as usize {
-            return Ok(());
-        }
-        if is_named || param.shape.base != Base::ModuleName {
-            return Err(Stop::refused(Code::Constructor, param.place));
-        }
-        is_named = true;
-    }
-    Ok(())
 }

@@ -2,3 +2,4 @@ pub mod Apart
 pub mod Terms
 pub mod Worded
 pub mod Reading
+pub mod Located

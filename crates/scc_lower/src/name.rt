@@ -1,5 +1,8 @@
 //! Names in the emitted text.
 ghost use Rattle.std.specs.Prelude.{◌≡◌, ◌++◌, IfOk, OnOk, decimal};
+ghost use Rattle.scc_core_spec.specs.Constants.{name_text};
+ghost use Rattle.scc_core_view.specs.Terms as view;
+ghost use Rattle.scc_blocks_names.specs.Placed.{IsPlaced, Objects};
 ghost use Rattle.scc_lower.specs.Names.{name_of, parts_of};
 ghost use Rattle.scc_lower_spec.specs.Parts.{joined, part_text, text_at};
 
@@ -11,7 +14,8 @@ use std::alloc::Global;
 /// The name of a cell: the members and indices of its path joined by `$`, and for a local its number, its identifier and its
 /// indices behind those of its process (this project's own).
 pub fn sv_name(alloc: Global, names: &Names, n: &CellName) -> Result<Text, NoMemory>
-    ensures { IfOk result (λ t. t ≡ name_of names.now n.now) }
+    ensures text { IfOk result (λ t. t ≡ name_of names.now n.now) }
+    ensures location { (d : Objects) → IsPlaced d (view.name_of n.now) → IfOk result (λ t. t ≡ name_text (text_at names.now) (view.name_of n.now)) }
 {
     let parts = parts(alloc, n)?;
     text_of(alloc, names, parts.as_slice())

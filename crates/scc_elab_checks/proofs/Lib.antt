@@ -1,0 +1,3 @@
+pub mod Parameters
+pub mod Leading
+pub mod Numbered
