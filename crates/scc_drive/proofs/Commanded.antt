@@ -10,7 +10,7 @@ use Rattle.scc_drive.specs.Answer.{AnswersBy, Answers, Asks, ComesFor, without}
 use Rattle.scc_drive.specs.CommandOutcome.{CommandOutcome, WordsOutcome, CommandOutcomeBy}
 use Rattle.scc_drive.specs.Outcome.{Outcome}
 use Rattle.scc_drive.specs.Stages.{Gives}
-use Rattle.scc_drive.specs.Words.{command_by, are_words, word_at}
+use Rattle.scc_drive_spec.specs.Words.{command_by, are_words, word_at}
 
 asks_wider : (C D : Shelf → Outcome → Type 0) (name : List ℕ) (shelf : Shelf) → ((shelf : Shelf) (o : Outcome) → C shelf o → D shelf o) → Asks C name shelf → Asks D name shelf
 asks_wider C D name shelf i (inl x) = inl (x.0, i (without name shelf) x.0 x.1, x.2)

@@ -26,7 +26,7 @@ use Rattle.scc_drive_errors.specs.Spots.{spot_of}
 use Rattle.scc_drive.specs.Stages.{Gives, Asking, IsJoined, IsUnjoined, ReadOutcome}
 use Rattle.scc_drive.specs.Stops.{IsFaulty}
 use Rattle.scc_drive_errors.specs.Stops.{Stops, StoppedBy}
-use Rattle.scc_drive.specs.Words.{roots_of}
+use Rattle.scc_drive_spec.specs.Words.{roots_of}
 use Rattle.scc_drive.proofs.Without.{without_none, all_still}
 
 module _ (roots : List (List ℕ)) (held : Option Shelf) (read : Read) (j : IsJoined roots held read) (task : Task) (top : List ℕ) where

@@ -1,5 +1,4 @@
 pub mod Saying
-pub mod OneVerdict
 pub mod Asking
 pub mod Without
 pub mod Derived

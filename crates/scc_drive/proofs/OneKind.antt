@@ -27,8 +27,8 @@ use Rattle.scc_drive.specs.CommandOutcome.{CommandOutcome, WordsOutcome, Command
 use Rattle.scc_drive.specs.Outcome.{Task, compiling, forming, listing, simulating, tracing, Outcome, bad, refusal, absent, compiles, runs, writes, generated, wider, kind_of, kind_of_task}
 use Rattle.scc_drive_errors.specs.Spots.{spot_of}
 use Rattle.scc_drive.specs.Laws.{AreAlike, AreOne, is_refusal}
-use Rattle.scc_drive.specs.Words.{command_by, are_words, word_at, roots_of}
-use Rattle.scc_drive.proofs.OneVerdict.{not_both, one_fault}
+use Rattle.scc_drive_spec.specs.Words.{command_by, are_words, word_at, roots_of}
+use Rattle.scc_drive_spec.proofs.OneVerdict.{not_both, one_fault}
 use Rattle.scc_drive.proofs.Derived.{FoundOutcome, by_joining}
 
 -- ---- joined files

@@ -12,7 +12,7 @@ use Rattle.scc_drive.specs.Answer.{Answers, AnswersBy, ComesFor, Tells, IsDone, 
 use Rattle.scc_drive.specs.CommandOutcome.{CommandOutcome, JoinedOutcome, WordsOutcome, joined, outcome_of_design, reads}
 use Rattle.scc_drive.specs.Outcome.{Outcome, bad, refusal, absent, compiles, runs, writes, generated, wider, Task, compiling, forming, listing, simulating, tracing, Kind, kind_of, EndsAs, WritesBy, RefusesBy, MissesBy}
 use Rattle.scc_drive.specs.Said.{Said, SaysFaults, SaysPart}
-use Rattle.scc_drive.specs.Words.{are_words, command_by, word_at}
+use Rattle.scc_drive_spec.specs.Words.{are_words, command_by, word_at}
 use Rattle.scc_thin.specs.declared.design.Design.{Design}
 use Rattle.scc_drive_words.specs.declared.command.Command.{Command}
 use Rattle.scc_drive_words.specs.declared.command.Command.TheVariants as command

@@ -11,7 +11,7 @@ use Rattle.scc_drive.specs.CommandOutcome.{CommandOutcome}
 use Rattle.scc_drive.specs.Outcome.{Outcome, WritesBy, RefusesBy, MissesBy, EndsBy}
 use Rattle.scc_drive.specs.Said.{Said, SaysPart, SaysFaults}
 use Rattle.scc_drive_errors.specs.Texts.{refusal_text, words_text, missing_text, failed_text}
-use Rattle.scc_drive.specs.Words.{word_at, are_words}
+use Rattle.scc_drive_spec.specs.Words.{word_at, are_words}
 
 -- this is written where what the names hold comes to what C says
 abbrev pub Writes : (Shelf → Outcome → Type 0) → List ℕ → List ℕ → Shelf → Type 0

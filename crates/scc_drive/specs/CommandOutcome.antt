@@ -36,7 +36,7 @@ use Rattle.scc_drive_forms.specs.declared.form.TextForm.{TextForm}
 use Rattle.scc_drive_forms.specs.declared.form.TextForm.TheVariants as text_form
 use Rattle.scc_drive.specs.Outcome.{Task, compiling, forming, listing, simulating, tracing, Outcome, bad, refusal, absent, compiles, runs, writes, generated, wider}
 use Rattle.scc_drive_errors.specs.Spots.{spot_of, spot_in, first_spot}
-use Rattle.scc_drive.specs.Words.{command_by, word_at, roots_of}
+use Rattle.scc_drive_spec.specs.Words.{command_by, word_at, roots_of}
 
 -- a thin text, or a wider one
 abbrev pub outcome_of_design : List Source → Option Design → Outcome

@@ -6,7 +6,7 @@ use Rattle.scc_drive_words.specs.declared.command.Command.{Command}
 use Rattle.scc_drive_words.specs.declared.command.Command.TheVariants as command
 use Rattle.scc_drive.specs.CommandOutcome.{CommandOutcome}
 use Rattle.scc_drive.specs.Outcome.{Outcome, bad, refusal, absent, compiles, runs, writes, generated, wider}
-use Rattle.scc_drive.specs.Words.{command_by}
+use Rattle.scc_drive_spec.specs.Words.{command_by}
 
 abbrev pub is_refusal : Outcome → Bool
 is_refusal bad = false

@@ -1,4 +1,3 @@
-pub mod Words
 pub mod Said
 pub mod Stops
 pub mod Outcome

@@ -22,7 +22,7 @@ use Rattle.scc_thin.specs.Thin.{thin_of}
 use Rattle.scc_thin_module.specs.Source.{source_of, text_of}
 use Rattle.scc_drive_words.specs.declared.command.Command.TheVariants as command
 use Rattle.scc_drive_words.specs.declared.command.Form.TheVariants as form
-use Rattle.scc_drive.specs.Words.{command_by, roots_of, word_at}
+use Rattle.scc_drive_spec.specs.Words.{command_by, roots_of, word_at}
 
 -- A design was compiled: `many` says that it may have several clocks, `top` is the name of its top, `name` the name that emitted text has for a location, `own`
 -- the names that threads' states and counters have there, `kept` the locations that may be registers; `old` and `new` are what the output took before and after.

@@ -2,7 +2,7 @@
 ghost use Rattle.std.specs.Prelude.{length};
 ghost use Rattle.scc_drive.specs.Answer.{Answers, AnswersBy};
 ghost use Rattle.scc_drive.specs.CommandOutcome.{CommandOutcomeBy};
-ghost use Rattle.scc_drive.specs.Words.{word_at};
+ghost use Rattle.scc_drive_spec.specs.Words.{word_at};
 ghost use Rattle.scc_drive_words.specs.Within.{Within};
 
 use crate::compile::compiled;

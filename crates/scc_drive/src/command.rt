@@ -4,7 +4,7 @@ ghost use Rattle.scc_base.specs.Outside.{Rose, Told};
 ghost use Rattle.scc_drive.specs.Answer.{Ends, IsDone, IsRefused, IsMissing, HasFailed, IsCutShort};
 ghost use Rattle.scc_drive.specs.MainTheorem.{MainTheorem};
 ghost use Rattle.scc_drive_errors.specs.Texts.{words_text};
-ghost use Rattle.scc_drive.specs.Words.{are_words};
+ghost use Rattle.scc_drive_spec.specs.Words.{are_words};
 
 use crate::answer::answer;
 use crate::say::{no_memory, output_failed, tell};

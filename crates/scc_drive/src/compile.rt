@@ -9,7 +9,7 @@ ghost use Rattle.scc_drive.specs.CommandOutcome.{RootsOutcome, task_of};
 ghost use Rattle.scc_drive.specs.Outcome.{compiling, forming};
 ghost use Rattle.scc_drive.specs.Stages.{Gives, ReadOutcome};
 ghost use Rattle.scc_drive.specs.Stops.{IsLater};
-ghost use Rattle.scc_drive.specs.Words.{word_at, roots_of};
+ghost use Rattle.scc_drive_spec.specs.Words.{word_at, roots_of};
 
 use crate::joining::{Read, read_files};
 use crate::later::{front_at, refused_later};

@@ -4,7 +4,7 @@ ghost use Rattle.scc_grammar.specs.Claim.{IsReadFile, IsFault};
 ghost use Rattle.scc_drive.specs.CommandOutcome.{JoinedOutcome};
 ghost use Rattle.scc_drive.specs.Stages.{IsJoined, IsUnjoined};
 ghost use Rattle.scc_drive.specs.Stops.{IsFaulty};
-ghost use Rattle.scc_drive.specs.Words.{roots_of};
+ghost use Rattle.scc_drive_spec.specs.Words.{roots_of};
 
 use crate::words::roots;
 use scc_base::{Files, List, Names, Refusal, Stop};

@@ -6,7 +6,7 @@ ghost use Rattle.scc_drive.specs.CommandOutcome as outcome;
 ghost use Rattle.scc_drive.specs.CommandOutcome.{RootsOutcome};
 ghost use Rattle.scc_drive.specs.Outcome.{listing, simulating};
 ghost use Rattle.scc_drive.specs.Stages.{Gives, Asking, ReadOutcome, IsOfStimulus};
-ghost use Rattle.scc_drive.specs.Words.{word_at, roots_of};
+ghost use Rattle.scc_drive_spec.specs.Words.{word_at, roots_of};
 
 use crate::files::{ask, refused_stimulus};
 use crate::joining::{Read, read_files};

@@ -11,7 +11,7 @@ ghost use Rattle.scc_drive_errors.specs.Spots as spots;
 ghost use Rattle.scc_drive.specs.Stages.{Asked, Gives, IsHeld, IsNoModule, IsOfStimulus};
 ghost use Rattle.scc_drive.specs.Stops.{IsOfText};
 ghost use Rattle.scc_drive_errors.specs.Stops.{StopsAt, StoppedIn};
-ghost use Rattle.scc_drive.specs.Words.{word_at};
+ghost use Rattle.scc_drive_spec.specs.Words.{word_at};
 
 use crate::files::{ask, found, refused_stimulus, refused_text};
 use crate::words::word;

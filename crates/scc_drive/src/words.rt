@@ -1,6 +1,6 @@
 //! The words of a command.
 ghost use Rattle.std.specs.Prelude.{◌≡◌, ◌≤◌, ◌+◌, length, drop, take};
-ghost use Rattle.scc_drive.specs.Words.{word_at};
+ghost use Rattle.scc_drive_spec.specs.Words.{word_at};
 
 /// A word, empty where there is none.
 pub fn word(words: &[String], i: usize) -> &str

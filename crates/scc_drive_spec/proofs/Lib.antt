@@ -1,1 +1,4 @@
-mod One
+pub mod OneVerdict
+pub mod One
+pub mod Some
+pub mod Wrong

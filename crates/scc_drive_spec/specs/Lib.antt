@@ -1,3 +1,8 @@
--- Each file opens with a line on what it holds. Read them in this order: Stopped, Whole.
-pub mod Stopped
+-- Each file opens with a line on what it holds. Whole is the statement; the others are what it speaks of, in this order.
+pub mod Words
+pub mod Comes
+pub mod Compiled
+pub mod Timely
+pub mod Output
+pub mod Answer
 pub mod Whole

@@ -1,9 +1,9 @@
-//! What stops a command on source files first, and the statement of the main theorem for the whole language: definitions, each cited here by a law.
+//! What a command comes to and what it has to write: the statement of the whole theorem, and what it speaks of.
 #![tactic(auto)]
 
 mod laws;
 
 pub use laws::{
-    a_refused_source_has_no_design, an_accepted_command_writes, the_stimulus_comes_last,
-    what_joining_refuses_stops_first, what_stops_a_command_is_one,
+    a_refused_source_has_no_design, the_stimulus_comes_last, what_a_request_comes_to_is_one,
+    what_joining_refuses_stops_first, wrong_answers_are_ruled_out,
 };

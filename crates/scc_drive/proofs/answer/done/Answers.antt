@@ -1,7 +1,7 @@
 use Rattle.std.proofs.Common.{sym, subst}
 use Rattle.scc_drive.specs.Answer.{AnswersBy}
 use Rattle.scc_drive.specs.CommandOutcome.{CommandOutcomeBy, GeneratedOutcome}
-use Rattle.scc_drive.specs.Words.{word_at}
+use Rattle.scc_drive_spec.specs.Words.{word_at}
 use Rattle.scc_drive.proofs.Commanded.{gives_answers}
 use Rattle.scc_drive.proofs.answer.done.Goals as goal
 

@@ -1,7 +1,7 @@
 use Rattle.std.proofs.Common.{◌∙◌, subst}
 use Rattle.std.proofs.lemmas.Result.{err_from_is_err_and}
 use Rattle.scc_drive.specs.CommandOutcome.{task_of}
-use Rattle.scc_drive.specs.Words.{word_at, roots_of}
+use Rattle.scc_drive_spec.specs.Words.{word_at, roots_of}
 use Rattle.scc_drive.specs.Stages.{Gives, ReadOutcome}
 use Rattle.scc_drive.proofs.Joined.{joined_gives}
 use Rattle.scc_drive.proofs.compile.compiled.Goals as goal

@@ -1,6 +1,6 @@
 use Rattle.std.proofs.Common.{refl, subst, Ok, Err}
 use Rattle.scc_drive_errors.specs.Stops.{StoppedBy}
-use Rattle.scc_drive.specs.Words.{roots_of}
+use Rattle.scc_drive_spec.specs.Words.{roots_of}
 use Rattle.scc_drive.proofs.Joined.{said, read_joined, read_unjoined, unjoined_by}
 use Rattle.scc_drive.proofs.joining.read_files.Goals as goal
 

@@ -2,7 +2,7 @@ use Rattle.std.proofs.Common.{◌∙◌, subst}
 use Rattle.std.proofs.lemmas.Result.{err_from_is_err_and}
 use Rattle.scc_drive.specs.Outcome.{listing}
 use Rattle.scc_drive.specs.Stages.{Gives, ReadOutcome}
-use Rattle.scc_drive.specs.Words.{word_at, roots_of}
+use Rattle.scc_drive_spec.specs.Words.{word_at, roots_of}
 use Rattle.scc_drive.proofs.Joined.{joined_gives}
 use Rattle.scc_drive.proofs.source.listed.Goals as goal
 

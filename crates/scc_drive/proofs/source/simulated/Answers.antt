@@ -2,7 +2,7 @@ use Rattle.std.proofs.Common.{◌∙◌}
 use Rattle.std.proofs.lemmas.Result.{err_from_is_err_and}
 use Rattle.scc_drive.specs.CommandOutcome.{has_clocks}
 use Rattle.scc_drive.specs.Outcome.{simulating}
-use Rattle.scc_drive.specs.Words.{word_at, roots_of}
+use Rattle.scc_drive_spec.specs.Words.{word_at, roots_of}
 use Rattle.scc_drive.proofs.Wider.{simulated_by}
 use Rattle.scc_drive.proofs.source.simulated.Goals as goal
 

@@ -2,7 +2,7 @@ use Rattle.std.proofs.Common.{◌∙◌, subst, sym, true, false}
 use Rattle.std.proofs.lemmas.Result.{err_from_is_err_and}
 use Rattle.scc_drive.specs.CommandOutcome.{is_plain}
 use Rattle.scc_drive.specs.Stages.{IsHeld}
-use Rattle.scc_drive.specs.Words.{word_at}
+use Rattle.scc_drive_spec.specs.Words.{word_at}
 use Rattle.scc_drive.proofs.Emitting.{unasked_answered, text_answered}
 use Rattle.scc_drive.proofs.svsim.svsim.Goals as goal
 

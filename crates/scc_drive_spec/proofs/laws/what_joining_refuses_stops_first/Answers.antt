@@ -1,5 +1,5 @@
 use Rattle.scc_tokens_directives.specs.Steps as join
-use Rattle.scc_drive_spec.specs.Stopped.{in_joining}
+use Rattle.scc_drive_spec.specs.Comes.{in_joining}
 use Rattle.scc_drive_spec.proofs.laws.what_joining_refuses_stops_first.Goals as goal
 
 pub returns-clause-refused : goal.returns-clause-refused

@@ -1,6 +1,6 @@
--- What stops a command on source files first, over all stages: a file that isn't there, joining, the grammar, the stages behind it, the stimulus of `sim`. The first that
--- stops it decides. This project's own.
-use Rattle.std.specs.Prelude.{◌≡◌, ℕ, Bool, true, false, nat_lt, List, [], ◌∷◌, ◌++◌, map, length, Option, Some, None, Result, Ok, Err, slice_get, unwrap_or}
+-- What a request on source files comes to, over all stages: a file that isn't there, joining, the grammar, the stages after it, the stimulus of `sim`. The first that
+-- stops it decides; where none does, the source is accepted. This project's own.
+use Rattle.std.specs.Prelude.{◌≡◌, ◌⊎◌, ℕ, Bool, true, false, nat_lt, List, [], ◌∷◌, ◌++◌, map, length, Option, Some, None, Result, Ok, Err, slice_get, unwrap_or}
 use Rattle.scc_base.specs.Names.{fixed_names}
 use Rattle.scc_base.specs.Outside.{Shelf}
 use Rattle.scc_base.specs.declared.code.Code.{Code}
@@ -33,12 +33,24 @@ pub record Request : Type 0 where
   pub roots : List (List ℕ)
   pub stimulus : Option (List ℕ)
 
--- why it stops: a refusal, with the files that were read, to which the numbers of its places belong; or a file that isn't there
-pub data Reason : Type 0 where
-  Refuses : List Source → Refusal → Reason
-  Absent : List ℕ → Reason
+-- the stimulus of `sim`: the number of its file, after those that were joined, and its bytes
+pub record Stimulus : Type 0 where
+  pub file : ℕ
+  pub bytes : List ℕ
 
-abbrev pub stopped_by : List Source → join.Stopped → Reason
+-- a source that no stage refuses: the names that were met, what the source comes to, and the stimulus, where one is asked for
+pub record Accepted : Type 0 where
+  pub names : List (List ℕ)
+  pub compiled : Compiled
+  pub stimulus : Option Stimulus
+
+-- what it comes to: a refusal, with the files that were read, to which the numbers of its places belong; a file that isn't there; or an accepted source
+pub data Verdict : Type 0 where
+  Refuses : List Source → Refusal → Verdict
+  Absent : List ℕ → Verdict
+  Accepts : Accepted → Verdict
+
+abbrev pub stopped_by : List Source → join.Stopped → Verdict
 stopped_by sources (join.Refuses code place) = Refuses sources (refused code place)
 stopped_by sources (join.Absent name) = Absent name
 
@@ -73,17 +85,29 @@ if_long false file r = r
 abbrev pub stimulus_refusal : (many : Bool) → (Location → List ℕ) → Design → (file : ℕ) → List ℕ → Option Refusal
 stimulus_refusal many text d file bytes = if_long (nat_lt 1048576 (length bytes)) file (steps_refusal many text d file bytes)
 
--- What stops it first. The stimulus is asked for once no stage refuses the source; it is read behind the other files.
-pub data StopsFirst (q : Request) (shelf : Shelf) : Reason → Type 0 where
+-- What it comes to. The stimulus is asked for once no stage refuses the source; it is read after the other files.
+pub data Comes (q : Request) (shelf : Shelf) : Verdict → Type 0 where
   in_joining : (names : List (List ℕ)) (sources : List Source) (s : join.Stopped) → StopsAt (first_part shelf) fixed_names q.roots names sources s
-      → StopsFirst q shelf (stopped_by sources s)
+      → Comes q shelf (stopped_by sources s)
   in_the_grammar : (names : List (List ℕ)) (sources : List Source) (j : Joined) (code : Code) (place : Place) → JoinsTo (first_part shelf) fixed_names q.roots names sources j
-      → IsFault j code place → StopsFirst q shelf (Refuses sources (refused code place))
+      → IsFault j code place → Comes q shelf (Refuses sources (refused code place))
   in_a_stage : (names : List (List ℕ)) (sources : List Source) (tree : FileTree) (r : Refusal) → IsReadAs q.roots shelf names sources tree
-      → first_refusal q.many tree (number_in names q.top) ≡ Some r → StopsFirst q shelf (Refuses sources r)
+      → first_refusal q.many tree (number_in names q.top) ≡ Some r → Comes q shelf (Refuses sources r)
   without_stimulus : (names : List (List ℕ)) (sources : List Source) (tree : FileTree) (c : Compiled) (name : List ℕ) → IsReadAs q.roots shelf names sources tree
-      → compiled q.many tree (number_in names q.top) ≡ Some (Made c) → q.stimulus ≡ Some name → first_part shelf name ≡ None → StopsFirst q shelf (Absent name)
+      → compiled q.many tree (number_in names q.top) ≡ Some (Made c) → q.stimulus ≡ Some name → first_part shelf name ≡ None → Comes q shelf (Absent name)
   in_the_stimulus : (names : List (List ℕ)) (sources : List Source) (tree : FileTree) (c : Compiled) (name bytes : List ℕ) (r : Refusal) → IsReadAs q.roots shelf names sources tree
       → compiled q.many tree (number_in names q.top) ≡ Some (Made c) → q.stimulus ≡ Some name → first_part shelf name ≡ Some bytes
       → stimulus_refusal q.many (name_in names c) (design_in c) (length sources) bytes ≡ Some r
-      → StopsFirst q shelf (Refuses (sources ++ record { name = name; bytes = bytes } ∷ []) r)
+      → Comes q shelf (Refuses (sources ++ record { name = name; bytes = bytes } ∷ []) r)
+  accepted : (names : List (List ℕ)) (sources : List Source) (tree : FileTree) (c : Compiled) → IsReadAs q.roots shelf names sources tree
+      → compiled q.many tree (number_in names q.top) ≡ Some (Made c) → q.stimulus ≡ None
+      → Comes q shelf (Accepts (record { names = names; compiled = c; stimulus = None }))
+  on_a_stimulus : (names : List (List ℕ)) (sources : List Source) (tree : FileTree) (c : Compiled) (name bytes : List ℕ) → IsReadAs q.roots shelf names sources tree
+      → compiled q.many tree (number_in names q.top) ≡ Some (Made c) → q.stimulus ≡ Some name → first_part shelf name ≡ Some bytes
+      → stimulus_refusal q.many (name_in names c) (design_in c) (length sources) bytes ≡ None
+      → Comes q shelf (Accepts (record { names = names; compiled = c; stimulus = Some (record { file = length sources; bytes = bytes }) }))
+
+-- What decides: each joined text is a file of the grammar or has a first fault, and the stages give an answer for each source.
+pub record Decided (many : Bool) : Type 0 where
+  pub tokens : (j : Joined) → ((tree : FileTree) × IsReadFile j tree) ⊎ ((code : Code) × (place : Place) × IsFault j code place)
+  pub stages : (tree : FileTree) (top : ℕ) → compiled many tree top ≡ None → ⊥
