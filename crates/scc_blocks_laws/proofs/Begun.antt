@@ -11,10 +11,10 @@ use Rattle.scc_svtree.specs.Steps.{StepInput, or_old, loaded, is_active, reset_w
 use Rattle.scc_svtree.specs.Steps as sv
 use Rattle.scc_svtree.specs.Sound.{IsSound, IsSoundEdge, IsSoundReset, block_assigns, targets, load_targets, loads_of, is_among}
 use Rattle.scc_svtree.proofs.Agree.{or_first, or_both_false}
-use Rattle.scc_core_spec.specs.Program.{Program, Process, Reset}
+use Rattle.scc_core_spec.specs.Program.{Program, Process, Reset, is_held}
 use Rattle.scc_core_spec.specs.Program as program
 use Rattle.scc_core_spec.specs.Kept.{written_by}
-use Rattle.scc_core_spec.specs.Uses.{among, width_at}
+use Rattle.scc_core_spec.specs.Uses.{among, has_sort, width_at}
 use Rattle.scc_blocks_spec.specs.Acting.{latest}
 use Rattle.scc_blocks_spec.specs.Effect.{Place}
 use Rattle.scc_blocks_spec.specs.Names.{is_register}
@@ -44,10 +44,15 @@ module _ (many : Bool) (p : Program) (r : Registers) (m : SvModule) (b : Built p
   given-proper : IsProper p r given_registers
   given-proper = record {
     fits = λ c v e. fits c v e (input_at m.vars v) refl;
+    held = λ c h. held c h (t.inputs c) refl;
     constants = λ c w s e. ap (λ o. unwrap_or o (g.word c)) (same.constants c w e) ∙ pr.constants c w s e;
     places = pr.places;
   }
     where
+      held : (c : ℕ) → has_sort is_held p.cells c ≡ true → (o : Option ℕ) → t.inputs c ≡ o → unwrap_or (t.inputs c) (g.word c) < 2 ^ width_at p.cells c
+      held c h None k = let P : ℕ → Type 0 = λ y. y < 2 ^ width_at p.cells c in subst P (sym (ap (λ o. unwrap_or o (g.word c)) k)) (pr.held c h)
+      held c h (Some w) k = let P : ℕ → Type 0 = λ y. y < 2 ^ width_at p.cells c in subst P (sym (ap (λ o. unwrap_or o (g.word c)) k)) (same.fits c w h k)
+
       fits : (c v : ℕ) → r.variable c ≡ Some v → (k : Bool) → input_at m.vars v ≡ k → unwrap_or (t.inputs c) (g.word c) < 2 ^ width_at p.cells c
       fits c v e true k = let z = same.given c v e k in let P : ℕ → Type 0 = λ y. y < 2 ^ width_at p.cells c in subst P (sym (ap (λ o. unwrap_or o (g.word c)) z.0)) z.1
       fits c v e false k = let P : ℕ → Type 0 = λ y. y < 2 ^ width_at p.cells c in subst P (sym (ap (λ o. unwrap_or o (g.word c)) (same.others c v e k))) (pr.fits c v e)

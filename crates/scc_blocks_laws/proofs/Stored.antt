@@ -158,7 +158,7 @@ module _ (many : Bool) (p : Program) (r : Registers) (m : SvModule) (b : Built p
               let l = st.goes i q g pr s in
               let old : y ((b.acts i q s).is_block.numbers.id (2 * c)) ≡ g.word c = ap y (sym t.0) ∙ mir.words c v a in
               edge-gives many p r m b sound st i q e s h clocks y g pr v ((b.acts i q s).is_block.numbers.id (2 * c + 1)) (width_at p.cells c) (latest l.0.acting c) t.1 (clocked ∙ x)
-              (ap W t.0 ∙ now-wide i q e s h c k w only) (next-wide i q e s h c k w only) (latest-fits p r m b st g pr i q s l.0 c l.1 k)
+              (ap W t.0 ∙ now-wide i q e s h c k w only) (next-wide i q e s h c k w only) (latest-fits p r m b st g pr i q s l.0 c l.1 (st.named i c q s k))
               (λ u. next-word i q e s h c k w only y g l.0 pr l.1 (leaves i q s l.0 (ready i q s x u) l.1))
               (λ br z f ld. ap (λ v. or_old (loaded br.values v) (y v)) t.0 ∙ load-word i q e s h c k w only y g l.0 br pr f l.1 old ld) acts
               ∙ sym (acted-latest i q e s h c k w only takes g l.0 pr x l.1)

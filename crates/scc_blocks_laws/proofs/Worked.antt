@@ -12,7 +12,7 @@ use Rattle.scc_svtree.specs.Code.{Code, End, Assign, Arms, stmt_node, arm_node, 
 use Rattle.scc_svtree.specs.Running.{run}
 use Rattle.scc_svtree.specs.Mentions.{assigns, mentions}
 use Rattle.scc_svtree.proofs.Agree.{same_of_eq}
-use Rattle.scc_core_spec.specs.Program.{Process, Edge, is_combinational, is_root}
+use Rattle.scc_core_spec.specs.Program.{Process, Edge, is_combinational, is_root, is_held}
 use Rattle.scc_core_spec.specs.Kept.{written_by}
 use Rattle.scc_core_spec.specs.Live.{live}
 use Rattle.scc_core_spec.specs.Uses.{among, has_sort, width_at}
@@ -78,7 +78,7 @@ keeps a b f e =
     of (Left_out n b) = b
     of Lost = a
 
-    asks : (c w : ℕ) → s.mine c ≡ true → (left a).asked c ≡ Some w → w < 2 ^ width_at handing.cells c
+    asks : (c w : ℕ) → has_sort is_held handing.cells c ≡ true → (left a).asked c ≡ Some w → w < 2 ^ width_at handing.cells c
     asks c w m h = go (nat_eq 2 c) refl
       where
         go : (x : Bool) → nat_eq 2 c ≡ x → w < 2 ^ width_at handing.cells c
@@ -199,6 +199,7 @@ built = record {
 pub steady : IsSteady handing handing_registers
 steady = record {
   constants = constants;
+  named = λ i c q g h. one-process (λ i q. mine handing q c ≡ true → has_sort is_held handing.cells c ≡ true) (two-cells (λ c. has_sort is_held handing.cells c ≡ true) refl refl c) i q g h;
   methods = one-process (λ i q. q.is_thread ≡ false → KeepsFit (sight_of handing i q) (live handing.cells q.body)) (λ h. keeps);
   threads = λ i n q g h t. absurd (one-process (λ i q. q.is_thread ≡ true → ⊥) (λ h. absurd (cc)) i q h t);
   goes = λ i q g pr h. one-process (λ i q. (l : Left) × (turn handing i q g ≡ Some l)) (record { acting = left (found handing 0 handing_process g); place = None }, refl) i q h;

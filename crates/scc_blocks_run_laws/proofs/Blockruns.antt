@@ -13,7 +13,7 @@ use Rattle.scc_svtree.proofs.Agree.{or_first, or_second, or_both_false}
 use Rattle.scc_svtree.proofs.Kept.{run_keeps}
 use Rattle.scc_lower_spec.specs.Gives.{Gives}
 use Rattle.scc_lower_spec.proofs.Gives.{gives_own}
-use Rattle.scc_core_spec.specs.Program.{Program, Process, is_root}
+use Rattle.scc_core_spec.specs.Program.{Program, Process, is_root, is_held}
 use Rattle.scc_core_spec.specs.Kept.{written_by}
 use Rattle.scc_core_spec.specs.Live.{live}
 use Rattle.scc_core_spec.specs.Uses.{among, has_sort, width_at}
@@ -21,7 +21,7 @@ use Rattle.scc_blocks_spec.specs.Acting.{Acting}
 use Rattle.scc_blocks_spec.specs.Effect.{Place, Effect, Fell, Left_out, Lost, effect}
 use Rattle.scc_blocks_spec.specs.Tied.{Registers, HoldsNumber}
 use Rattle.scc_blocks_spec.specs.Turns.{Regs, Left, turn, found, constant_at, lasts, reset_at, method_left, thread_turn, behind_wait, ran_segment, segment_at}
-use Rattle.scc_blocks_spec.specs.Shown.{View, Constant, Read, Driven, Delayed, Plain, Next, view_by, view_of, IsView, mine, sight_of, Shows, ShowsCell, IsAsked, state_number, next_state_number, counter_number, next_counter_number}
+use Rattle.scc_blocks_spec.specs.Shown.{View, Constant, Read, Driven, Delayed, Plain, Next, view_by, view_of, IsView, sight_of, Shows, ShowsCell, IsAsked, state_number, next_state_number, counter_number, next_counter_number}
 use Rattle.scc_blocks_spec.specs.Lowered.{Fits}
 use Rattle.scc_blocks_run_laws.specs.Pieces.{First, firsts_code, first_at, read_cell, at_level, reset_term, states_code, IsThreadCode, BodyBy}
 use Rattle.scc_blocks_run_laws.specs.Blocks.{IsProper, IsPlaceOf, Numbering, IsHere, Stays, Copies, HasVariables, HasOwn, if_wide, IsBlock}
@@ -53,23 +53,20 @@ module _ (p : Program) (r : Registers) (i : ℕ) (q : Process) (g : Regs) where
   find-root : (c : ℕ) → constant_at p c ≡ None → has_sort is_root p.cells c ≡ true → (found p i q g).now c ≡ g.word c
   find-root c a s = find-kept c a (or_first (has_sort is_root p.cells c) _ s)
 
-  find-constant : (c w : ℕ) → constant_at p c ≡ Some w → (found p i q g).now c ≡ w
+  pub find-constant : (c w : ℕ) → constant_at p c ≡ Some w → (found p i q g).now c ≡ w
   find-constant c w a = ap (λ o. unwrap_or o (if lasts p.cells i q c then g.word c else 0)) a
 
   find-none : (c : ℕ) → constant_at p c ≡ None → lasts p.cells i q c ≡ false → (found p i q g).now c ≡ 0
   find-none c a l = λ j. unwrap_or (a j) (if l j then g.word c else 0)
 
-  word-fits : IsSteady p r → IsProper p r g → (n : Numbering) (c : ℕ) (v : View) → IsView p i q c v → HasVariables r n (width_at p.cells c) v c → (found p i q g).now c < 2 ^ width_at p.cells c
-  word-fits st pr n c (Constant w) s h = let P : ℕ → Type 0 = λ x. x < 2 ^ width_at p.cells c in subst P (sym (find-constant c w s)) (st.constants c w s)
-  word-fits st pr n c Read s h = let P : ℕ → Type 0 = λ x. x < 2 ^ width_at p.cells c in subst P (sym (find-root c s.0 s.1)) (pr.fits c (n.id (2 * c)) h.0.1)
-  word-fits st pr n c Driven s h = let P : ℕ → Type 0 = λ x. x < 2 ^ width_at p.cells c in subst P (sym (find-root c s.0 s.1)) (pr.fits c (n.id (2 * c)) h.1)
-  word-fits st pr n c Delayed s h = let P : ℕ → Type 0 = λ x. x < 2 ^ width_at p.cells c in subst P (sym (find-root c s.0 s.1)) (pr.fits c (n.id (2 * c)) h.0.1)
-  word-fits st pr n c Plain s h = let P : ℕ → Type 0 = λ x. x < 2 ^ width_at p.cells c in subst P (sym (find-none c s.0 s.2)) (pow_pos (width_at p.cells c))
-  word-fits st pr n c Next s h = let P : ℕ → Type 0 = λ x. x < 2 ^ width_at p.cells c in subst P (sym (find-kept c s.0 s.2)) (pr.fits c (n.id (2 * c)) h.0.1)
+  word-fits : ((c w : ℕ) → constant_at p c ≡ Some w → w < 2 ^ width_at p.cells c) → IsProper p r g → (c : ℕ) → has_sort is_held p.cells c ≡ true → (o : Option ℕ) → constant_at p c ≡ o → (b : Bool) → lasts p.cells i q c ≡ b → (found p i q g).now c < 2 ^ width_at p.cells c
+  word-fits known pr c h (Some w) a b e = let P : ℕ → Type 0 = λ x. x < 2 ^ width_at p.cells c in subst P (sym (find-constant c w a)) (known c w a)
+  word-fits known pr c h None a true e = let P : ℕ → Type 0 = λ x. x < 2 ^ width_at p.cells c in subst P (sym (find-kept c a e)) (pr.held c h)
+  word-fits known pr c h None a false e = let P : ℕ → Type 0 = λ x. x < 2 ^ width_at p.cells c in subst P (sym (find-none c a e)) (pow_pos (width_at p.cells c))
 
-  pub found-fits : IsSteady p r → IsProper p r g → (n : Numbering) → ((c : ℕ) → mine p q c ≡ true → HasVariables r n (width_at p.cells c) (view_of p i q c) c) → Fits (sight_of p i q) (found p i q g)
-  found-fits st pr n h = record {
-    words = λ c e. word-fits st pr n c (view_of p i q c) (view-is p i q c) (h c e);
+  pub found-fits : ((c w : ℕ) → constant_at p c ≡ Some w → w < 2 ^ width_at p.cells c) → IsProper p r g → Fits (sight_of p i q) (found p i q g)
+  found-fits known pr = record {
+    words = λ c h. word-fits known pr c h (constant_at p c) refl (lasts p.cells i q c) refl;
     asks = λ c w e a. absurd (cc);
     roots = λ c e. refl;
   }
@@ -147,7 +144,7 @@ module _ (p : Program) (r : Registers) (m : SvModule) (i : ℕ) (q : Process) (c
   }
 
   abbrev fit : Fits (sight_of p i q) (found p i q g)
-  fit = found-fits p r i q g st pr n b.cells
+  fit = found-fits p r i q g st.constants pr
 
   abbrev finally : ℕ → ℕ
   finally = run (width_of_variable m.vars) code x

@@ -13,7 +13,7 @@ use Rattle.scc_svtree.specs.Mentions.{mentions}
 use Rattle.scc_svtree.specs.Steps.{input_at, is_clock, loaded, or_old}
 use Rattle.scc_svtree.specs.Variables.{width_at as width_of_variable}
 use Rattle.scc_blocks_spec.specs.Renamed.{code_as}
-use Rattle.scc_core_spec.specs.Program.{Program, Process, Edge, Reset, is_combinational, is_root}
+use Rattle.scc_core_spec.specs.Program.{Program, Process, Edge, Reset, is_combinational, is_root, is_held}
 use Rattle.scc_core_spec.specs.Static.{Cells}
 use Rattle.scc_core_spec.specs.Kept.{written_by}
 use Rattle.scc_core_spec.specs.Segments.{counts}
@@ -31,11 +31,12 @@ use Rattle.scc_blocks_run_laws.specs.Pieces.{First, Wide, firsts_code, first_at,
 
 -- a wait of the thread, with fewer edges left than it counts
 abbrev pub IsPlaceOf : Cells → Process → Place → Type 0
-pub IsPlaceOf cs q place = (count : ℕ) × (slice_get (counts (live_body cs q.body)) place.number ≡ Some count) × (place.left < count)
+IsPlaceOf cs q place = (count : ℕ) × (slice_get (counts (live_body cs q.body)) place.number ≡ Some count) × (place.left < count)
 
--- Words fit, what no process writes holds its constant, and threads stand behind waits of theirs.
+-- Words fit, those of what has a variable and of what is held; what no process writes holds its constant, and threads stand behind waits of theirs.
 pub record IsProper (p : Program) (r : Registers) (g : Regs) : Type 0 where
   pub fits : (c v : ℕ) → r.variable c ≡ Some v → g.word c < 2 ^ width_at p.cells c
+  pub held : (c : ℕ) → has_sort is_held p.cells c ≡ true → g.word c < 2 ^ width_at p.cells c
   pub constants : (c w : ℕ) → has_sort is_root p.cells c ≡ true → constant_at p c ≡ Some w → g.word c ≡ w
   pub places : (i : ℕ) (q : Process) (place : Place) → slice_get p.processes i ≡ Some q → g.place i ≡ Some place → IsPlaceOf p.cells q place
 
@@ -166,7 +167,7 @@ abbrev pub NoWriter : Program → ℕ → Type 0
 NoWriter p c = (j : ℕ) (q : Process) → slice_get p.processes j ≡ Some q → among c (written_by p.cells q) ≡ false
 
 abbrev pub OnlyWriter : Program → ℕ → ℕ → Type 0
-pub OnlyWriter p i c = (j : ℕ) (q : Process) → slice_get p.processes j ≡ Some q → among c (written_by p.cells q) ≡ true → j ≡ i
+OnlyWriter p i c = (j : ℕ) (q : Process) → slice_get p.processes j ≡ Some q → among c (written_by p.cells q) ≡ true → j ≡ i
 
 -- a combinational block that does nothing but set first words
 pub record SetsZero (m : SvModule) (v : ℕ) : Type 0 where

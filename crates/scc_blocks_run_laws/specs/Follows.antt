@@ -3,7 +3,7 @@ use Rattle.std.specs.Prelude.{◌≡◌, ◌<◌, ◌^◌, ℕ, suc, Bool, true,
 use Rattle.scc_svtree.specs.declared.module.SvModule.{SvModule}
 use Rattle.scc_svtree.specs.Steps.{StepInput, Step, Steps, input_at}
 use Rattle.scc_svtree.specs.Sound.{IsSound}
-use Rattle.scc_core_spec.specs.Program.{Program, Process, Edge, is_combinational, is_root}
+use Rattle.scc_core_spec.specs.Program.{Program, Process, Edge, is_combinational, is_root, is_held}
 use Rattle.scc_core_spec.specs.Kept.{written_by}
 use Rattle.scc_core_spec.specs.Live.{live}
 use Rattle.scc_core_spec.specs.Segments.{Segment, Plain, Test, Halt, Finish, counts}
@@ -28,6 +28,8 @@ KeepsSegment s q Finish = Unit {0}
 
 pub record IsSteady (p : Program) (r : Registers) : Type 0 where
   pub constants : (c w : ℕ) → constant_at p c ≡ Some w → w < 2 ^ width_at p.cells c
+  -- what a process names is held
+  pub named : (i c : ℕ) (q : Process) → slice_get p.processes i ≡ Some q → mine p q c ≡ true → has_sort is_held p.cells c ≡ true
   pub methods : (i : ℕ) (q : Process) → slice_get p.processes i ≡ Some q → q.is_thread ≡ false → KeepsFit (sight_of p i q) (live p.cells q.body)
   pub threads : (i n : ℕ) (q : Process) (s : Segment) → slice_get p.processes i ≡ Some q → q.is_thread ≡ true → segment_at p.cells q n ≡ Some s → KeepsSegment (sight_of p i q) q s
   -- each process makes its turn, and a thread comes to a wait
@@ -54,13 +56,14 @@ pub record Turn : Type 0 where
 
 abbrev pub SameEdge : Program → (ℕ → ℕ) → Option (List ℕ) → (ℕ → Bool) → Bool → Type 0
 SameEdge p clock_variable None clocks has_edge = has_edge ≡ false
-pub SameEdge p clock_variable (Some at) clocks has_edge = (has_edge ≡ true) × ((i : ℕ) (q : Process) (e : Edge) → slice_get p.processes i ≡ Some q → q.edge ≡ Some e → clocks (clock_variable e.cell) ≡ among e.cell at)
+SameEdge p clock_variable (Some at) clocks has_edge = (has_edge ≡ true) × ((i : ℕ) (q : Process) (e : Edge) → slice_get p.processes i ≡ Some q → q.edge ≡ Some e → clocks (clock_variable e.cell) ≡ among e.cell at)
 
 -- the inputs but the clocks take the same words, which fit
 pub record SameTurn (p : Program) (r : Registers) (m : SvModule) (clock_variable : ℕ → ℕ) (t : Turn) (s : StepInput) : Type 0 where
   pub given : (c v : ℕ) → r.variable c ≡ Some v → input_at m.vars v ≡ true → (t.inputs c ≡ Some (s.inputs v)) × (s.inputs v < 2 ^ width_at p.cells c)
   pub others : (c v : ℕ) → r.variable c ≡ Some v → input_at m.vars v ≡ false → t.inputs c ≡ None
   pub constants : (c w : ℕ) → constant_at p c ≡ Some w → t.inputs c ≡ None
+  pub fits : (c w : ℕ) → has_sort is_held p.cells c ≡ true → t.inputs c ≡ Some w → w < 2 ^ width_at p.cells c
   pub edge : SameEdge p clock_variable t.at s.clocks s.has_edge
 
 abbrev pub AllSameTurns : Program → Registers → SvModule → (ℕ → ℕ) → List Turn → List StepInput → Type 0
@@ -84,7 +87,7 @@ registers_shown p (t ∷ ts) g = let h = begun p t.inputs g in (h ∷ seen_after
 -- a thread that has no place yet finds its reset active at its clock's edge
 abbrev pub FindsReset : Program → Option (List ℕ) → Regs → Type 0
 FindsReset p None g = Unit {0}
-pub FindsReset p (Some at) g = (i : ℕ) (q : Process) → slice_get p.processes i ≡ Some q → q.is_thread ≡ true → has_clock at q.edge ≡ true → g.place i ≡ None → reset_at g.word q.reset ≡ true
+FindsReset p (Some at) g = (i : ℕ) (q : Process) → slice_get p.processes i ≡ Some q → q.is_thread ≡ true → has_clock at q.edge ≡ true → g.place i ≡ None → reset_at g.word q.reset ≡ true
 
 abbrev pub FindResets : Program → List Turn → Regs → Type 0
 FindResets p [] g = Unit {0}
@@ -109,12 +112,12 @@ pub record Follows (p : Program) (r : Registers) (t : Turn) (g : Regs) (z : ℕ 
   pub proper : IsProper p r (after_turn p t.at (begun p t.inputs g))
 
 abbrev pub ModuleFollows : Program → Registers → SvModule → (ℕ → ℕ) → Type 0
-pub ModuleFollows p r m clock_variable = (t : Turn) (s : StepInput) (x z : ℕ → ℕ) (seen : List (ℕ → ℕ)) (g : Regs) → SameTurn p r m clock_variable t s → IsProper p r g → MirrorsRegisters p r x g
+ModuleFollows p r m clock_variable = (t : Turn) (s : StepInput) (x z : ℕ → ℕ) (seen : List (ℕ → ℕ)) (g : Regs) → SameTurn p r m clock_variable t s → IsProper p r g → MirrorsRegisters p r x g
     → FindsReset p t.at (begun p t.inputs g) → Step m s x z seen → Follows p r t g z seen
 
 -- and over steps, each observation mirrors the registers
 abbrev pub StepsFollow : Program → Registers → SvModule → (ℕ → ℕ) → Type 0
-pub StepsFollow p r m clock_variable = (ts : List Turn) (ss : List StepInput) (x : ℕ → ℕ) (g : Regs) (seen : List (List (ℕ → ℕ))) → AllSameTurns p r m clock_variable ts ss → IsProper p r g → MirrorsRegisters p r x g
+StepsFollow p r m clock_variable = (ts : List Turn) (ss : List StepInput) (x : ℕ → ℕ) (g : Regs) (seen : List (List (ℕ → ℕ))) → AllSameTurns p r m clock_variable ts ss → IsProper p r g → MirrorsRegisters p r x g
     → FindResets p ts g → Steps m x ss seen → AllMirrorSteps p r seen (registers_shown p ts g)
 
 -- what a module of a core has to be, with what holds of the core

@@ -12,7 +12,7 @@ use Rattle.scc_blocks_run_laws.specs.Blocks.{Numbering, Built, Origin}
 
 -- what a valuation of the module has of the cells that a process finds
 abbrev pub SeesCell : Registers → (ℕ → ℕ) → Regs → View → ℕ → Type 0
-pub SeesCell r x g Read c = (u : ℕ) → r.variable c ≡ Some u → x u ≡ g.word c
+SeesCell r x g Read c = (u : ℕ) → r.variable c ≡ Some u → x u ≡ g.word c
 SeesCell r x g Delayed c = (u : ℕ) → r.variable c ≡ Some u → x u ≡ g.word c
 SeesCell r x g Next c = (u : ℕ) → r.variable c ≡ Some u → x u ≡ g.word c
 SeesCell r x g v c = Unit {0}

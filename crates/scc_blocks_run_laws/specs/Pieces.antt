@@ -80,7 +80,7 @@ place_code w n left = put_number w.state next_state_number n (put_number w.count
 
 -- the code of a segment, statement by statement
 abbrev pub IsSegmentCode : Sight → (ℕ → ℕ) → Wide → Segment → emitted_code.Code → Type 0
-pub IsSegmentCode s width w (Plain c r) code = (l rest : emitted_code.Code) × IsLoweredCode s width c l × IsSegmentCode s width w r rest × (code ≡ then_code l rest)
+IsSegmentCode s width w (Plain c r) code = (l rest : emitted_code.Code) × IsLoweredCode s width c l × IsSegmentCode s width w r rest × (code ≡ then_code l rest)
 IsSegmentCode s width w (Test p t a b) code = (front yes no : emitted_code.Code) × (e : emitted.Term) × IsLoweredTerm s width t front e
     × IsSegmentCode s width w a yes × IsSegmentCode s width w b no × (code ≡ then_code front (emitted_code.If e yes no emitted_code.End))
 IsSegmentCode s width w (Halt p n count) code = code ≡ place_code w n (count - 1)

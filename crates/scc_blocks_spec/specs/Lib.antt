@@ -10,7 +10,6 @@ pub mod Places
 pub mod Tied
 pub mod Comes
 pub mod Passed
-pub mod Rounds
 pub mod Names
 pub mod Listed
 pub mod Edged

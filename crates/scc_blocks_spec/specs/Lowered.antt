@@ -8,7 +8,7 @@ use Rattle.scc_svtree.specs.Running.{run}
 use Rattle.scc_svtree.specs.Mentions.{assigns}
 use Rattle.scc_core_spec.specs.Term.{Term, kind_of}
 use Rattle.scc_core_spec.specs.Code.{Code}
-use Rattle.scc_core_spec.specs.Program.{is_root}
+use Rattle.scc_core_spec.specs.Program.{is_root, is_held}
 use Rattle.scc_core_spec.specs.Uses.{has_sort, width_at}
 use Rattle.scc_blocks_spec.specs.Acting.{Acting, word_in}
 use Rattle.scc_blocks_spec.specs.Effect.{Fell, effect}
@@ -22,8 +22,8 @@ pub record Gives (e : Sized) (width : ℕ) (word : Option ℕ) : Type 0 where
 
 -- Words and requests fit their cells, and only roots are asked.
 pub record Fits (s : Sight) (a : Acting) : Type 0 where
-  pub words : (c : ℕ) → s.mine c ≡ true → a.now c < 2 ^ width_at s.cells c
-  pub asks : (c w : ℕ) → s.mine c ≡ true → a.asked c ≡ Some w → w < 2 ^ width_at s.cells c
+  pub words : (c : ℕ) → has_sort is_held s.cells c ≡ true → a.now c < 2 ^ width_at s.cells c
+  pub asks : (c w : ℕ) → has_sort is_held s.cells c ≡ true → a.asked c ≡ Some w → w < 2 ^ width_at s.cells c
   pub roots : (c : ℕ) → has_sort is_root s.cells c ≡ false → a.asked c ≡ None
 
 -- nothing is assigned but the variables of the lowering

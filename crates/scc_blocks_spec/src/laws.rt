@@ -3,7 +3,6 @@ ghost use Rattle.std.specs.Prelude.{◌≡◌, ℕ, List, [], ◌∷◌, ◌++�
 ghost use Rattle.scc_semantics.specs.Location.{Location};
 ghost use Rattle.scc_semantics.specs.Process.{State};
 ghost use Rattle.scc_semantics.specs.Design.{Design};
-ghost use Rattle.scc_blocks_spec.specs.Rounds.{EndsSoon};
 ghost use Rattle.scc_svtree.specs.Code as emitted_code;
 ghost use Rattle.scc_svtree.specs.Term as emitted;
 ghost use Rattle.scc_core_spec.specs.Term.{Term};
@@ -87,7 +86,6 @@ pub fn a_variable_is_lowered_as_itself()
 /// A pass keeps what its law says; the rules tell what paths do.
 pub fn passes_keep_shapes()
     ensures shape { (k : ℕ) (constant : Location → Option ℕ) (c m : Program) → Law k constant c m → SameShape c m }
-    ensures rounds { (d : Design) → EndsSoon d → EndsSoon d }
     ensures rules { (p : Program) → TellsAccepted p → TellsAccepted p }
     ensures waits { (thread_of count_cells 0 (record { is_thread = true; name = record { path = []; own = None; indices = [] }; place = at 0; senses = []; edge = None; reset = None; body = count_body })).waits ≡ 1 ∷ 1 ∷ [] }
 {}

@@ -1,5 +1,5 @@
 //! Laws of what walks over bodies tell, and further worked values.
-ghost use Rattle.std.specs.Prelude.{◌≡◌, ℕ, List, [], ◌∷◌, ◌++◌, codes, decimal, drop, flat_map, Option, Some, None, true};
+ghost use Rattle.std.specs.Prelude.{false, ◌≡◌, ℕ, List, [], ◌∷◌, ◌++◌, codes, decimal, drop, flat_map, Option, Some, None, true};
 ghost use Rattle.scc_base.specs.declared.refusal.Refusal.{Refusal};
 ghost use Rattle.scc_base.specs.declared.code.Code.TheVariants as reason;
 ghost use Rattle.scc_svtree.specs.declared.expr.SvExpr.{SvExpr};
@@ -18,9 +18,10 @@ ghost use Rattle.scc_core_spec.specs.Live.{live};
 ghost use Rattle.scc_core_spec.specs.Segments.{all_segments};
 ghost use Rattle.scc_core_spec.specs.Sizes.{live_body};
 ghost use Rattle.scc_base.specs.declared.refusal.Place.{Place};
-ghost use Rattle.scc_core_spec.specs.Unrolled.{unrolled, run_turns};
+ghost use Rattle.scc_core_spec.specs.Unrolled.{unrolled, run_turns, setting_of};
+ghost use Rattle.scc_core_spec.specs.Counted.{Elsewhere};
 ghost use Rattle.scc_core_spec.specs.Uses.{cells_of};
-ghost use Rattle.scc_core_spec.specs.Worked.{here, named, put, number, count_cells, local_cells, turn_cells};
+ghost use Rattle.scc_core_spec.specs.Worked.{here, named, process, put, number, count_cells, local_cells, turn_cells};
 ghost use Rattle.scc_core_spec.specs.WorkedRules.{at};
 ghost use Rattle.scc_core_spec.specs.WorkedRun.{counting, counting_process};
 ghost use Rattle.scc_blocks_spec.specs.Listed.{list_text, register_line, register_lines, process_line};
@@ -75,8 +76,8 @@ pub fn what_is_past_the_end()
     ensures within { cells_of some_cells (Index (Prefix here (named 5)) 2 (number 1)) ≡ 2 ∷ [] }
     ensures past { cells_of some_cells (Index (Prefix here (named 5)) 2 (number 2)) ≡ [] }
     ensures any { cells_of some_cells (Index (Prefix here (named 5)) 2 flag) ≡ 1 ∷ 2 ∷ [] }
-    ensures turns { run_turns turn_cells [] 0 no_turn_body ≡ [] }
-    ensures written { unrolled turn_cells [] no_turn_body ≡ Block here (Block here (put 4 (number 8) End) End) End }
+    ensures turns { run_turns (setting_of turn_cells (process false [] no_turn_body)) [] Elsewhere 0 no_turn_body ≡ [] }
+    ensures written { unrolled (setting_of turn_cells (process false [] no_turn_body)) [] Elsewhere no_turn_body ≡ Block here (Block here (put 4 (number 8) End) End) End }
 {}
 
 /// Each of two clocks moves its own method; an asynchronous reset acts without an edge, a synchronous one doesn't.

@@ -13,11 +13,11 @@ abbrev Distinct : List ℕ → Type 0
 Distinct [] = Unit {0}
 Distinct (x ∷ xs) = (among x xs ≡ false) × Distinct xs
 
-dropped : ℕ → List ℕ → List ℕ
+pub dropped : ℕ → List ℕ → List ℕ
 dropped x [] = []
 dropped x (y ∷ ys) = if nat_eq x y then ys else y ∷ dropped x ys
 
-drop-length : (x : ℕ) (ys : List ℕ) → among x ys ≡ true → suc (length (dropped x ys)) ≡ length ys
+pub drop-length : (x : ℕ) (ys : List ℕ) → among x ys ≡ true → suc (length (dropped x ys)) ≡ length ys
 unfolding dropped
 drop-length x [] e = true-false (sym e)
 drop-length x (y ∷ ys) e = by (nat_eq x y) e (λ h. drop-length x ys h)
@@ -26,7 +26,7 @@ drop-length x (y ∷ ys) e = by (nat_eq x y) e (λ h. drop-length x ys h)
     by true e more = refl
     by false e more = ap suc (more e)
 
-drop-keeps : (x k : ℕ) (ys : List ℕ) → among k ys ≡ true → nat_eq k x ≡ false → among k (dropped x ys) ≡ true
+pub drop-keeps : (x k : ℕ) (ys : List ℕ) → among k ys ≡ true → nat_eq k x ≡ false → among k (dropped x ys) ≡ true
 unfolding dropped
 drop-keeps x k [] e n = e
 drop-keeps x k (y ∷ ys) e n = by (nat_eq x y) refl (nat_eq k y) refl e (λ h. drop-keeps x k ys h n)

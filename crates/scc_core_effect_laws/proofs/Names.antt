@@ -17,7 +17,8 @@ use Rattle.scc_core_spec.specs.Static.{Cells, static, pattern, first_of, fixed_w
 use Rattle.scc_core_spec.specs.Named.{Step, Named, At, Ours, Open, steps_of, part_step, own_steps, fits, is_open, names_cell, cell_at, cells_at}
 use Rattle.scc_core_spec.specs.Uses.{root_of, root_of_sort, cells_of, among}
 use Rattle.scc_blocks_spec.specs.Acting.{Acting, word_in, steps_in, cell_named, word_or_zero}
-use Rattle.scc_core_effect_laws.specs.Sound.{loosely, Sized, FixedWords}
+use Rattle.scc_core_spec.specs.OpenNames.{agrees}
+use Rattle.scc_core_effect_laws.specs.Sound.{Sized, FixedWords}
 
 pub and-first : (a b : Bool) → (a && b) ≡ true → a ≡ true
 and-first true b e = refl
@@ -91,10 +92,10 @@ covers-self : (p : List Step) → Shut p → CoversAll p p
 covers-self [] e = tt
 covers-self (s ∷ p) e = let c = closed-self s p e in (c.0, covers-self p c.1)
 
-one-fits : (s : Step) (p q y : List Step) → ((z : List Step) → fits q z ≡ true → loosely p z ≡ true) → is_open (s ∷ []) ≡ false → fits (s ∷ q) y ≡ true → loosely (s ∷ p) y ≡ true
-one-fits (Named n) p q (Named m ∷ y) l o e = and-both (nat_eq n m) (loosely p y) (and-first (nat_eq n m) (fits q y) e) (l y (and-second (nat_eq n m) (fits q y) e))
-one-fits (At n) p q (At m ∷ y) l o e = and-both (nat_eq n m) (loosely p y) (and-first (nat_eq n m) (fits q y) e) (l y (and-second (nat_eq n m) (fits q y) e))
-one-fits (Ours n) p q (Ours m ∷ y) l o e = and-both (nat_eq n m) (loosely p y) (and-first (nat_eq n m) (fits q y) e) (l y (and-second (nat_eq n m) (fits q y) e))
+one-fits : (s : Step) (p q y : List Step) → ((z : List Step) → fits q z ≡ true → agrees p z ≡ true) → is_open (s ∷ []) ≡ false → fits (s ∷ q) y ≡ true → agrees (s ∷ p) y ≡ true
+one-fits (Named n) p q (Named m ∷ y) l o e = and-both (nat_eq n m) (agrees p y) (and-first (nat_eq n m) (fits q y) e) (l y (and-second (nat_eq n m) (fits q y) e))
+one-fits (At n) p q (At m ∷ y) l o e = and-both (nat_eq n m) (agrees p y) (and-first (nat_eq n m) (fits q y) e) (l y (and-second (nat_eq n m) (fits q y) e))
+one-fits (Ours n) p q (Ours m ∷ y) l o e = and-both (nat_eq n m) (agrees p y) (and-first (nat_eq n m) (fits q y) e) (l y (and-second (nat_eq n m) (fits q y) e))
 one-fits (Open n) p q y l o e = true-false o
 one-fits (Named n) p q [] l o e = e
 one-fits (Named n) p q (At m ∷ y) l o e = e
@@ -109,28 +110,28 @@ one-fits (Ours n) p q (Named m ∷ y) l o e = e
 one-fits (Ours n) p q (At m ∷ y) l o e = e
 one-fits (Ours n) p q (Open m ∷ y) l o e = e
 
-open-fits : (n j : ℕ) (p q y : List Step) → ((z : List Step) → fits q z ≡ true → loosely p z ≡ true) → fits (At j ∷ q) y ≡ true → loosely (Open n ∷ p) y ≡ true
+open-fits : (n j : ℕ) (p q y : List Step) → ((z : List Step) → fits q z ≡ true → agrees p z ≡ true) → fits (At j ∷ q) y ≡ true → agrees (Open n ∷ p) y ≡ true
 open-fits n j p q (At m ∷ y) l e = l y (and-second (nat_eq j m) (fits q y) e)
 open-fits n j p q [] l e = e
 open-fits n j p q (Named m ∷ y) l e = e
 open-fits n j p q (Ours m ∷ y) l e = e
 open-fits n j p q (Open m ∷ y) l e = e
 
-fits-loosely : (p q y : List Step) → CoversAll p q → fits q y ≡ true → loosely p y ≡ true
-fits-loosely [] [] y c e = empty y e
+fits-agrees : (p q y : List Step) → CoversAll p q → fits q y ≡ true → agrees p y ≡ true
+fits-agrees [] [] y c e = empty y e
   where
-    empty : (y : List Step) → fits [] y ≡ true → loosely [] y ≡ true
+    empty : (y : List Step) → fits [] y ≡ true → agrees [] y ≡ true
     empty [] e = refl
     empty (y ∷ ys) e = e
-fits-loosely (Named n ∷ p) (t ∷ q) y c e = one-fits (Named n) p q y (λ z. fits-loosely p q z c.1) refl (subst (λ z. fits (z ∷ q) y ≡ true) (sym c.0) e)
-fits-loosely (At n ∷ p) (t ∷ q) y c e = one-fits (At n) p q y (λ z. fits-loosely p q z c.1) refl (subst (λ z. fits (z ∷ q) y ≡ true) (sym c.0) e)
-fits-loosely (Ours n ∷ p) (t ∷ q) y c e = one-fits (Ours n) p q y (λ z. fits-loosely p q z c.1) refl (subst (λ z. fits (z ∷ q) y ≡ true) (sym c.0) e)
-fits-loosely (Open n ∷ p) (At j ∷ q) y c e = open-fits n j p q y (λ z. fits-loosely p q z c.1) e
-fits-loosely (Open n ∷ p) (Named j ∷ q) y c e = absurd c.0
-fits-loosely (Open n ∷ p) (Ours j ∷ q) y c e = absurd c.0
-fits-loosely (Open n ∷ p) (Open j ∷ q) y c e = absurd c.0
-fits-loosely [] (t ∷ q) y c e = absurd c
-fits-loosely (s ∷ p) [] y c e = absurd c
+fits-agrees (Named n ∷ p) (t ∷ q) y c e = one-fits (Named n) p q y (λ z. fits-agrees p q z c.1) refl (subst (λ z. fits (z ∷ q) y ≡ true) (sym c.0) e)
+fits-agrees (At n ∷ p) (t ∷ q) y c e = one-fits (At n) p q y (λ z. fits-agrees p q z c.1) refl (subst (λ z. fits (z ∷ q) y ≡ true) (sym c.0) e)
+fits-agrees (Ours n ∷ p) (t ∷ q) y c e = one-fits (Ours n) p q y (λ z. fits-agrees p q z c.1) refl (subst (λ z. fits (z ∷ q) y ≡ true) (sym c.0) e)
+fits-agrees (Open n ∷ p) (At j ∷ q) y c e = open-fits n j p q y (λ z. fits-agrees p q z c.1) e
+fits-agrees (Open n ∷ p) (Named j ∷ q) y c e = absurd c.0
+fits-agrees (Open n ∷ p) (Ours j ∷ q) y c e = absurd c.0
+fits-agrees (Open n ∷ p) (Open j ∷ q) y c e = absurd c.0
+fits-agrees [] (t ∷ q) y c e = absurd c
+fits-agrees (s ∷ p) [] y c e = absurd c
 
 -- ---- names have no open index
 
@@ -386,7 +387,7 @@ module _ (cs : Cells) (a : Acting) (fixed : FixedWords cs a) where
       let x = cell-found s 0 cs k.0 k.1 in
       let fit = and-first (fits s (steps_of x.1.name)) (not (is_pointer x.1.sort)) x.4 in
       let plain = and-second (fits s (steps_of x.1.name)) (not (is_pointer x.1.sort)) x.4 in
-      let fit' = sized.within t.0 x.0 x.1 t.1 x.3 (not-true (is_pointer x.1.sort) plain) (fits-loosely t.0 s (steps_of x.1.name) (covers l t.0 s t.1 e) fit) in
+      let fit' = sized.within t.0 x.0 x.1 t.1 x.3 (not-true (is_pointer x.1.sort) plain) (fits-agrees t.0 s (steps_of x.1.name) (covers l t.0 s t.1 e) fit) in
       let here = among-all t.0 0 cs x.0 x.1 x.3 (and-both (fits t.0 (steps_of x.1.name)) (not (is_pointer x.1.sort)) fit' plain) in
       let there = among-map (root_of cs) (0 + x.0) (cells_at 0 t.0 cs) here in
       ap (λ o. among c (unwrap_or (option_map (λ p. map (root_of cs) (cells_at 0 p cs)) o) [])) t.1

@@ -14,7 +14,7 @@ use Rattle.scc_blocks_spec.specs.Effect.{Effect, Fell, Left_out, Lost, effect, P
 use Rattle.scc_blocks_spec.specs.Turns.{Left as Leaving, left_by, method_left, segment_at, ran_segment, behind_wait, thread_turn}
 use Rattle.scc_core_effect_laws.specs.Sound.{FitWords, FixedWords, SoundPut, SoundTest, Each}
 use Rattle.scc_core_effect_laws.specs.Alike.{Both, Alike, AlikeRan}
-use Rattle.scc_core_effect_laws.specs.Follows.{IsResolved, Obeys}
+use Rattle.scc_core_effect_laws.specs.Follows.{IsSoundCore, Obeys}
 use Rattle.scc_core_effect_laws.proofs.Names.{and-first, true-false}
 use Rattle.scc_core_effect_laws.proofs.Depends.{NoRoots, shrinks, same-effect, weaker}
 use Rattle.scc_core_effect_laws.proofs.Lateness.{grow}
@@ -31,7 +31,7 @@ abbrev pub LeftMoved : Cells → (ℕ → Bool) → Acting → Option Leaving �
 LeftMoved cs w a None = Unit {0}
 LeftMoved cs w a (Some b) = Moved cs w a b.acting
 
-module _ (home : Home) (p : Program) (resolved : IsResolved home p) (obeys : Obeys p) (i : ℕ) (q : Process) (here : slice_get p.processes i ≡ Some q) where
+module _ (home : Home) (p : Program) (resolved : IsSoundCore home p) (obeys : Obeys p) (i : ℕ) (q : Process) (here : slice_get p.processes i ≡ Some q) where
   abbrev cs : Cells
   cs = p.cells
 

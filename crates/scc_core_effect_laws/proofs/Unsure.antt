@@ -21,7 +21,7 @@ use Rattle.scc_blocks_spec.specs.Names.{keeps}
 use Rattle.scc_blocks_spec.specs.Passed.{all_named}
 use Rattle.scc_blocks_spec.specs.Turns.{constant_at, segment_at}
 use Rattle.scc_core_effect_laws.specs.Alike.{Late, Unread, UnreadUses}
-use Rattle.scc_core_effect_laws.specs.Follows.{IsResolved, Obeys}
+use Rattle.scc_core_effect_laws.specs.Follows.{IsSoundCore, Obeys}
 use Rattle.scc_core_effect_laws.proofs.Names.{and-first, and-second, and-both, or-first, or-second, or-left, or-right, some-same, none-some, true-false, not-true}
 use Rattle.scc_core_effect_laws.proofs.Lateness.{told, unread-late}
 use Rattle.scc_core_effect_laws.proofs.Parts.{GoodSegment, GoodSegments, numbered-each, all-good}
@@ -113,7 +113,7 @@ good-at P T [] n s g e = none-some s e
 good-at P T (x ∷ ss) zero s g e = subst (GoodSegment P T) (some-same x s e) g.0
 good-at P T (x ∷ ss) (suc n) s g e = good-at P T ss n s g.1 e
 
-module _ (home : Home) (p : Program) (resolved : IsResolved home p) (obeys : Obeys p) where
+module _ (home : Home) (p : Program) (resolved : IsSoundCore home p) (obeys : Obeys p) where
   abbrev cs : Cells
   cs = p.cells
 

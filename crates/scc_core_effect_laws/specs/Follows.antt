@@ -4,6 +4,7 @@ use Rattle.std.specs.Prelude.{◌≡◌, ◌<◌, ℕ, suc, Bool, true, false, n
 use Rattle.scc_semantics.specs.Location.{Location, same}
 use Rattle.scc_semantics.specs.Store.{updated}
 use Rattle.scc_semantics.specs.Design.{Design}
+use Rattle.scc_semantics.specs.Start.{IsProper}
 use Rattle.scc_semantics.specs.Value.{Held}
 use Rattle.scc_semantics.specs.Machine.{Frames, Suspended, Ended, run}
 use Rattle.scc_semantics.specs.Process.{State, Well, settle}
@@ -24,9 +25,9 @@ use Rattle.scc_blocks_spec.specs.Turns.{Regs, thread_turn, ran_segment, segment_
 use Rattle.scc_core_effect_laws.specs.Sound.{FitWords, FixedWords, Sound}
 use Rattle.scc_core_effect_laws.specs.Alike.{Late}
 
--- A resolved core: the locations of its cells are apart, its live parts are sound, edges and resets are signals or ports of the top, threads have edges, a process names
+-- A sound core: the locations of its cells are apart, its live parts are sound, edges and resets are signals or ports of the top, threads have edges, a process names
 -- no other's locals, and what no process can change is written by none.
-pub record IsResolved (home : Home) (p : Program) : Type 0 where
+pub record IsSoundCore (home : Home) (p : Program) : Type 0 where
   pub apart : (c d : ℕ) (x y : Cell) → slice_get p.cells c ≡ Some x → slice_get p.cells d ≡ Some y → is_pointer x.sort ≡ false → is_pointer y.sort ≡ false
       → same (cell_location home p x) (cell_location home p y) ≡ true → c ≡ d
   pub sound : (i : ℕ) (q : Process) → slice_get p.processes i ≡ Some q → Sound p.cells (live p.cells q.body)
@@ -45,8 +46,13 @@ pub record Obeys (p : Program) : Type 0 where
       → among x (all_named p.cells q) ≡ true → among x (written_by p.cells r) ≡ true → i ≡ j
   pub late : (i x : ℕ) (q : Process) → slice_get p.processes i ≡ Some q → q.is_thread ≡ false → watched p q x ≡ true → Late p.cells (nat_eq x) (live p.cells q.body)
 
--- what a process finds: the signals at roots, the store's words at variables and locals, and nothing asked yet
+abbrev pub design_of : Home → Program → Design
+design_of home p = source_of home p (constants_of home p)
+
+-- what a process finds: proper signals at roots, the store's words, which are proper too, at variables and locals, and nothing asked yet
 pub record Meets (home : Home) (p : Program) (signals words : Location → ℕ) (a : Acting) : Type 0 where
+  pub shown : IsProper (design_of home p) signals
+  pub held : IsProper (design_of home p) words
   pub roots : (c : ℕ) (x : Cell) → slice_get p.cells c ≡ Some x → is_root x.sort ≡ true → a.now c ≡ signals (cell_location home p x)
   pub numbers : (c : ℕ) (x : Cell) → slice_get p.cells c ≡ Some x → is_number x.sort ≡ true → a.now c ≡ words (cell_location home p x)
   pub calm : (c : ℕ) → a.asked c ≡ None
@@ -61,9 +67,6 @@ pub record Leaves (home : Home) (p : Program) (old new : Held) (a : Acting) : Ty
       → updated new.requests w (cell_location home p x) ≡ unwrap_or (a.asked c) (updated old.requests w (cell_location home p x))
   pub unasked : (c : ℕ) (x : Cell) (w : Location → ℕ) → slice_get p.cells c ≡ Some x → is_number x.sort ≡ true
       → updated new.requests w (cell_location home p x) ≡ updated old.requests w (cell_location home p x)
-
-abbrev pub design_of : Home → Program → Design
-design_of home p = source_of home p (constants_of home p)
 
 abbrev pub runs : Home → Program → (Location → ℕ) → ℕ → Frames → Held → Rattle.scc_semantics.specs.Machine.Outcome
 runs home p signals n f h = run (design_of home p).places (design_of home p).functions signals n f h
@@ -93,7 +96,7 @@ pub record SettleFollows (home : Home) (p : Program) (bounds : ℕ → ℕ) (s :
 
 -- A thread's resume before its first statement, or behind a wait that is over, is its segment: it comes to a wait, within these bounds.
 pub record RunsSegments (home : Home) (p : Program) (bounds : ℕ → ℕ) : Type 0 where
-  pub enough : (i : ℕ) (q : Process) → slice_get p.processes i ≡ Some q → 0 < bounds i
+  pub enough : (i : ℕ) (q : Process) → slice_get p.processes i ≡ Some q → q.is_thread ≡ true → 0 < bounds i
   pub begins : (i : ℕ) (q : Process) (signals : Location → ℕ) (h : Held) (a : Acting) → slice_get p.processes i ≡ Some q → q.is_thread ≡ true → Meets home p signals h.store.words a
       → (b : Acting) × (to : Place) × (g : Frames) × (k : Held) × (ran_segment p.cells (segment_at p.cells q 0) a ≡ Some (record { acting = b; place = Some to }))
       × (runs home p signals (bounds i) (first_frames home p i q) h ≡ Suspended g k) × Leaves home p h k b × StandsAt home p i q (Some to) g

@@ -40,11 +40,11 @@ pub record Answers (p : Program) (g : Regs) : Type 0 where
 
 -- one more round of all combinational methods changes nothing
 abbrev pub IsSettled : Program → Regs → Type 0
-pub IsSettled p g = (c : ℕ) (x : Cell) → slice_get p.cells c ≡ Some x → holds_word p c ≡ true → (acted p (λ i q. is_combinational q) g).word c ≡ g.word c
+IsSettled p g = (c : ℕ) (x : Cell) → slice_get p.cells c ≡ Some x → holds_word p c ≡ true → (acted p (λ i q. is_combinational q) g).word c ≡ g.word c
 
 -- the same words at roots that no combinational method writes
 abbrev pub SameInputs : Program → Regs → Regs → Type 0
-pub SameInputs p g h = (c : ℕ) → has_sort is_root p.cells c ≡ true
+SameInputs p g h = (c : ℕ) → has_sort is_root p.cells c ≡ true
     → ((i : ℕ) (q : Process) → slice_get p.processes i ≡ Some q → is_combinational q ≡ true → among c (written_by p.cells q) ≡ true → ⊥) → g.word c ≡ h.word c
 
 -- What is asked of an order, and of what processes read, beside the rules.

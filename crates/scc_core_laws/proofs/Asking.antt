@@ -21,12 +21,12 @@ use Rattle.scc_blocks_spec.specs.Turns.{Regs, Taking, Left as Leaving, constant_
 use Rattle.scc_blocks_spec.specs.Tied.{Tied}
 use Rattle.scc_core_effect_laws.specs.Sound.{SoundPut, SoundTest, Each, FitWords, FixedWords}
 use Rattle.scc_core_effect_laws.specs.Alike.{Both, Alike, Unseen}
-use Rattle.scc_core_effect_laws.specs.Follows.{IsResolved, Obeys, Does, Tracks}
+use Rattle.scc_core_effect_laws.specs.Follows.{IsSoundCore, Obeys, Does, Tracks}
 use Rattle.scc_core_effect_laws.specs.Ordering.{IsOrdered, Answers}
 use Rattle.scc_core_effect_laws.proofs.Names.{and-second, or-left, some-same, none-some, true-false}
 use Rattle.scc_core_effect_laws.proofs.Lateness.{any-false}
 use Rattle.scc_core_effect_laws.proofs.Unsure.{flat-in, sort-of, has-sort, number-two, number-no-root, variable-written, written-named, flat-more}
-use Rattle.scc_core_laws.proofs.Found.{Middle, both, number-held}
+use Rattle.scc_core_laws.proofs.Found.{HaveRun, Middle, both, number-held}
 use Rattle.scc_core_laws.proofs.Resumes.{resumes}
 use Rattle.scc_core_effect_laws.proofs.Framed.{AllBlind, framed-effect}
 use Rattle.scc_core_effect_laws.proofs.Latched.{ReachedBy, effect-asks}
@@ -69,7 +69,7 @@ module _ (cs : Cells) (z : CellSet) where
   all-blind (Exit p n c) w s v r h = all-blind c w s v r h
   all-blind (Wait p l n c) w s v r h = all-blind c w s v r h
 
-module _ (home : Home) (p : Program) (resolved : IsResolved home p) (obeys : Obeys p) (bounds : ℕ → ℕ) (does : Does home p bounds) (tracks : Tracks home p bounds) (order : List ℕ) (ordered : IsOrdered p order) where
+module _ (home : Home) (p : Program) (resolved : IsSoundCore home p) (obeys : Obeys p) (bounds : ℕ → ℕ) (does : Does home p bounds) (tracks : Tracks home p bounds) (order : List ℕ) (ordered : IsOrdered p order) where
   abbrev cs : Cells
   cs = p.cells
 
@@ -83,23 +83,30 @@ module _ (home : Home) (p : Program) (resolved : IsResolved home p) (obeys : Obe
   first-at : (s : State) → Phase
   first-at s = record { held = record { store = s.store; requests = [] }; frames = s.frames }
 
-  middle-at : (s : State) (g : Regs) (tied : Tied home p s g) (i : ℕ) → Middle home p resolved obeys combs s g tied i (first-at s)
+  none-ran : HaveRun
+  none-ran j r = ⊥
+
+  middle-at : (s : State) (g : Regs) (tied : Tied home p s g) → Middle home p resolved obeys none-ran s g tied (first-at s)
   unfolding first-at
-  middle-at s g tied i = record {
+  middle-at s g tied = record {
     numbers = λ c x e n u. refl;
     roots = λ c x e r. refl;
     asked = λ c x w e r u. refl;
     unasked = λ c x w e n. refl;
     fit = λ c x e n. tied.proper c x e (number-held x.sort n);
     fit_asked = λ c x w e r f. f;
-    frames = λ j h. refl;
+    frames = λ j r e n. refl;
   }
+
+  anew : (i : ℕ) (q : Process) → is_some q.edge ≡ true → none-ran i q → ⊥
+  unfolding none-ran
+  anew i q e b = b
 
   -- a tied turn of a method falls through
   falls : (s : State) (g : Regs) → Tied home p s g → (i : ℕ) (q : Process) → slice_get p.processes i ≡ Some q → q.is_thread ≡ false
       → (b : Acting) × (effect cs (live cs q.body) (found p i q g) ≡ Fell b) × (turn p i q g ≡ Some (record { acting = b; place = None }))
   falls s g tied i q here m =
-      let z = resumes home p resolved obeys bounds does tracks combs s g tied i q here (first-at s) (middle-at s g tied i) in
+      let z = resumes home p resolved obeys bounds does tracks none-ran s g tied i q here (first-at s) (middle-at s g tied) (anew i q) in
       let turned : turn p i q g ≡ method_left (effect cs (live cs q.body) (found p i q g)) =
       ap (λ b. if b then thread_turn cs q (reset_at g.word q.reset) (g.place i) (found p i q g) else method_left (effect cs (live cs q.body) (found p i q g))) m in
       let e = by (effect cs (live cs q.body) (found p i q g)) z.left (sym turned ∙ z.resumed.turned) in
@@ -198,8 +205,8 @@ module _ (home : Home) (p : Program) (resolved : IsResolved home p) (obeys : Obe
 
   pub tied-answers : (s : State) (g : Regs) → Tied home p s g → Answers p g
   tied-answers s g tied = record {
-    fit = λ i q here comb. (both home p resolved obeys combs s g tied i q here (first-at s) (middle-at s g tied i)).fit_too;
-    fixed = λ i q here comb. (both home p resolved obeys combs s g tied i q here (first-at s) (middle-at s g tied i)).fixed_too;
+    fit = λ i q here comb. (both home p resolved obeys none-ran s g tied i q here (first-at s) (middle-at s g tied) (anew i q)).fit_too;
+    fixed = λ i q here comb. (both home p resolved obeys none-ran s g tied i q here (first-at s) (middle-at s g tied) (anew i q)).fixed_too;
     falls = λ i q here comb. let f = falls s g tied i q here (comb-two q.is_thread q.edge comb).0 in (f.0, f.1);
   }
 

@@ -97,7 +97,7 @@ module _ (home : Home) (p : Program) (bounds : ℕ → ℕ) (segments : RunsSegm
             waiting w.0.0 n w.0.1,
             h,
             refl,
-            ap (λ f. runs home p signals (bounds i) f h) (sym w.2) ∙ one-wait signals (bounds i) w.0.0 n w.0.1 h (segments.enough i q e) stands,
+            ap (λ f. runs home p signals (bounds i) f h) (sym w.2) ∙ one-wait signals (bounds i) w.0.0 n w.0.1 h (segments.enough i q e t) stands,
             leaves-all signals h a m,
             ap (option_map (λ w. waiting w.0 n w.1)) w.1,
           )

@@ -1,5 +1,5 @@
 -- In the middle of a phase a process finds in the store what it finds in the registers, but for what it reads late.
-use Rattle.std.proofs.Common.{◌≡◌, ℕ, zero, suc, ◌+◌, ◌<◌, ◌≤◌, ◌^◌, pow_pos, Bool, true, false, not, ◌&&◌, ◌||◌, List, [], ◌∷◌, Option, Some, None, refl, sym, ap, ◌∙◌, subst, arith, if◌then◌else◌, slice_get, is_some, ◌⊎◌, inl, inr}
+use Rattle.std.proofs.Common.{◌≡◌, ℕ, zero, suc, ◌+◌, ◌<◌, ◌^◌, pow_pos, Bool, true, false, not, ◌&&◌, ◌||◌, List, [], ◌∷◌, Option, Some, None, refl, sym, ap, ◌∙◌, subst, arith, if◌then◌else◌, slice_get, is_some, ◌⊎◌, inl, inr}
 use Rattle.std.specs.Prelude.{option_and_then, unwrap_or}
 use Rattle.scc_bits_kinds.specs.Kinds.{width_of}
 use Rattle.scc_semantics.specs.Location.{Location}
@@ -14,15 +14,16 @@ use Rattle.scc_core_spec.specs.Constants.{written, constant_if}
 use Rattle.scc_core_spec.specs.Source.{Home, cell_location}
 use Rattle.scc_blocks_spec.specs.Acting.{Acting, calm}
 use Rattle.scc_blocks_spec.specs.Names.{keeps, kept_from}
-use Rattle.scc_blocks_spec.specs.Turns.{Regs, Taking, constant_at, lasts, found, is_clocked}
+use Rattle.scc_blocks_spec.specs.Turns.{Regs, constant_at, lasts, found, is_clocked}
 use Rattle.scc_blocks_spec.specs.Tied.{Tied}
 use Rattle.scc_core_effect_laws.specs.Sound.{FitWords}
 use Rattle.scc_core_effect_laws.specs.Alike.{Both}
-use Rattle.scc_core_effect_laws.specs.Follows.{IsResolved, Obeys, Meets}
+use Rattle.scc_core_effect_laws.specs.Follows.{IsSoundCore, Obeys, Meets}
 use Rattle.scc_core_effect_laws.proofs.Names.{and-first, and-second, and-both, or-left, or-right, some-same, none-some, true-false}
+use Rattle.scc_core_laws.proofs.Proper.{fixed-constant, proper-from}
 use Rattle.scc_core_effect_laws.proofs.Unsure.{flat-has, is-false, is-true, sort-of, has-sort, number-no-root, unsure, written-named}
 
-kept-in : (cs : Cells) (n : ℕ) (qs : List Process) (j : ℕ) (q : Process) (c : ℕ) → slice_get qs j ≡ Some q → keeps cs (n + j) q c ≡ true → kept_from cs n qs c ≡ true
+pub kept-in : (cs : Cells) (n : ℕ) (qs : List Process) (j : ℕ) (q : Process) (c : ℕ) → slice_get qs j ≡ Some q → keeps cs (n + j) q c ≡ true → kept_from cs n qs c ≡ true
 kept-in cs n [] j q c e k = none-some q e
 kept-in cs n (r ∷ qs) zero q c e k = or-left _ _ ((λ i. keeps cs (from i) (some-same r q e i) c) ∙ k)
   where
@@ -64,31 +65,49 @@ number-held s e = or-right _ _ e
 pub root-held : (s : Sort) → is_root s ≡ true → is_held s ≡ true
 root-held s e = or-left _ _ e
 
+-- what has a constant is held
+pub constant-held : (p : Program) (c w : ℕ) (x : program.Cell) → slice_get p.cells c ≡ Some x → constant_at p c ≡ Some w → is_held x.sort ≡ true
+constant-held p c w x e k = by x.sort (among c (written p)) (sym (ap (option_and_then (λ x. constant_if (among c (written p)) x.sort)) e) ∙ k)
+  where
+    by : (s : Sort) (b : Bool) → constant_if b s ≡ Some w → is_held s ≡ true
+    by (Variable v f) b h = refl
+    by Signal b h = refl
+    by Output b h = refl
+    by s true h = none-some w h
+    by Input false h = none-some w h
+    by (Local j) false h = none-some w h
+    by (Pointer t) false h = none-some w h
+    by (Port t) false h = none-some w h
+
 -- what a process meets: of other cells anything
 abbrev pub met : Home → Program → (signals words : Location → ℕ) → ℕ → Option program.Cell → ℕ
 met home p signals words other None = other
 met home p signals words other (Some x) = if is_root x.sort then signals (cell_location home p x) else (if is_number x.sort then words (cell_location home p x) else other)
 
-module _ (home : Home) (p : Program) (resolved : IsResolved home p) (obeys : Obeys p) (takes : Taking) (s : State) (g : Regs) (tied : Tied home p s g) where
+-- which processes have run in the phase so far
+abbrev pub HaveRun : Type 1
+HaveRun = ℕ → Process → Type 0
+
+module _ (home : Home) (p : Program) (resolved : IsSoundCore home p) (obeys : Obeys p) (ran : HaveRun) (s : State) (g : Regs) (tied : Tied home p s g) where
   abbrev cs : Cells
   cs = p.cells
 
   abbrev pub at : program.Cell → Location
   at x = cell_location home p x
 
-  -- no process before this one that takes part writes the cell
-  abbrev pub Untaken : ℕ → ℕ → Type 0
-  Untaken i c = (j : ℕ) (r : Process) → j < i → slice_get p.processes j ≡ Some r → takes j r ≡ true → among c (written_by cs r) ≡ true → ⊥
+  -- no process that has run writes the cell
+  abbrev pub Untaken : ℕ → Type 0
+  Untaken c = (j : ℕ) (r : Process) → ran j r → slice_get p.processes j ≡ Some r → among c (written_by cs r) ≡ true → ⊥
 
-  -- the processes before this one have run
-  pub record Middle (i : ℕ) (ph : Phase) : Type 0 where
-    pub numbers : (c : ℕ) (x : program.Cell) → slice_get cs c ≡ Some x → is_number x.sort ≡ true → Untaken i c → ph.held.store.words (at x) ≡ s.store.words (at x)
+  -- these processes have run
+  pub record Middle (ph : Phase) : Type 0 where
+    pub numbers : (c : ℕ) (x : program.Cell) → slice_get cs c ≡ Some x → is_number x.sort ≡ true → Untaken c → ph.held.store.words (at x) ≡ s.store.words (at x)
     pub roots : (c : ℕ) (x : program.Cell) → slice_get cs c ≡ Some x → is_root x.sort ≡ true → ph.held.store.words (at x) ≡ s.store.words (at x)
-    pub asked : (c : ℕ) (x : program.Cell) (w : Location → ℕ) → slice_get cs c ≡ Some x → is_root x.sort ≡ true → Untaken i c → updated ph.held.requests w (at x) ≡ w (at x)
+    pub asked : (c : ℕ) (x : program.Cell) (w : Location → ℕ) → slice_get cs c ≡ Some x → is_root x.sort ≡ true → Untaken c → updated ph.held.requests w (at x) ≡ w (at x)
     pub unasked : (c : ℕ) (x : program.Cell) (w : Location → ℕ) → slice_get cs c ≡ Some x → is_number x.sort ≡ true → updated ph.held.requests w (at x) ≡ w (at x)
     pub fit : (c : ℕ) (x : program.Cell) → slice_get cs c ≡ Some x → is_number x.sort ≡ true → ph.held.store.words (at x) < 2 ^ width_of x.kind
     pub fit_asked : (c : ℕ) (x : program.Cell) (w : Location → ℕ) → slice_get cs c ≡ Some x → is_root x.sort ≡ true → w (at x) < 2 ^ width_of x.kind → updated ph.held.requests w (at x) < 2 ^ width_of x.kind
-    pub frames : (j : ℕ) → i ≤ j → ph.frames j ≡ s.frames j
+    pub frames : (j : ℕ) (r : Process) → slice_get p.processes j ≡ Some r → (ran j r → ⊥) → ph.frames j ≡ s.frames j
 
   pub constant-unwritten : (c w : ℕ) → constant_at p c ≡ Some w → among c (written p) ≡ false
   constant-unwritten c w e = is-false _ (λ h. by (slice_get cs c) (sym (ap (λ b. option_and_then (λ x. constant_if b x.sort) (slice_get cs c)) h) ∙ e))
@@ -132,17 +151,21 @@ module _ (home : Home) (p : Program) (resolved : IsResolved home p) (obeys : Obe
           second true b c e h = true-false e
           second false b c e h = h
 
-  module _ (i : ℕ) (q : Process) (here : slice_get p.processes i ≡ Some q) (ph : Phase) (middle : Middle i ph) where
+  -- a process that has an edge runs once
+  module _ (i : ℕ) (q : Process) (here : slice_get p.processes i ≡ Some q) (ph : Phase) (middle : Middle ph) (anew : is_some q.edge ≡ true → ran i q → ⊥) where
     abbrev pub actual : Acting
     actual = calm (λ c. met home p s.store.words ph.held.store.words ((found p i q g).now c) (slice_get cs c))
 
     constant-holds : (c w : ℕ) (x : program.Cell) → slice_get cs c ≡ Some x → is_number x.sort ≡ true → constant_at p c ≡ Some w → ph.held.store.words (at x) ≡ w
     constant-holds c w x e n k =
-        middle.numbers c x e n (λ j r l f t h. true-false (sym (flat-has (written_by cs) c p.processes j r f h) ∙ constant-unwritten c w k)) ∙ tied.constants c x w e k
+        middle.numbers c x e n (λ j r b f h. true-false (sym (flat-has (written_by cs) c p.processes j r f h) ∙ constant-unwritten c w k)) ∙ tied.constants c x w e k
 
     kept-holds : (c : ℕ) (x : program.Cell) → slice_get cs c ≡ Some x → is_number x.sort ≡ true → keeps cs i q c ≡ true → ph.held.store.words (at x) ≡ g.word c
     kept-holds c x e n k =
-        middle.numbers c x e n (λ j r l f t h. absurd (let m = keeper i j c q r here f (has-sort is_number cs c x e ∙ n) k h in grind (arith, m, l)))
+        middle.numbers c x e n (λ j r b f h.
+        let m : j ≡ i = keeper i j c q r here f (has-sort is_number cs c x e ∙ n) k h in
+        let equal : r ≡ q = some-same r q (sym f ∙ ap (slice_get p.processes) m ∙ here) in
+        absurd (anew (and-first (is_some q.edge) _ k) (subst (λ n. ran n q) m (subst (ran j) equal b))))
         ∙ tied.words c x e (or-right (has_sort is_root cs c) _ (kept-in cs 0 p.processes i q c here (ap (λ m. keeps cs m q c) from ∙ k)))
       where
         from : 0 + i ≡ i
@@ -200,19 +223,6 @@ module _ (home : Home) (p : Program) (resolved : IsResolved home p) (obeys : Obe
                 kept-holds c x e n kept ∙ sym (found-word c k (kept-lasts c (has-sort is_root cs c x e ∙ r) kept))
             sorts false false r n o k = refl
 
-    fixed-constant : (c w : ℕ) (x : program.Cell) → slice_get cs c ≡ Some x → fixed_word x.sort ≡ Some w → constant_at p c ≡ Some w
-    fixed-constant c w x e f = ap (option_and_then (λ x. constant_if (among c (written p)) x.sort)) e ∙ ap (λ b. constant_if b x.sort) (resolved.fixed c x w e f) ∙ by x.sort f
-      where
-        by : (s : Sort) → fixed_word s ≡ Some w → constant_if false s ≡ Some w
-        by (Variable v true) f = f
-        by (Variable v false) f = none-some w f
-        by Input f = none-some w f
-        by Output f = none-some w f
-        by Signal f = none-some w f
-        by (Local j) f = none-some w f
-        by (Pointer t) f = none-some w f
-        by (Port t) f = none-some w f
-
     fixed-number : (s : Sort) (w : ℕ) → fixed_word s ≡ Some w → is_number s ≡ true
     fixed-number (Variable v b) w f = refl
     fixed-number Input w f = none-some w f
@@ -247,13 +257,30 @@ module _ (home : Home) (p : Program) (resolved : IsResolved home p) (obeys : Obe
         by c x e h None k true = subst (λ o. unwrap_or o (g.word c) < 2 ^ width_of x.kind) (sym k) (tied.fits c x e h)
         by c x e h None k false = subst (λ o. unwrap_or o 0 < 2 ^ width_of x.kind) (sym k) (pow_pos (width_of x.kind))
 
+    -- the words that it finds are proper
+    held-fits : (c : ℕ) (x : program.Cell) → slice_get cs c ≡ Some x → is_held x.sort ≡ true → ph.held.store.words (at x) < 2 ^ width_of x.kind
+    held-fits c x e h = by (held-two x.sort h)
+      where
+        by : ((is_root x.sort ≡ true) ⊎ (is_number x.sort ≡ true)) → ph.held.store.words (at x) < 2 ^ width_of x.kind
+        by (inl r) = subst (λ n. n < 2 ^ width_of x.kind) (sym (middle.roots c x e r)) (tied.proper c x e h)
+        by (inr n) = middle.fit c x e n
+
+    held-constants : (c w : ℕ) (x : program.Cell) → slice_get cs c ≡ Some x → constant_at p c ≡ Some w → ph.held.store.words (at x) ≡ w
+    held-constants c w x e k = by (held-two x.sort (constant-held p c w x e k))
+      where
+        by : ((is_root x.sort ≡ true) ⊎ (is_number x.sort ≡ true)) → ph.held.store.words (at x) ≡ w
+        by (inl r) = middle.roots c x e r ∙ tied.constants c x w e k
+        by (inr n) = constant-holds c w x e n k
+
     pub meets : Meets home p s.store.words ph.held.store.words actual
     meets = record {
+      shown = proper-from home p resolved s.store.words tied.proper (λ c w x e k. tied.constants c x w e k);
+      held = proper-from home p resolved ph.held.store.words held-fits held-constants;
       roots = met-root;
       numbers = met-number;
       calm = λ c. refl;
       fit = actual-fits;
-      fixed = record { holds = λ c x w e f. met-number c x e (fixed-number x.sort w f) ∙ constant-holds c w x e (fixed-number x.sort w f) (fixed-constant c w x e f) };
+      fixed = record { holds = λ c x w e f. met-number c x e (fixed-number x.sort w f) ∙ constant-holds c w x e (fixed-number x.sort w f) (fixed-constant home p resolved c w x e f) };
     }
 
     pub both : Both cs (unsure p i q) actual (found p i q g)
@@ -263,5 +290,5 @@ module _ (home : Home) (p : Program) (resolved : IsResolved home p) (obeys : Obe
       fit = actual-fits;
       fit_too = found-fits;
       fixed = meets.fixed;
-      fixed_too = record { holds = λ c x w e f. ap (λ o. unwrap_or o (if lasts cs i q c then g.word c else 0)) (fixed-constant c w x e f) };
+      fixed_too = record { holds = λ c x w e f. ap (λ o. unwrap_or o (if lasts cs i q c then g.word c else 0)) (fixed-constant home p resolved c w x e f) };
     }

@@ -1,3 +1,4 @@
+pub mod Proper
 pub mod Found
 pub mod Resumes
 pub mod Phases
@@ -10,3 +11,5 @@ pub mod Asking
 pub mod Ordered
 pub mod OnlyOne
 pub mod Rules
+pub mod Resolved
+pub mod Orders

@@ -11,14 +11,14 @@ use Rattle.scc_core_spec.specs.Source.{Home}
 use Rattle.scc_blocks_spec.specs.Names.{holds_word}
 use Rattle.scc_blocks_spec.specs.Passed.{all_reads}
 use Rattle.scc_blocks_spec.specs.Turns.{Regs}
-use Rattle.scc_core_effect_laws.specs.Follows.{IsResolved, Obeys, Does, Tracks}
+use Rattle.scc_core_effect_laws.specs.Follows.{IsSoundCore, Obeys, Does, Tracks}
 use Rattle.scc_core_effect_laws.specs.Ordering.{IsOrdered, Answers, IsSettled, SameInputs}
 use Rattle.scc_core_effect_laws.proofs.Names.{and-second, or-left, true-false}
 use Rattle.scc_core_effect_laws.proofs.Unsure.{is-false, sort-of}
 use Rattle.scc_core_laws.proofs.Asking.{same-asked}
 use Rattle.scc_core_laws.proofs.Ordered.{in-methods, all-at, written-next, feeds-is, writer-or}
 
-module _ (home : Home) (p : Program) (resolved : IsResolved home p) (obeys : Obeys p) (bounds : ℕ → ℕ) (does : Does home p bounds) (tracks : Tracks home p bounds) (order : List ℕ) (ordered : IsOrdered p order)
+module _ (home : Home) (p : Program) (resolved : IsSoundCore home p) (obeys : Obeys p) (bounds : ℕ → ℕ) (does : Does home p bounds) (tracks : Tracks home p bounds) (order : List ℕ) (ordered : IsOrdered p order)
     (g h : Regs) (known : Answers p g) (known' : Answers p h) (settled : IsSettled p g) (settled' : IsSettled p h) (inputs : SameInputs p g h) where
   abbrev cs : Cells
   cs = p.cells

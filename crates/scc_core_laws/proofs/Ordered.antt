@@ -17,7 +17,7 @@ use Rattle.scc_blocks_spec.specs.Acting.{latest}
 use Rattle.scc_blocks_spec.specs.Passed.{all_reads}
 use Rattle.scc_blocks_spec.specs.Turns.{Regs, Taking, turn, taken_from, acted, rounds, settled}
 use Rattle.scc_blocks_spec.specs.Tied.{Tied}
-use Rattle.scc_core_effect_laws.specs.Follows.{IsResolved, Obeys, Does, Tracks}
+use Rattle.scc_core_effect_laws.specs.Follows.{IsSoundCore, Obeys, Does, Tracks}
 use Rattle.scc_core_effect_laws.specs.Ordering.{IsOrdered, IsSettled}
 use Rattle.scc_core_effect_laws.proofs.Names.{and-first, and-second, and-both, or-left, or-right, some-same, none-some, true-false}
 use Rattle.scc_core_effect_laws.proofs.Unsure.{is-false, has-sort}
@@ -111,7 +111,7 @@ in-methods p j r e c =
     from : 0 + j ≡ j
     from = omega arith
 
-module _ (home : Home) (p : Program) (resolved : IsResolved home p) (obeys : Obeys p) (bounds : ℕ → ℕ) (does : Does home p bounds) (tracks : Tracks home p bounds) (order : List ℕ) (ordered : IsOrdered p order) where
+module _ (home : Home) (p : Program) (resolved : IsSoundCore home p) (obeys : Obeys p) (bounds : ℕ → ℕ) (does : Does home p bounds) (tracks : Tracks home p bounds) (order : List ℕ) (ordered : IsOrdered p order) where
   abbrev cs : Cells
   cs = p.cells
 
@@ -245,9 +245,9 @@ module _ (home : Home) (p : Program) (resolved : IsResolved home p) (obeys : Obe
     all-stable m (done placed h) stable = λ n i x q l here comb root w. stable n i x q (omega (arith, l)) (h i (in-methods p i q here comb)) here comb root w
     all-stable m (next {rest = rest} placed i a r least more) stable = λ n j x q l. all-stable (suc m) more (place-next m i placed r stable) n j x q (omega (arith, l))
 
-    -- the registers that settled are settled
-    pub settled-is : IsSettled p (settled p g)
-    settled-is c x e k = by (held-two x.sort (word-is-held p c x e k))
+    -- after as many rounds as the order is long the registers are settled
+    pub settled-at : (n : ℕ) → length order ≤ n → IsSettled p (rounds p n g)
+    settled-at n long c x e k = by (held-two x.sort (word-is-held p c x e k))
       where
         held-two : (s : program.Sort) → is_held s ≡ true → (is_root s ≡ true) ⊎ (is_number s ≡ true)
         held-two s e = by-root (is_root s) e
@@ -256,15 +256,12 @@ module _ (home : Home) (p : Program) (resolved : IsResolved home p) (obeys : Obe
             by-root true e = inl refl
             by-root false e = inr e
 
-        most : ℕ
-        most = length (filter is_combinational p.processes)
+        enough : 0 + length order ≤ n
+        enough = omega (arith, long)
 
-        enough : 0 + length order ≤ suc most
-        enough = omega (arith, ordered.short)
-
-        by : ((is_root x.sort ≡ true) ⊎ (is_number x.sort ≡ true)) → (acted p combs (settled p g)).word c ≡ (settled p g).word c
-        by (inr n) = unwritten-stays (settled p g) c (λ j r here comb w.
-            let kept = keeps-it home p resolved obeys bounds does tracks combs process.is_combinational (combines home p resolved obeys bounds does tracks) s g tied j c r x here e n k w in
+        by : ((is_root x.sort ≡ true) ⊎ (is_number x.sort ≡ true)) → (acted p combs (at-round n)).word c ≡ (at-round n).word c
+        by (inr number) = unwritten-stays (at-round n) c (λ j r here comb w.
+            let kept = keeps-it home p resolved obeys bounds does tracks combs process.is_combinational (combines home p resolved obeys bounds does tracks) s g tied j c r x here e number k w in
             no-edge r.is_thread r.edge comb (and-first (is_some r.edge) _ kept))
           where
             no-edge : (t : Bool) (o : Option Edge) → is_combinational_by t o ≡ true → is_some o ≡ true → ⊥
@@ -274,8 +271,12 @@ module _ (home : Home) (p : Program) (resolved : IsResolved home p) (obeys : Obe
         by (inl o) = which (writer-or c)
           where
             which : (((z : ℕ) × (r : Process) × (slice_get p.processes z ≡ Some r) × (is_combinational r ≡ true) × (among c (written_by cs r) ≡ true))
-                ⊎ ((z : ℕ) (r : Process) → slice_get p.processes z ≡ Some r → is_combinational r ≡ true → among c (written_by cs r) ≡ true → ⊥)) → (acted p combs (settled p g)).word c ≡ (settled p g).word c
-            which (inr none) = unwritten-stays (settled p g) c none
+                ⊎ ((z : ℕ) (r : Process) → slice_get p.processes z ≡ Some r → is_combinational r ≡ true → among c (written_by cs r) ≡ true → ⊥)) → (acted p combs (at-round n)).word c ≡ (at-round n).word c
+            which (inr none) = unwritten-stays (at-round n) c none
             which (inl y) =
-                sym (ap (λ g. g.word c) (rounds-more p (suc most) g))
-                ∙ all-stable 0 ordered.stands (λ n i x q l a. true-false (sym a)) (suc most) y.0 c y.1 enough y.2 y.3 (has-sort is_root cs c x e ∙ o) y.4
+                sym (ap (λ g. g.word c) (rounds-more p n g))
+                ∙ all-stable 0 ordered.stands (λ n i x q l a. true-false (sym a)) n y.0 c y.1 enough y.2 y.3 (has-sort is_root cs c x e ∙ o) y.4
+
+    -- the registers that settled are settled
+    pub settled-is : IsSettled p (settled p g)
+    settled-is = settled-at (suc (length (filter is_combinational p.processes))) (omega (arith, ordered.short))

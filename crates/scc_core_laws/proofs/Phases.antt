@@ -1,5 +1,5 @@
 -- A phase of the design is one of the registers: from tied states it goes well, and ends in tied states.
-use Rattle.std.proofs.Common.{◌≡◌, ℕ, zero, suc, ◌+◌, ◌<◌, ◌≤◌, ◌^◌, add-one, Bool, true, false, not, ◌&&◌, ◌||◌, nat_eq, List, [], ◌∷◌, length, Option, Some, None, refl, sym, ap, ◌∙◌, subst, arith, if◌then◌else◌, slice_get, is_some, ◌⊎◌, inl, inr}
+use Rattle.std.proofs.Common.{◌≡◌, ℕ, zero, suc, ◌+◌, ◌<◌, ◌^◌, add-one, Bool, true, false, not, ◌&&◌, ◌||◌, nat_eq, List, [], ◌∷◌, length, Option, Some, None, refl, sym, ap, ◌∙◌, subst, arith, if◌then◌else◌, slice_get, is_some, ◌⊎◌, inl, inr}
 use Rattle.std.specs.Prelude.{option_map, option_and_then, unwrap_or}
 use Rattle.scc_bits_kinds.specs.Kinds.{width_of}
 use Rattle.scc_semantics.specs.Location.{Location, same}
@@ -18,10 +18,10 @@ use Rattle.scc_blocks_spec.specs.Effect.{Place}
 use Rattle.scc_blocks_spec.specs.Names.{keeps, kept_from, is_register, holds_word}
 use Rattle.scc_blocks_spec.specs.Turns.{Regs, Taking, Left, constant_at, lasts, found, turn, taken_from, place_from, acted}
 use Rattle.scc_blocks_spec.specs.Tied.{Tied}
-use Rattle.scc_core_effect_laws.specs.Follows.{IsResolved, Obeys, Does, Tracks, StandsAt, design_of}
+use Rattle.scc_core_effect_laws.specs.Follows.{IsSoundCore, Obeys, Does, Tracks, StandsAt, design_of}
 use Rattle.scc_core_effect_laws.proofs.Names.{and-first, and-second, or-left, or-right, some-same, none-some, true-false}
 use Rattle.scc_core_effect_laws.proofs.Unsure.{flat-has, is-false, has-sort, number-no-root}
-use Rattle.scc_core_laws.proofs.Found.{Untaken, Middle, keeper, constant-unwritten, root-held, number-held, local-is}
+use Rattle.scc_core_laws.proofs.Found.{HaveRun, Untaken, Middle, keeper, constant-unwritten, constant-held, root-held, number-held, local-is}
 use Rattle.scc_core_laws.proofs.Resumes.{source_process, Resumed, resumes, stands-now}
 
 -- what a location has after requests depends on what it had
@@ -74,21 +74,7 @@ word-is-held p c x e k = by-root (has_sort is_root p.cells c) refl k
     by-root true h k = root-held x.sort (sym (has-sort is_root p.cells c x e) ∙ h)
     by-root false h k = let z = kept-from-is p.cells 0 p.processes c k in keeps-held p.cells (0 + z.0) z.1 c x e z.3
 
--- what has a constant is held
-pub constant-held : (p : Program) (c w : ℕ) (x : program.Cell) → slice_get p.cells c ≡ Some x → constant_at p c ≡ Some w → is_held x.sort ≡ true
-constant-held p c w x e k = by x.sort (among c (written p)) (sym (ap (option_and_then (λ x. constant_if (among c (written p)) x.sort)) e) ∙ k)
-  where
-    by : (s : Sort) (b : Bool) → constant_if b s ≡ Some w → is_held s ≡ true
-    by (Variable v f) b h = refl
-    by Signal b h = refl
-    by Output b h = refl
-    by s true h = none-some w h
-    by Input false h = none-some w h
-    by (Local j) false h = none-some w h
-    by (Pointer t) false h = none-some w h
-    by (Port t) false h = none-some w h
-
-module _ (home : Home) (p : Program) (resolved : IsResolved home p) (obeys : Obeys p) (bounds : ℕ → ℕ) (does : Does home p bounds) (tracks : Tracks home p bounds)
+module _ (home : Home) (p : Program) (resolved : IsSoundCore home p) (obeys : Obeys p) (bounds : ℕ → ℕ) (does : Does home p bounds) (tracks : Tracks home p bounds)
     (takes : Taking) (test : running.Process → Bool) (tests : (i : ℕ) (q : Process) → slice_get p.processes i ≡ Some q → test (source_process home p i q) ≡ takes i q) (s : State) (g : Regs) (tied : Tied home p s g) where
   abbrev cs : Cells
   cs = p.cells
@@ -96,14 +82,21 @@ module _ (home : Home) (p : Program) (resolved : IsResolved home p) (obeys : Obe
   abbrev at : program.Cell → Location
   at x = cell_location home p x
 
+  -- those that take part and stand before this one
+  abbrev Before : ℕ → HaveRun
+  Before i j r = (j < i) × (takes j r ≡ true)
+
   abbrev Un : ℕ → ℕ → Type 0
-  Un = Untaken home p resolved obeys takes s g tied
+  Un i = Untaken home p resolved obeys (Before i) s g tied
 
   abbrev Mid : ℕ → Phase → Type 0
-  Mid = Middle home p resolved obeys takes s g tied
+  Mid i = Middle home p resolved obeys (Before i) s g tied
 
   abbrev Res : ℕ → Process → Phase → Phase → Left → Type 0
-  Res = Resumed home p resolved obeys bounds does tracks takes s g tied
+  Res i = Resumed home p resolved obeys bounds does tracks (Before i) s g tied i
+
+  not-yet : (i : ℕ) (q : Process) → Before i i q → ⊥
+  not-yet i q b = absurd (let n = b.0 in grind (arith, n))
 
   pub held-two : (s : Sort) → is_held s ≡ true → (is_root s ≡ true) ⊎ (is_number s ≡ true)
   held-two s e = by (is_root s) e
@@ -117,7 +110,7 @@ module _ (home : Home) (p : Program) (resolved : IsResolved home p) (obeys : Obe
   keeps-it i c q x here e n h w =
       let k = kept-from-is cs 0 p.processes c (register (has_sort is_root cs c) (has-sort is_root cs c x e ∙ number-no-root x.sort n) h) in
       let k' : keeps cs k.0 k.1 c ≡ true = ap (λ m. keeps cs m k.1 c) (from k.0) ∙ k.3 in
-      let one : i ≡ k.0 = keeper home p resolved obeys takes s g tied k.0 i c k.1 q k.2 here (has-sort is_number cs c x e ∙ n) k' w in
+      let one : i ≡ k.0 = keeper home p resolved obeys (Before i) s g tied k.0 i c k.1 q k.2 here (has-sort is_number cs c x e ∙ n) k' w in
       let equal : q ≡ k.1 = some-same q k.1 (sym here ∙ ap (slice_get p.processes) one ∙ k.2) in
       (λ j. keeps cs (one j) (equal j) c) ∙ k'
     where
@@ -128,13 +121,13 @@ module _ (home : Home) (p : Program) (resolved : IsResolved home p) (obeys : Obe
       from : (j : ℕ) → j ≡ 0 + j
       from j = omega arith
 
-  only-writer : (i j c : ℕ) (q r : Process) (x : program.Cell) → slice_get p.processes i ≡ Some q → slice_get p.processes j ≡ Some r → slice_get cs c ≡ Some x → is_held x.sort ≡ true → holds_word p c ≡ true
+  pub only-writer : (i j c : ℕ) (q r : Process) (x : program.Cell) → slice_get p.processes i ≡ Some q → slice_get p.processes j ≡ Some r → slice_get cs c ≡ Some x → is_held x.sort ≡ true → holds_word p c ≡ true
       → among c (written_by cs q) ≡ true → among c (written_by cs r) ≡ true → j ≡ i
   only-writer i j c q r x e f m h k w v = by (held-two x.sort h)
     where
       by : ((is_root x.sort ≡ true) ⊎ (is_number x.sort ≡ true)) → j ≡ i
       by (inl root) = obeys.writers j i c r q f e (has-sort is_root cs c x m ∙ root) v w
-      by (inr n) = keeper home p resolved obeys takes s g tied i j c q r e f (has-sort is_number cs c x m ∙ n) (keeps-it i c q x e m n k w) v
+      by (inr n) = keeper home p resolved obeys (Before i) s g tied i j c q r e f (has-sort is_number cs c x m ∙ n) (keeps-it i c q x e m n k w) v
 
   -- nothing was written there yet
   quiet : (i : ℕ) (ph : Phase) (c : ℕ) (x : program.Cell) → Mid i ph → slice_get cs c ≡ Some x → is_held x.sort ≡ true → Un i c → updated ph.held.requests ph.held.store.words (at x) ≡ s.store.words (at x)
@@ -152,11 +145,14 @@ module _ (home : Home) (p : Program) (resolved : IsResolved home p) (obeys : Obe
     unasked = m.unasked;
     fit = m.fit;
     fit_asked = m.fit_asked;
-    frames = λ j l. m.frames j (omega (arith, l));
+    frames = λ j r e n. m.frames j r e (λ b. n (step j r b));
   }
     where
+      step : (j : ℕ) (r : Process) → Before i j r → Before (suc i) j r
+      step j r b = let l = b.0 in (omega (arith, l), b.1)
+
       less : (c : ℕ) → Un (suc i) c → Un i c
-      less c u j r l f t w = u j r (omega (arith, l)) f t w
+      less c u j r b f w = u j r (step j r b) f w
 
   next-taken : (i : ℕ) (q : Process) (ph to : Phase) (l : Left) → slice_get p.processes i ≡ Some q → takes i q ≡ true → Mid i ph → Res i q ph to l → Mid (suc i) to
   next-taken i q ph to l here t m r = record {
@@ -166,17 +162,26 @@ module _ (home : Home) (p : Program) (resolved : IsResolved home p) (obeys : Obe
     unasked = λ c x w e n. r.unasked c x w e n ∙ m.unasked c x w e n;
     fit = r.number_fits;
     fit_asked = λ c x w e o f. asked-fits c x w e o f (l.acting.asked c) refl;
-    frames = λ j h. r.frames j (apart j h) ∙ m.frames j (omega (arith, h));
+    frames = λ j y e n. r.frames j (apart j y e n) ∙ m.frames j y e (λ b. n (step j y b));
   }
     where
+      step : (j : ℕ) (r : Process) → Before i j r → Before (suc i) j r
+      step j r b = let l = b.0 in (omega (arith, l), b.1)
+
       less : (c : ℕ) → Un (suc i) c → Un i c
-      less c u j r l f t w = u j r (omega (arith, l)) f t w
+      less c u j r b f w = u j r (step j r b) f w
 
       free : (c : ℕ) → Un (suc i) c → among c (written_by cs q) ≡ false
-      free c u = is-false _ (λ w. u i q (omega arith) here t w)
+      free c u = is-false _ (λ w. u i q (omega arith, t) here w)
 
-      apart : (j : ℕ) → suc i ≤ j → nat_eq i j ≡ false
-      apart j h = grind (arith, h)
+      equal : (j : ℕ) → nat_eq i j ≡ true → i ≡ j
+      equal j h = grind arith
+
+      apart : (j : ℕ) (y : Process) → slice_get p.processes j ≡ Some y → (Before (suc i) j y → ⊥) → nat_eq i j ≡ false
+      apart j y e n = is-false _ (λ h.
+          let one = equal j h in
+          let same : q ≡ y = some-same q y (sym here ∙ ap (slice_get p.processes) one ∙ e) in
+          n (omega (arith, one), (λ k. takes (sym one k) (sym same k)) ∙ t))
 
       asked-fits : (c : ℕ) (x : program.Cell) (w : Location → ℕ) → slice_get cs c ≡ Some x → is_root x.sort ≡ true → w (at x) < 2 ^ width_of x.kind → (o : Option ℕ) → l.acting.asked c ≡ o → updated to.held.requests w (at x) < 2 ^ width_of x.kind
       asked-fits c x w e o f None a = subst (λ n. n < 2 ^ width_of x.kind) (sym (r.asked c x w e o ∙ ap (λ z. unwrap_or z (updated ph.held.requests w (at x))) a)) (m.fit_asked c x w e o f)
@@ -245,20 +250,20 @@ module _ (home : Home) (p : Program) (resolved : IsResolved home p) (obeys : Obe
           from = omega arith
 
       more : (c : ℕ) → Un i c → Un (suc i) c
-      more c u j z l f v w = cases (nat_eq j i) refl
+      more c u j z h f w = cases (nat_eq j i) refl
         where
           cases : (b : Bool) → nat_eq j i ≡ b → ⊥
-          cases false n = u j z (grind (arith, n, l)) f v w
+          cases false n = let l = h.0 in u j z (grind (arith, n, l), h.1) f w
           cases true n =
               let same : j ≡ i = grind (arith, n) in
               let equal : z ≡ q = some-same z q (sym f ∙ ap (slice_get p.processes) same ∙ here) in
-              true-false (sym v ∙ (λ k. takes (same k) (equal k)) ∙ t)
+              true-false (sym h.1 ∙ (λ k. takes (same k) (equal k)) ∙ t)
 
       head : q.is_thread ≡ true → Stand i q to
       head h =
-          subst (StandsAt home p i q (placed i q)) (sym (r.others i (omega arith) ∙ m.frames i (omega arith)))
+          subst (StandsAt home p i q (placed i q)) (sym (r.others i (omega arith) ∙ m.frames i q here (not-yet i q)))
           (subst (λ o. StandsAt home p i q o (s.frames i)) (sym (ap (λ b. unwrap_or (if b && q.is_thread then option_map (λ l. l.place) (turn p i q g) else None) (g.place i)) t))
-          (stands-now home p resolved obeys bounds does tracks takes s g tied i q here h (g.place i) refl))
+          (stands-now home p resolved obeys bounds does tracks (Before i) s g tied i q here h (g.place i) refl))
 
       by : (k : ℕ) (z : Process) → slice_get (q ∷ qs) k ≡ Some z → z.is_thread ≡ true → Stand (i + k) z to
       by zero z e h = let same = some-same q z e in subst (λ n. Stand n z to) from (subst (λ z. Stand i z to) same (head (ap (λ z. z.is_thread) same ∙ h)))
@@ -349,10 +354,10 @@ module _ (home : Home) (p : Program) (resolved : IsResolved home p) (obeys : Obe
       written-or c x e h k u false w = r.taken c x e h k more ∙ sym (chosen c false w)
         where
           more : Un (suc i) c
-          more j y l f v d = cases (nat_eq j i) refl
+          more j y b f d = cases (nat_eq j i) refl
             where
-              cases : (b : Bool) → nat_eq j i ≡ b → ⊥
-              cases false n = u j y (grind (arith, n, l)) f v d
+              cases : (z : Bool) → nat_eq j i ≡ z → ⊥
+              cases false n = let l = b.0 in u j y (grind (arith, n, l), b.1) f d
               cases true n =
                   let same : j ≡ i = grind (arith, n) in
                   let equal : y ≡ q = some-same y q (sym f ∙ ap (slice_get p.processes) same ∙ here) in
@@ -401,7 +406,7 @@ module _ (home : Home) (p : Program) (resolved : IsResolved home p) (obeys : Obe
       by : (b : Bool) → takes i q ≡ b → ((ph : Phase) → Mid (suc i) ph → (to : Phase) × Ran (suc i) qs ph to) → (to : Phase) × Ran i (q ∷ qs) ph to
       by false t go = let r = go ph (next-idle i q ph here t m) in (r.0, ran-idle q qs i ph r.0 here t m r.1)
       by true t go =
-          let z = resumes home p resolved obeys bounds does tracks takes s g tied i q here ph m in
+          let z = resumes home p resolved obeys bounds does tracks (Before i) s g tied i q here ph m (λ e b. not-yet i q b) in
           let r = go z.to (next-taken i q ph z.to z.left here t m z.resumed) in
           (r.0, ran-taken q qs i ph z.to r.0 z.left here after t m z.goes z.resumed r.1)
 
@@ -417,7 +422,7 @@ module _ (home : Home) (p : Program) (resolved : IsResolved home p) (obeys : Obe
     unasked = λ c x w e n. refl;
     fit = λ c x e n. tied.proper c x e (number-held x.sort n);
     fit_asked = λ c x w e r f. f;
-    frames = λ j h. refl;
+    frames = λ j r e n. refl;
   }
 
   whole : Suffix 0 p.processes
@@ -448,9 +453,9 @@ module _ (home : Home) (p : Program) (resolved : IsResolved home p) (obeys : Obe
         stays = record {
           fits = r.1.fits;
           proper = λ c x e h. proper c x e (held-two x.sort h);
-          words = λ c x e k. r.1.taken c x e (word-held c x e k) k (λ j z l. absurd (let n = l in grind (arith, n)));
+          words = λ c x e k. r.1.taken c x e (word-held c x e k) k (λ j z b. absurd (let n = b.0 in grind (arith, n)));
           constants = λ c x w e k.
-              let u = r.1.untaken c x e (constant-held p c w x e k) (λ j z f t h. true-false (sym (flat-has (written_by cs) c p.processes j z f h) ∙ constant-unwritten home p resolved obeys takes s g tied c w k)) in
+              let u = r.1.untaken c x e (constant-held p c w x e k) (λ j z f t h. true-false (sym (flat-has (written_by cs) c p.processes j z f h) ∙ constant-unwritten home p resolved obeys (Before 0) s g tied c w k)) in
               u.1 r.0.held.store.words ∙ u.0 ∙ tied.constants c x w e k;
           places = λ i q place e t k. subst (λ o. StandsAt home p i q o (r.0.frames i)) k (stands i q e t);
           begins = λ i q e t k. subst (λ o. StandsAt home p i q o (r.0.frames i)) k (stands i q e t);

@@ -18,15 +18,15 @@ use Rattle.scc_core_spec.specs.Kept.{written_by}
 use Rattle.scc_core_spec.specs.Source.{Home, at_top, cell_location, body_of, reset_at, sort_of}
 use Rattle.scc_blocks_spec.specs.Acting.{Acting, latest}
 use Rattle.scc_blocks_spec.specs.Effect.{effect, Place}
-use Rattle.scc_blocks_spec.specs.Turns.{Regs, Taking, Left, found, turn, method_left, thread_turn}
+use Rattle.scc_blocks_spec.specs.Turns.{Regs, Left, found, turn, method_left, thread_turn}
 use Rattle.scc_blocks_spec.specs.Turns as turns
 use Rattle.scc_blocks_spec.specs.Tied.{Tied, first_frames}
 use Rattle.scc_core_effect_laws.specs.Sound.{FitWords}
 use Rattle.scc_core_effect_laws.specs.Alike.{Both}
-use Rattle.scc_core_effect_laws.specs.Follows.{IsResolved, Obeys, Meets, Leaves, Does, Tracks, StandsAt, design_of, runs}
+use Rattle.scc_core_effect_laws.specs.Follows.{IsSoundCore, Obeys, Meets, Leaves, Does, Tracks, StandsAt, design_of, runs}
 use Rattle.scc_core_effect_laws.proofs.Names.{some-same, none-some, true-false, or-left}
 use Rattle.scc_core_effect_laws.proofs.Unsure.{unsure, sort-of, has-sort, number-no-root}
-use Rattle.scc_core_laws.proofs.Found.{Untaken, Middle, actual, meets, both, number-held}
+use Rattle.scc_core_laws.proofs.Found.{HaveRun, Middle, actual, meets, both, number-held}
 use Rattle.scc_core_effect_laws.proofs.Moved.{Moved}
 use Rattle.scc_core_effect_laws.proofs.Turning.{LeftAlike, LeftMoved, mine, method-alike, thread-alike, method-moves, thread-moves}
 
@@ -34,19 +34,20 @@ use Rattle.scc_core_effect_laws.proofs.Turning.{LeftAlike, LeftMoved, mine, meth
 abbrev pub source_process : Home → Program → ℕ → Process → running.Process
 source_process home p i q = record { object = at_top []; sort = sort_of home p q q.is_thread q.edge; body = body_of home p.cells i q.body }
 
-module _ (home : Home) (p : Program) (resolved : IsResolved home p) (obeys : Obeys p) (bounds : ℕ → ℕ) (does : Does home p bounds) (tracks : Tracks home p bounds)
-    (takes : Taking) (s : State) (g : Regs) (tied : Tied home p s g) where
+module _ (home : Home) (p : Program) (resolved : IsSoundCore home p) (obeys : Obeys p) (bounds : ℕ → ℕ) (does : Does home p bounds) (tracks : Tracks home p bounds)
+    (ran : HaveRun) (s : State) (g : Regs) (tied : Tied home p s g) where
   abbrev cs : Cells
   cs = p.cells
 
   abbrev at : program.Cell → Location
   at x = cell_location home p x
 
-  abbrev Untaken' : ℕ → ℕ → Type 0
-  Untaken' = Untaken home p resolved obeys takes s g tied
+  abbrev pub Middle' : Phase → Type 0
+  Middle' = Middle home p resolved obeys ran s g tied
 
-  abbrev pub Middle' : ℕ → Phase → Type 0
-  Middle' = Middle home p resolved obeys takes s g tied
+  -- a process that has an edge has not run yet
+  abbrev Anew : ℕ → Process → Type 0
+  Anew i q = is_some q.edge ≡ true → ran i q → ⊥
 
   -- what a resume leaves, and the turn that leaves the same
   pub record Resumed (i : ℕ) (q : Process) (ph to : Phase) (l : Left) : Type 0 where
@@ -64,10 +65,10 @@ module _ (home : Home) (p : Program) (resolved : IsResolved home p) (obeys : Obe
     pub stands : q.is_thread ≡ true → StandsAt home p i q l.place (to.frames i)
 
   -- from the words and requests that a run leaves
-  made : (i : ℕ) (q : Process) (here : slice_get p.processes i ≡ Some q) (ph : Phase) (middle : Middle' i ph) (k : Held) (f : Frames) (b : Acting) (l : Left) → Leaves home p ph.held k b
-      → Moved cs (mine home p resolved obeys i q here) (actual home p resolved obeys takes s g tied i q here ph middle) b → Both cs (unsure p i q) b l.acting → turn p i q g ≡ Some l → (q.is_thread ≡ true → StandsAt home p i q l.place f)
+  made : (i : ℕ) (q : Process) (here : slice_get p.processes i ≡ Some q) (ph : Phase) (middle : Middle' ph) (anew : Anew i q) (k : Held) (f : Frames) (b : Acting) (l : Left) → Leaves home p ph.held k b
+      → Moved cs (mine home p resolved obeys i q here) (actual home p resolved obeys ran s g tied i q here ph middle anew) b → Both cs (unsure p i q) b l.acting → turn p i q g ≡ Some l → (q.is_thread ≡ true → StandsAt home p i q l.place f)
       → Resumed i q ph (record { held = k; frames = framed i f ph.frames }) l
-  made i q here ph middle k f b l leaves moved alike turned stands = record {
+  made i q here ph middle anew k f b l leaves moved alike turned stands = record {
     turned = turned;
     fit = alike.fit_too;
     unwritten = λ c x e h w. untouched c x e w (two x.sort h);
@@ -75,7 +76,7 @@ module _ (home : Home) (p : Program) (resolved : IsResolved home p) (obeys : Obe
     roots = leaves.roots;
     asked = λ c x w e r. leaves.asked c x w e r ∙ ap (λ o. unwrap_or o (updated ph.held.requests w (at x))) (alike.asked c);
     unasked = leaves.unasked;
-    root_now = λ c r. sym (alike.now c (sure c r)) ∙ moved.now c (root-stays c r) ∙ (both home p resolved obeys takes s g tied i q here ph middle).now c (sure c r);
+    root_now = λ c r. sym (alike.now c (sure c r)) ∙ moved.now c (root-stays c r) ∙ (both home p resolved obeys ran s g tied i q here ph middle anew).now c (sure c r);
     number_fits = λ c x e n. subst (λ m. m < 2 ^ width_of x.kind) (sym (leaves.numbers c x e n)) (alike.fit.fits c x e (number-held x.sort n));
     frames = λ j n. ap (λ t. if t then f else ph.frames j) n;
     stands = λ t. subst (StandsAt home p i q l.place) (sym (ap (λ b. if b then f else ph.frames i) (self i))) (stands t);
@@ -115,8 +116,8 @@ module _ (home : Home) (p : Program) (resolved : IsResolved home p) (obeys : Obe
               by true n = true-false (sym r ∙ number-no-root s n)
               by false n = refl
 
-      found-there : Meets home p s.store.words ph.held.store.words (actual home p resolved obeys takes s g tied i q here ph middle)
-      found-there = meets home p resolved obeys takes s g tied i q here ph middle
+      found-there : Meets home p s.store.words ph.held.store.words (actual home p resolved obeys ran s g tied i q here ph middle anew)
+      found-there = meets home p resolved obeys ran s g tied i q here ph middle anew
 
       untouched : (c : ℕ) (x : program.Cell) → slice_get cs c ≡ Some x → among c (written_by cs q) ≡ false → ((is_root x.sort ≡ true) ⊎ (is_number x.sort ≡ true))
           → (k.store.words (at x) ≡ ph.held.store.words (at x)) × ((w : Location → ℕ) → updated k.requests w (at x) ≡ updated ph.held.requests w (at x))
@@ -168,11 +169,11 @@ module _ (home : Home) (p : Program) (resolved : IsResolved home p) (obeys : Obe
     pub goes : resume bounds (design_of home p) s.store.words i (source_process home p i q) ph ≡ Well to
     pub resumed : Resumed i q ph to left
 
-  method-resumes : (i : ℕ) (q : Process) (here : slice_get p.processes i ≡ Some q) (ph : Phase) (middle : Middle' i ph) → q.is_thread ≡ false → HasResumed i q ph
-  method-resumes i q here ph middle m =
-      let a = actual home p resolved obeys takes s g tied i q here ph middle in
-      let found-both = both home p resolved obeys takes s g tied i q here ph middle in
-      let d = does.does i q s.store.words ph.held a here m (meets home p resolved obeys takes s g tied i q here ph middle) in
+  method-resumes : (i : ℕ) (q : Process) (here : slice_get p.processes i ≡ Some q) (ph : Phase) (middle : Middle' ph) (anew : Anew i q) → q.is_thread ≡ false → HasResumed i q ph
+  method-resumes i q here ph middle anew m =
+      let a = actual home p resolved obeys ran s g tied i q here ph middle anew in
+      let found-both = both home p resolved obeys ran s g tied i q here ph middle anew in
+      let d = does.does i q s.store.words ph.held a here m (meets home p resolved obeys ran s g tied i q here ph middle anew) in
       let goes : method_left (effect cs (live cs q.body) a) ≡ Some (record { acting = d.0; place = None }) = ap method_left d.2 in
       let t = turned-by i q _ _ _ (method-alike home p resolved obeys i q here m a (found p i q g) found-both) goes in
       let moved = moved-by i q _ a _ _ (method-moves home p resolved obeys i q here a found-both.fixed found-both.fit) goes in
@@ -180,7 +181,7 @@ module _ (home : Home) (p : Program) (resolved : IsResolved home p) (obeys : Obe
         to = record { held = d.1; frames = framed i Stop ph.frames };
         left = t.0;
         goes = ap (λ f. process.left_by (sort_of home p q q.is_thread q.edge) i ph.frames (runs home p s.store.words (bounds i) f ph.held)) (method-frames i q ph.frames q.is_thread m q.edge) ∙ ap (process.left_by (sort_of home p q q.is_thread q.edge) i ph.frames) d.3;
-        resumed = made i q here ph middle d.1 Stop d.0 t.0 d.4 moved t.3
+        resumed = made i q here ph middle anew d.1 Stop d.0 t.0 d.4 moved t.3
             (ap (λ b. if b then thread_turn cs q (turns.reset_at g.word q.reset) (g.place i) (found p i q g) else method_left (effect cs (live cs q.body) (found p i q g))) m ∙ t.1) (λ h. true-false (sym h ∙ m));
       }
 
@@ -188,27 +189,27 @@ module _ (home : Home) (p : Program) (resolved : IsResolved home p) (obeys : Obe
   stands-now i q here t None e = tied.begins i q here t e
   stands-now i q here t (Some place) e = tied.places i q place here t e
 
-  thread-resumes : (i : ℕ) (q : Process) (here : slice_get p.processes i ≡ Some q) (ph : Phase) (middle : Middle' i ph) → q.is_thread ≡ true → HasResumed i q ph
-  thread-resumes i q here ph middle m =
-      let a = actual home p resolved obeys takes s g tied i q here ph middle in
-      let found-both = both home p resolved obeys takes s g tied i q here ph middle in
+  thread-resumes : (i : ℕ) (q : Process) (here : slice_get p.processes i ≡ Some q) (ph : Phase) (middle : Middle' ph) (anew : Anew i q) → q.is_thread ≡ true → HasResumed i q ph
+  thread-resumes i q here ph middle anew m =
+      let a = actual home p resolved obeys ran s g tied i q here ph middle anew in
+      let found-both = both home p resolved obeys ran s g tied i q here ph middle anew in
       let reset = turns.reset_at g.word q.reset in
-      let stands = subst (StandsAt home p i q (g.place i)) (sym (middle.frames i (omega arith))) (stands-now i q here m (g.place i) refl) in
-      let d = tracks.tracks i q reset (g.place i) (ph.frames i) s.store.words ph.held a here m stands (meets home p resolved obeys takes s g tied i q here ph middle) in
+      let stands = subst (StandsAt home p i q (g.place i)) (sym (middle.frames i q here (anew (resolved.edges i q here m)))) (stands-now i q here m (g.place i) refl) in
+      let d = tracks.tracks i q reset (g.place i) (ph.frames i) s.store.words ph.held a here m stands (meets home p resolved obeys ran s g tied i q here ph middle anew) in
       let t = turned-by i q _ _ _ (thread-alike home p resolved obeys i q here m reset (g.place i) a (found p i q g) found-both) d.4 in
       let moved = moved-by i q _ a _ _ (thread-moves home p resolved obeys i q here reset (g.place i) a found-both.fixed found-both.fit) d.4 in
       record {
         to = record { held = d.3; frames = framed i d.2 ph.frames };
         left = t.0;
         goes = ap (λ f. process.left_by (sort_of home p q q.is_thread q.edge) i ph.frames (runs home p s.store.words (bounds i) f ph.held)) (thread-frames i q here ph.frames q.is_thread m q.edge (resolved.edges i q here m)) ∙ ap (process.left_by (sort_of home p q q.is_thread q.edge) i ph.frames) d.5 ∙ thread-waits q i ph.frames d.2 d.3 q.is_thread m q.edge (resolved.edges i q here m);
-        resumed = made i q here ph middle d.3 d.2 d.0 t.0 d.6 moved t.3
+        resumed = made i q here ph middle anew d.3 d.2 d.0 t.0 d.6 moved t.3
             (ap (λ b. if b then thread_turn cs q reset (g.place i) (found p i q g) else method_left (effect cs (live cs q.body) (found p i q g))) m ∙ t.1)
             (λ h. subst (λ o. StandsAt home p i q o d.2) t.2 d.7);
       }
 
-  pub resumes : (i : ℕ) (q : Process) (here : slice_get p.processes i ≡ Some q) (ph : Phase) (middle : Middle' i ph) → HasResumed i q ph
-  resumes i q here ph middle = by q.is_thread refl
+  pub resumes : (i : ℕ) (q : Process) (here : slice_get p.processes i ≡ Some q) (ph : Phase) (middle : Middle' ph) (anew : Anew i q) → HasResumed i q ph
+  resumes i q here ph middle anew = by q.is_thread refl
     where
       by : (b : Bool) → q.is_thread ≡ b → HasResumed i q ph
-      by true m = thread-resumes i q here ph middle m
-      by false m = method-resumes i q here ph middle m
+      by true m = thread-resumes i q here ph middle anew m
+      by false m = method-resumes i q here ph middle anew m

@@ -1,5 +1,5 @@
 -- What the rules tell of combinational methods: no root is missed, none feeds itself, and roots are named alone.
-use Rattle.std.proofs.Common.{◌≡◌, ℕ, zero, suc, Bool, true, false, not, ◌&&◌, ◌||◌, nat_eq, List, [], ◌∷◌, ◌++◌, length, Option, Some, None, refl, sym, ap, ◌∙◌, arith, if◌then◌else◌, slice_get, inl, inr}
+use Rattle.std.proofs.Common.{◌≡◌, ℕ, zero, suc, Bool, true, false, not, ◌&&◌, ◌||◌, nat_eq, List, [], ◌∷◌, ◌++◌, length, flat_map, Option, Some, None, refl, sym, ap, ◌∙◌, subst, arith, if◌then◌else◌, slice_get, inl, inr}
 use Rattle.std.specs.Prelude.{option_map, unwrap_or}
 use Rattle.std.specs.List.{list_any}
 use Rattle.scc_base.specs.declared.refusal.Place.{Place}
@@ -11,17 +11,21 @@ use Rattle.scc_core_spec.specs.Program.{Program, Process, is_root, is_combinatio
 use Rattle.scc_core_spec.specs.Static.{Cells, goes}
 use Rattle.scc_core_spec.specs.Live.{Alive, alive, live, then_alive, by_test, looped}
 use Rattle.scc_core_spec.specs.Flow.{flow, every}
-use Rattle.scc_core_spec.specs.Uses.{Use, loads, inside, picked, writes_of, cells_of, is_single, has_sort, among}
+use Rattle.scc_core_spec.specs.Uses.{Use, Act, loads, inside, picked, reads_of, writes_of, cells_of, is_single, has_sort, among}
 use Rattle.scc_core_spec.specs.Clashes.{live_acts, two_writers, shared_variable}
 use Rattle.scc_core_spec.specs.Feeding.{is_method, methods, feeds, reaches, reaches_in}
 use Rattle.scc_core_spec.specs.First.{or_else, first_some, first_of, when, refused, refused_beside}
 use Rattle.scc_core_spec.specs.Kept.{OneOf, written_by}
-use Rattle.scc_core_spec.specs.Rules.{first_rule, clock_as_data, missing_sensitivity, latch, comb_loop, place_in, comb_state, wait_in_method, loop_may_not_wait, end_reached, chosen_root, own_uses, signal_index}
+use Rattle.scc_core_spec.specs.Rules.{first_rule, first_read, clock_as_data, missing_sensitivity, latch, comb_loop, place_in, comb_state, wait_in_method, loop_may_not_wait, end_reached, chosen_root, own_uses, signal_index}
+use Rattle.scc_core_spec.specs.Source.{Home}
+use Rattle.scc_blocks_spec.specs.Passed.{all_reads}
 use Rattle.scc_core_effect_laws.specs.Sound.{Each, SoundPut, SoundTest}
-use Rattle.scc_core_effect_laws.specs.Ordering.{Alone, AnyTest}
-use Rattle.scc_core_effect_laws.proofs.Names.{and-first, and-both, or-left, none-some, true-false}
+use Rattle.scc_core_effect_laws.specs.Follows.{IsSoundCore}
+use Rattle.scc_core_effect_laws.specs.Ordering.{Alone, AnyTest, HasOrder, IsOrdered}
+use Rattle.scc_core_effect_laws.proofs.Names.{and-first, and-second, and-both, or-left, some-same, none-some, true-false}
 use Rattle.scc_core_effect_laws.proofs.Unsure.{flat-in, is-false, is-true}
 use Rattle.scc_core_effect_laws.proofs.Told.{or-none, first-none, one-at, when-none, any-true}
+use Rattle.scc_core_effect_laws.proofs.Counted.{short}
 use Rattle.scc_core_laws.proofs.Ordered.{in-methods}
 
 module _ (P : Left → Pick → Term → Type 0) where
@@ -140,11 +144,28 @@ module _ (p : Program) (none : first_rule p ≡ None) where
       let mine = first-none (λ q. first_of (chosen_root cs) (own_uses q.body)) p.processes q index-none (one-at p.processes i q here) in
       alone-each cs (live cs q.body) s (live-each (SingleRoots cs) cs q.body (single-each cs q.body (λ u o. first-none (chosen_root cs) (own_uses q.body) u mine o)))
 
+  -- a combinational method is sensitive to each root that it reads
+  pub senses : (i x : ℕ) (q : Process) → slice_get p.processes i ≡ Some q → is_combinational q ≡ true → has_sort is_root cs x ≡ true → among x (all_reads cs q) ≡ true → among x q.senses ≡ true
+  senses i x q here comb root v =
+      let test : ℕ → Bool = λ n. has_sort is_root cs n && not (among n q.senses) in
+      let tell : Use → Option Refusal = λ u. when (list_any test (cells_of cs u.left)) (refused reason.MissingSensitivity u.place) in
+      let mine : first_of tell (flat_map (λ a. a.reads) (live_acts cs q)) ≡ None = ap (λ b. if b then first_of tell (flat_map (λ a. a.reads) (live_acts cs q)) else None) (sym comb)
+      ∙ first-none (λ q. if is_combinational q then first_read reason.MissingSensitivity (λ n. has_sort is_root cs n && not (among n q.senses)) cs (live_acts cs q) else None) p.processes q (or-none (missing_sensitivity p) _ after-shared).0 (one-at p.processes i q here) in
+      let a = flat-in (reads_of cs) x (live_acts cs q) v in
+      let u = flat-in (λ u. cells_of cs u.left) x a.1.reads a.3 in
+      let said = first-none tell (flat_map (λ a. a.reads) (live_acts cs q)) u.1 mine (one-in (live_acts cs q) a.0 a.1 u.1 a.2 (one-at a.1.reads u.0 u.1 u.2)) in
+      is-true _ (λ n. true-false (sym (any-true test x (cells_of cs u.1.left) u.3 (and-both _ _ root (ap not n))) ∙ when-none _ _ said))
+    where
+      one-in : (xs : List Act) (n : ℕ) (a : Act) (u : Use) → slice_get xs n ≡ Some a → OneOf u a.reads → OneOf u (flat_map (λ a. a.reads) xs)
+      one-in [] n a u e o = none-some a e
+      one-in (b ∷ xs) zero a u e o = one-left u b.reads _ (subst (λ a. OneOf u a.reads) (sym (some-same b a e)) o)
+      one-in (b ∷ xs) (suc n) a u e o = one-right u b.reads _ (one-in xs n a u e o)
+
   reaches-self : (n i : ℕ) → feeds p i i ≡ true → reaches (feeds p) n i i ≡ true
   reaches-self zero i e = e
   reaches-self (suc n) i e = or-left _ _ (reaches-self n i e)
 
-  one-among : (x : ℕ) (xs : List ℕ) → among x xs ≡ true → OneOf x xs
+  pub one-among : (x : ℕ) (xs : List ℕ) → among x xs ≡ true → OneOf x xs
   one-among x [] e = true-false (sym e)
   one-among x (y ∷ xs) e = by (nat_eq x y) refl e (λ h. one-among x xs h)
     where
@@ -155,12 +176,32 @@ module _ (p : Program) (none : first_rule p ≡ None) where
       by true q e more = inl (equal q)
       by false q e more = inr (more e)
 
-  method-at : (i : ℕ) → is_method p i ≡ true → (q : Process) × (slice_get p.processes i ≡ Some q) × (is_combinational q ≡ true)
+  pub method-at : (i : ℕ) → is_method p i ≡ true → (q : Process) × (slice_get p.processes i ≡ Some q) × (is_combinational q ≡ true)
   method-at i e = by (slice_get p.processes i) refl
     where
       by : (o : Option Process) → slice_get p.processes i ≡ o → (q : Process) × (slice_get p.processes i ≡ Some q) × (is_combinational q ≡ true)
       by None h = true-false (sym e ∙ ap (λ o. unwrap_or (option_map is_combinational o) false) h)
       by (Some q) h = (q, h, sym (ap (λ o. unwrap_or (option_map is_combinational o) false) h) ∙ e)
+
+  -- none stands on a cycle
+  pub no-loop : (i j : ℕ) → feeds p i j ≡ true → reaches_in p i i ≡ true → (nat_eq j i || reaches_in p j i) ≡ true → ⊥
+  no-loop i j f around back = fed (method-at i (and-first (is_method p i) _ f)) (method-at j (and-first (is_method p j) _ (and-second (is_method p i) _ f)))
+    where
+      inner : ℕ → Option Refusal
+      inner j = if feeds p i j && (nat_eq j i || reaches_in p j i) then first_of (λ a. first_of (λ b. Some (refused_beside reason.CombLoop a b)) (place_in p j)) (place_in p i) else None
+
+      outer : ℕ → Option Refusal
+      outer i = if reaches_in p i i then first_of (λ j. if feeds p i j && (nat_eq j i || reaches_in p j i) then first_of (λ a. first_of (λ b. Some (refused_beside reason.CombLoop a b)) (place_in p j)) (place_in p i) else None) (methods p) else None
+
+      fed : ((q : Process) × (slice_get p.processes i ≡ Some q) × (is_combinational q ≡ true)) → ((q : Process) × (slice_get p.processes j ≡ Some q) × (is_combinational q ≡ true)) → ⊥
+      fed m n =
+          let out = first-none outer (methods p) i (or-none (comb_loop p) _ after-latch).0 (one-among i (methods p) (in-methods p i m.0 m.1 m.2)) in
+          let all = ap (λ b. if b then first_of inner (methods p) else None) (sym around) ∙ out in
+          let here = first-none inner (methods p) j all (one-among j (methods p) (in-methods p j n.0 n.1 n.2)) in
+          let places = ap (λ b. if b then first_of (λ a. first_of (λ b. Some (refused_beside reason.CombLoop a b)) (place_in p j)) (place_in p i) else None) (sym (and-both _ _ f back)) ∙ here in
+          let at : place_in p i ≡ m.0.place ∷ [] = ap (λ o. unwrap_or (option_map (λ q. q.place ∷ []) o) []) m.1 in
+          let to : place_in p j ≡ n.0.place ∷ [] = ap (λ o. unwrap_or (option_map (λ q. q.place ∷ []) o) []) n.1 in
+          none-some (refused_beside reason.CombLoop m.0.place n.0.place) (sym (ap (λ ps. first_of (λ a. first_of (λ b. Some (refused_beside reason.CombLoop a b)) ps) (place_in p i)) (sym to) ∙ places) ∙ ap (λ ps. first_of (λ a. first_of (λ b. Some (refused_beside reason.CombLoop a b)) (n.0.place ∷ [])) ps) at)
 
   pub no-self : (i : ℕ) → feeds p i i ≡ false
   no-self i = is-false _ (λ f. fed f (method-at i (and-first (is_method p i) _ f)))
@@ -183,3 +224,14 @@ module _ (p : Program) (none : first_rule p ≡ None) where
           let places = ap (λ b. if b then first_of (λ a. first_of (λ b. Some (refused_beside reason.CombLoop a b)) (place_in p i)) (place_in p i) else None) (sym (and-both _ _ f (or-left _ (reaches_in p i i) self))) ∙ here in
           let at : place_in p i ≡ m.0.place ∷ [] = ap (λ o. unwrap_or (option_map (λ q. q.place ∷ []) o) []) m.1 in
           none-some (refused_beside reason.CombLoop m.0.place m.0.place) (sym (ap (λ ps. first_of (λ a. first_of (λ b. Some (refused_beside reason.CombLoop a b)) ps) ps) (sym at) ∙ places))
+
+  -- an order of its methods, with the rules, is one in which they settle
+  pub is-ordered : (home : Home) → IsSoundCore home p → (order : List ℕ) → HasOrder p order → IsOrdered p order
+  is-ordered home resolved order has = record {
+    stands = has.stands;
+    short = short p order has.stands;
+    no_self = no-self;
+    alone = λ i q here comb. alone i q here (resolved.sound i q here);
+    misses = misses;
+    reads_held = has.reads_held;
+  }

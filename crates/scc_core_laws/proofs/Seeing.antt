@@ -13,7 +13,7 @@ use Rattle.scc_core_spec.specs.Static.{Cells}
 use Rattle.scc_core_spec.specs.Source.{Home, cell_location, thing_of, cell_there, port_of}
 use Rattle.scc_blocks_spec.specs.Turns.{Regs}
 use Rattle.scc_blocks_spec.specs.Tied.{Tied}
-use Rattle.scc_core_effect_laws.specs.Follows.{IsResolved, design_of}
+use Rattle.scc_core_effect_laws.specs.Follows.{IsSoundCore, design_of}
 use Rattle.scc_core_laws.specs.Stepped.{Sees, outputs_from}
 use Rattle.scc_core_effect_laws.proofs.Names.{and-both, and-first, and-second, or-left, some-same, none-some, true-false, not-true}
 use Rattle.scc_core_effect_laws.proofs.Unsure.{has-sort}
@@ -64,7 +64,7 @@ held-no-pointer (Local i) e = refl
 held-no-pointer (Pointer t) e = true-false (sym e)
 held-no-pointer (Port r) e = refl
 
-module _ (home : Home) (p : Program) (resolved : IsResolved home p) where
+module _ (home : Home) (p : Program) (resolved : IsSoundCore home p) where
   abbrev at : program.Cell → Location
   at x = cell_location home p x
 

@@ -19,14 +19,14 @@ use Rattle.scc_core_spec.specs.Source.{Home, at_top, cell_location, processes_fr
 use Rattle.scc_blocks_spec.specs.Turns.{Regs, Taking, constant_at, acted, is_loaded, has_clock}
 use Rattle.scc_blocks_spec.specs.Turns as turns
 use Rattle.scc_blocks_spec.specs.Tied.{Tied}
-use Rattle.scc_core_effect_laws.specs.Follows.{IsResolved, Obeys, Does, Tracks, design_of}
+use Rattle.scc_core_effect_laws.specs.Follows.{IsSoundCore, Obeys, Does, Tracks, design_of}
 use Rattle.scc_core_laws.specs.Stepped.{IsStepOf, RegsStep, SameEdge}
 use Rattle.scc_core_effect_laws.proofs.Names.{or-left, none-some, true-false}
 use Rattle.scc_core_effect_laws.proofs.Unsure.{sort-of}
 use Rattle.scc_core_laws.proofs.Resumes.{source_process}
 use Rattle.scc_core_laws.proofs.Phases.{phase-follows, word-is-held}
 
-module _ (home : Home) (p : Program) (resolved : IsResolved home p) (obeys : Obeys p) (bounds : ℕ → ℕ) (does : Does home p bounds) (tracks : Tracks home p bounds) where
+module _ (home : Home) (p : Program) (resolved : IsSoundCore home p) (obeys : Obeys p) (bounds : ℕ → ℕ) (does : Does home p bounds) (tracks : Tracks home p bounds) where
   abbrev cs : Cells
   cs = p.cells
 
@@ -64,7 +64,7 @@ module _ (home : Home) (p : Program) (resolved : IsResolved home p) (obeys : Obe
       comes-then (phase bounds (design_of home p) process.is_combinational s) (process.rounds bounds (design_of home p) n) (acted p (λ i q. is_combinational q) g) (turns.rounds p (suc n) g)
       (phase-comes (λ i q. is_combinational q) process.is_combinational combines s g tied) (λ t k. rounds-come n t (acted p (λ i q. is_combinational q) g) k)
 
-  same-count : (qs : List Process) (i : ℕ) → ((k : ℕ) → slice_get p.processes (i + k) ≡ slice_get qs k) → length (filter process.is_combinational (processes_from home p i qs)) ≡ length (filter is_combinational qs)
+  pub same-count : (qs : List Process) (i : ℕ) → ((k : ℕ) → slice_get p.processes (i + k) ≡ slice_get qs k) → length (filter process.is_combinational (processes_from home p i qs)) ≡ length (filter is_combinational qs)
   same-count [] i h = refl
   same-count (q ∷ qs) i h = by (process.is_combinational (source_process home p i q)) (is_combinational q) (combines i q here) (same-count qs (suc i) later)
     where
@@ -101,7 +101,7 @@ module _ (home : Home) (p : Program) (resolved : IsResolved home p) (obeys : Obe
       from k = omega arith
 
   -- ---- inputs
-  given-tied : (x : run.Step) (y : RegsStep) → IsStepOf home p x y → (s : State) (g : Regs) → Tied home p s g → Tied home p (run.with_inputs (design_of home p) x.inputs s) (turns.with_inputs y.given g)
+  pub given-tied : (x : run.Step) (y : RegsStep) → IsStepOf home p x y → (s : State) (g : Regs) → Tied home p s g → Tied home p (run.with_inputs (design_of home p) x.inputs s) (turns.with_inputs y.given g)
   given-tied x y ok s g tied = record {
     fits = λ c z e h. fit-or c z e h (y.given c) refl (g.word c) (tied.fits c z e h);
     proper = λ c z e h. subst (λ n. n < 2 ^ width_of z.kind) (sym (ok.inputs c z s.store.words e h)) (fit-or c z e h (y.given c) refl (s.store.words (at z)) (tied.proper c z e h));
@@ -150,7 +150,7 @@ module _ (home : Home) (p : Program) (resolved : IsResolved home p) (obeys : Obe
       let place : (reset_at home p r).root ≡ at x.0 = ap (λ o. unwrap_or (option_map (cell_location home p) o) (at_top [])) x.1 in
       ap (λ n. nat_eq n (if r.level then 1 else 0)) (ap s.store.words place ∙ tied.words r.cell x.0 x.1 (or-left _ _ root))
 
-  restarts-are : (s : State) (g : Regs) → Tied home p s g → (i : ℕ) (q : Process) → slice_get p.processes i ≡ Some q → restarts s (source_process home p i q) ≡ (q.is_thread && is_loaded g.word q.reset)
+  pub restarts-are : (s : State) (g : Regs) → Tied home p s g → (i : ℕ) (q : Process) → slice_get p.processes i ≡ Some q → restarts s (source_process home p i q) ≡ (q.is_thread && is_loaded g.word q.reset)
   restarts-are s g tied i q here = by q.is_thread q.edge (resolved.edges i q here) q.reset refl
     where
       by : (t : Bool) (o : Option Edge) → (t ≡ true → is_some o ≡ true) → (r : Option Reset) → q.reset ≡ r → restarts_by s.store.words (sort_of home p q t o) ≡ (t && is_loaded g.word q.reset)
@@ -173,7 +173,7 @@ module _ (home : Home) (p : Program) (resolved : IsResolved home p) (obeys : Obe
       (phase-comes takes (restarts t) (restarts-are t h there) t h there) (λ s k. settle-comes s (acted p takes h) k)
 
   -- ---- edges
-  edges-are : (locations : List Location) (cells : List ℕ) → SameEdge home p (Some locations) (Some cells) → (i : ℕ) (q : Process) → slice_get p.processes i ≡ Some q → resumes_at locations (source_process home p i q) ≡ has_clock cells q.edge
+  pub edges-are : (locations : List Location) (cells : List ℕ) → SameEdge home p (Some locations) (Some cells) → (i : ℕ) (q : Process) → slice_get p.processes i ≡ Some q → resumes_at locations (source_process home p i q) ≡ has_clock cells q.edge
   edges-are locations cells agree i q here = by q.is_thread q.edge refl (resolved.edges i q here)
     where
       clock : (d : Edge) → q.edge ≡ Some d → list_any (same (edge_at home p d).clock) locations ≡ among d.cell cells

@@ -19,27 +19,27 @@ use Rattle.scc_core_spec.specs.Uses.{among}
 use Rattle.scc_core_spec.specs.Constants.{written, constant_if, constant_from}
 use Rattle.scc_core_spec.specs.Source.{Home, cell_location, thing_of, port_of, processes_from}
 use Rattle.scc_blocks_spec.specs.Tied.{Tied, first_frames}
-use Rattle.scc_core_effect_laws.specs.Follows.{IsResolved, design_of}
+use Rattle.scc_core_effect_laws.specs.Follows.{IsSoundCore, design_of}
 use Rattle.scc_core_laws.specs.Stepped.{IsStepOf, SameEdge, AreStepsOf}
 use Rattle.scc_core_laws.specs.Given.{takes_word, given_from, cells_at, regs_step_of, regs_of}
 use Rattle.scc_core_effect_laws.proofs.Names.{and-both, and-first, or-left, some-same, none-some, true-false}
 use Rattle.scc_core_laws.proofs.Seeing.{same-self, held-no-pointer, thing-at}
-use Rattle.scc_core_laws.proofs.Phases.{constant-held}
+use Rattle.scc_core_laws.proofs.Found.{constant-held}
 
-module _ (home : Home) (p : Program) (resolved : IsResolved home p) where
+module _ (home : Home) (p : Program) (resolved : IsSoundCore home p) where
   abbrev at : program.Cell → Location
   at x = cell_location home p x
 
-  abbrev Suffix : ℕ → Cells → Type 0
+  abbrev pub Suffix : ℕ → Cells → Type 0
   Suffix n cs = (k : ℕ) → slice_get p.cells (n + k) ≡ slice_get cs k
 
-  head : (n : ℕ) (c : program.Cell) (cs : Cells) → Suffix n (c ∷ cs) → slice_get p.cells n ≡ Some c
+  pub head : (n : ℕ) (c : program.Cell) (cs : Cells) → Suffix n (c ∷ cs) → slice_get p.cells n ≡ Some c
   head n c cs h = ap (slice_get p.cells) first ∙ h 0
     where
       first : n ≡ n + 0
       first = omega arith
 
-  tail : (n : ℕ) (c : program.Cell) (cs : Cells) → Suffix n (c ∷ cs) → Suffix (suc n) cs
+  pub tail : (n : ℕ) (c : program.Cell) (cs : Cells) → Suffix n (c ∷ cs) → Suffix (suc n) cs
   tail n c cs h k = ap (slice_get p.cells) next ∙ h (suc k)
     where
       next : suc n + k ≡ n + suc k
@@ -52,7 +52,7 @@ module _ (home : Home) (p : Program) (resolved : IsResolved home p) where
       from = omega arith
 
   -- cells that are no pointers stand at one place only where they are one
-  same-is : (n c : ℕ) (y x : program.Cell) → slice_get p.cells n ≡ Some y → slice_get p.cells c ≡ Some x → is_pointer y.sort ≡ false → is_pointer x.sort ≡ false → same (at y) (at x) ≡ nat_eq n c
+  pub same-is : (n c : ℕ) (y x : program.Cell) → slice_get p.cells n ≡ Some y → slice_get p.cells c ≡ Some x → is_pointer y.sort ≡ false → is_pointer x.sort ≡ false → same (at y) (at x) ≡ nat_eq n c
   same-is n c y x f e a b = by (same (at y) (at x)) refl
     where
       by : (t : Bool) → same (at y) (at x) ≡ t → t ≡ nat_eq n c
@@ -70,13 +70,13 @@ module _ (home : Home) (p : Program) (resolved : IsResolved home p) where
           cases false q = refl
 
   -- ---- inputs
-  abbrev inputs_in : Cells → List Location
+  abbrev pub inputs_in : Cells → List Location
   inputs_in cs = filter (λ l. not (is_clock (design_of home p) l)) (locations (filter (λ t. running.is_input t.direction) (filter_map (port_of home p) cs)))
 
-  abbrev input_or : Bool → program.Cell → List Location → List Location
+  abbrev pub input_or : Bool → program.Cell → List Location → List Location
   input_or b c ls = if b then at c ∷ ls else ls
 
-  inputs-step : (c : program.Cell) (cs : Cells) → inputs_in (c ∷ cs) ≡ input_or (takes_word home p c) c (inputs_in cs)
+  pub inputs-step : (c : program.Cell) (cs : Cells) → inputs_in (c ∷ cs) ≡ input_or (takes_word home p c) c (inputs_in cs)
   inputs-step c cs = by (is_input c.sort) (is_output c.sort)
     where
       port : Bool → Bool → Option TopPort
@@ -209,19 +209,19 @@ module _ (home : Home) (p : Program) (resolved : IsResolved home p) where
       by true = sym (ap (λ b. b || among c (cells_at home p ls (suc n) cs)) other)
       by false = refl
 
-  pub step-of : (x : Step) → FitsStep (design_of home p) x → IsStepOf home p x (regs_step_of home p x)
-  step-of x fit = record {
-    inputs = λ c z w e h. given-inputs p.cells 0 x.inputs whole c z w e h;
-    fit = λ c v z e g. given-fits p.cells 0 x.inputs whole fit.0 c v z e g;
-    edge = by x.edge;
-  }
+  pub edges-of : (o : Option (List Location)) → SameEdge home p o (option_map (λ l. cells_at home p l 0 p.cells) o)
+  edges-of None = tt
+  edges-of (Some ls) = λ c z e r. edge-cells ls p.cells 0 whole c c z e (from c)
     where
       from : (c : ℕ) → c ≡ 0 + c
       from c = omega arith
 
-      by : (o : Option (List Location)) → SameEdge home p o (option_map (λ l. cells_at home p l 0 p.cells) o)
-      by None = tt
-      by (Some ls) = λ c z e r. edge-cells ls p.cells 0 whole c c z e (from c)
+  pub step-of : (x : Step) → FitsStep (design_of home p) x → IsStepOf home p x (regs_step_of home p x)
+  step-of x fit = record {
+    inputs = λ c z w e h. given-inputs p.cells 0 x.inputs whole c z w e h;
+    fit = λ c v z e g. given-fits p.cells 0 x.inputs whole fit.0 c v z e g;
+    edge = edges-of x.edge;
+  }
 
   pub steps-of : (xs : List Step) → FitSteps (design_of home p) xs → AreStepsOf home p xs (map (regs_step_of home p) xs)
   steps-of [] f = tt

@@ -8,12 +8,12 @@ use Rattle.scc_core_spec.specs.Source.{Home}
 use Rattle.scc_blocks_spec.specs.Turns.{Regs}
 use Rattle.scc_blocks_spec.specs.Turns as turns
 use Rattle.scc_blocks_spec.specs.Tied.{Tied}
-use Rattle.scc_core_effect_laws.specs.Follows.{IsResolved, Obeys, Does, Tracks, design_of}
+use Rattle.scc_core_effect_laws.specs.Follows.{IsSoundCore, Obeys, Does, Tracks, design_of}
 use Rattle.scc_core_laws.specs.Stepped.{IsStepOf, RegsStep, SameEdge, regs_step, AreStepsOf, StepFollows, RunFollows}
 use Rattle.scc_core_laws.proofs.Seeing.{sees}
 use Rattle.scc_core_laws.proofs.Settling.{Comes, begun-comes, edged-comes}
 
-module _ (home : Home) (p : Program) (resolved : IsResolved home p) (obeys : Obeys p) (bounds : ℕ → ℕ) (does : Does home p bounds) (tracks : Tracks home p bounds) where
+module _ (home : Home) (p : Program) (resolved : IsSoundCore home p) (obeys : Obeys p) (bounds : ℕ → ℕ) (does : Does home p bounds) (tracks : Tracks home p bounds) where
   pub source-follows : (s : State) (g : Regs) (x : Step) (y : RegsStep) → Tied home p s g → IsStepOf home p x y → StepFollows home p bounds s g x y
   source-follows s g x y tied ok = by x.edge y.edge ok.edge (begun-comes home p resolved obeys bounds does tracks x y ok s g tied)
     where

@@ -9,7 +9,7 @@ use Rattle.scc_bits.proofs.Parts.{joined_fits, replaced_fits}
 use Rattle.scc_semantics.specs.Scene.{index_of, chosen, bit_at, with_two, with_bit}
 use Rattle.scc_core_spec.specs.Term.{Term, Literal, Load, Read, Convert, Unary, Binary, Choose, Bit, Range, Join, Left, Pick, Whole, OneBit, Bits, kind_of}
 use Rattle.scc_core_spec.specs.Code.{Code, End, Put, Aim, If, Block, Loop, Exit, Wait}
-use Rattle.scc_core_spec.specs.Program.{Program, Process, Sort, Input, Output, Variable, Local, Pointer, Port, is_root, is_pointer}
+use Rattle.scc_core_spec.specs.Program.{Program, Process, Sort, Input, Output, Variable, Local, Pointer, Port, is_root, is_number, is_held, is_pointer}
 use Rattle.scc_core_spec.specs.Program as program
 use Rattle.scc_core_spec.specs.Named.{Step, cell_at}
 use Rattle.scc_core_spec.specs.Static.{fixed_word}
@@ -19,13 +19,14 @@ use Rattle.scc_core_spec.specs.Sizes.{live_body}
 use Rattle.scc_core_spec.specs.Live.{live}
 use Rattle.scc_blocks_spec.specs.Acting.{Acting, word_in, steps_in, cell_named, word_or_zero, put_in, picked, with_word, with_asked}
 use Rattle.scc_blocks_spec.specs.Effect.{Effect, Fell, Left_out, Lost, then_effect, shut, or_lost, branch, assigned, effect, Ran, then_ran, or_fails, choose, run_segment}
-use Rattle.scc_states_laws.specs.Alike.{is_number, is_read}
+use Rattle.scc_core_spec.specs.Fit.{is_read}
 use Rattle.scc_states_laws.proofs.Values.{some_same, map_is, then_is, two_is, cell_of}
-use Rattle.scc_core_resolved_laws.specs.Asked.{FitsAll, FitsRan}
+use Rattle.scc_core_effect_laws.specs.Sound.{FitWords}
+use Rattle.scc_core_resolved_laws.specs.Asked.{FitsRan}
 use Rattle.scc_core_resolved_laws.specs.Every.{Every, EverySegment}
-use Rattle.scc_core_resolved_laws.specs.Named.{all_named, is_sized}
-use Rattle.scc_core_resolved_laws.specs.Fit.{same_kind, is_kind, is_loaded, is_shown, takes, bits_of, fit_term, fit_left, fit_put, fit_code}
-use Rattle.scc_core_resolved_laws.specs.IsResolved.{IsResolved}
+use Rattle.scc_core_spec.specs.OpenNames.{all_named, is_sized}
+use Rattle.scc_core_spec.specs.Fit.{same_kind, is_kind, is_loaded, is_shown, takes, bits_of, fit_term, fit_left, fit_put, fit_code}
+use Rattle.scc_core_spec.specs.IsResolved.{IsResolved}
 use Rattle.scc_core_resolved_laws.proofs.Bools.{and-first, and-second, nat_eq-is, nat_lt-is, nat_le-is, same_kind-is, is_kind-is}
 use Rattle.scc_core_resolved_laws.proofs.Cells.{named-passes}
 use Rattle.scc_core_resolved_laws.proofs.Fitting.{opens-agree, put-parts}
@@ -33,27 +34,37 @@ use Rattle.scc_core_resolved_laws.proofs.Pieces.{fit_alive, fit_all, fit_at}
 use Rattle.scc_core_resolved_laws.proofs.Numbers.{nought, stored-fits, applied-fits, chosen-fits, part-fits, bit-fits, with-bit-fits}
 use Rattle.scc_core_resolved_laws.proofs.Parts.{cells-apart}
 use Rattle.scc_core_resolved_laws.proofs.Valued.{root-of, narrow}
+use Rattle.scc_core_resolved_laws.proofs.Writes.{or-left, or-right}
 
 module _ (p : Program) (r : IsResolved p) (q : Process) where
   root-is : (n : ℕ) (x : program.Cell) → slice_get p.cells n ≡ Some x → root_of p.cells n ≡ root_of_sort p.cells x.sort n
   root-is n x g = ap (λ o. unwrap_or (option_map (λ s. root_of_sort p.cells s n) (option_map (λ c. c.sort) o)) n) g
 
   -- the cell that a name stands for, with its kind
-  record Rooted (n : ℕ) (x : program.Cell) : Type 0 where
-    cell : program.Cell
-    stands : slice_get p.cells (root_of p.cells n) ≡ Some cell
-    kind : x.kind ≡ cell.kind
-    number : is_number x.sort ≡ true → (cell ≡ x)
-    root : is_number x.sort ≡ false → is_root cell.sort ≡ true
+  pub record Rooted (n : ℕ) (x : program.Cell) : Type 0 where
+    pub cell : program.Cell
+    pub stands : slice_get p.cells (root_of p.cells n) ≡ Some cell
+    pub kind : x.kind ≡ cell.kind
+    pub held : is_held cell.sort ≡ true
+    pub number : is_number x.sort ≡ true → (cell ≡ x)
+    pub root : is_number x.sort ≡ false → is_root cell.sort ≡ true
 
-  rooted : (n : ℕ) (x : program.Cell) → slice_get p.cells n ≡ Some x → is_pointer x.sort ≡ false → Rooted n x
+  pub rooted : (n : ℕ) (x : program.Cell) → slice_get p.cells n ≡ Some x → is_pointer x.sort ≡ false → Rooted n x
   rooted n x g a = by x.sort refl
     where
+      held-by : (s : Sort) → (is_number s ≡ false → is_root s ≡ true) → is_held s ≡ true
+      held-by s t = cases (is_number s) refl
+        where
+          cases : (b : Bool) → is_number s ≡ b → is_held s ≡ true
+          cases true n = or-right (is_root s) (is_number s) n
+          cases false n = or-left (is_root s) (is_number s) (t n)
+
       itself : (s : Sort) → x.sort ≡ s → root_of_sort p.cells s n ≡ n → (is_number s ≡ false → is_root s ≡ true) → Rooted n x
       itself s e f t = record {
         cell = x;
         stands = ap (slice_get p.cells) (root-is n x g ∙ (ap (λ z. root_of_sort p.cells z n) e ∙ f)) ∙ g;
         kind = refl;
+        held = ap is_held e ∙ held-by s t;
         number = λ h. refl;
         root = λ h. ap is_root e ∙ t (sym (ap is_number e) ∙ h);
       }
@@ -71,11 +82,12 @@ module _ (p : Program) (r : IsResolved p) (q : Process) where
             cell = u.1;
             stands = ap (slice_get p.cells) (root-is n x g ∙ (ap (λ z. root_of_sort p.cells z n) e ∙ ap (λ o. unwrap_or o n) u.2)) ∙ u.3;
             kind = u.5;
+            held = or-left (is_root u.1.sort) (is_number u.1.sort) u.4;
             number = λ h. let f : false ≡ true = sym (ap is_number e) ∙ h in absurd cc;
             root = λ h. u.4;
           }
 
-  module _ (a : Acting) (fits : FitsAll p.cells a) where
+  module _ (a : Acting) (fits : FitWords p.cells a) where
     named-fits : (test : program.Cell → Bool) (k : Kind) (l : Left) (s : List Step) → all_named p.cells test l ≡ true → ((x : program.Cell) → test x ≡ true → k ≡ x.kind) → steps_in p.cells a l ≡ Some s
         → word_or_zero a (cell_named p.cells (Some s)) < 2 ^ width_of k
     named-fits test k l s named same e = by (cell_at false 0 s p.cells) refl
@@ -87,7 +99,7 @@ module _ (p : Program) (r : IsResolved p) (q : Process) where
             let u = opens-agree p.cells q (cells-apart p r) a l s e in
             let t = named-passes p.cells test l u.0 s n x.0 (cells-apart p r) named u.1 u.2 c x.1 in
             let y = rooted n x.0 x.1 x.2 in
-            subst (λ z. a.now (root_of p.cells n) < 2 ^ width_of z) (sym (same x.0 t ∙ y.kind)) (fits.fits.words (root_of p.cells n) y.cell y.stands)
+            subst (λ z. a.now (root_of p.cells n) < 2 ^ width_of z) (sym (same x.0 t ∙ y.kind)) (fits.fits (root_of p.cells n) y.cell y.stands y.held)
 
     abbrev V : Term → Option ℕ
     V e = word_in p.cells a e
@@ -152,29 +164,22 @@ module _ (p : Program) (r : IsResolved p) (q : Process) where
         (replaced_fits (width_of x.kind) hi lo old new (nat_le-is lo hi (and-first (nat_le lo hi) (nat_lt hi (width_of x.kind) && nat_eq (width_of j) (hi - lo + 1)) b))
         (nat_lt-is hi (width_of x.kind) (and-first (nat_lt hi (width_of x.kind)) (nat_eq (width_of j) (hi - lo + 1)) c)) f (subst (λ z. new < 2 ^ z) wide g))
 
-    number-set : (c w : ℕ) (x : program.Cell) → slice_get p.cells c ≡ Some x → w < 2 ^ width_of x.kind → FitsAll p.cells (with_word c w a)
-    number-set c w x g less = record { fits = record { words = λ d y e. at d y e (nat_eq c d) refl; roots = fits.fits.roots }; asked = fits.asked }
+    number-set : (c w : ℕ) (x : program.Cell) → slice_get p.cells c ≡ Some x → w < 2 ^ width_of x.kind → FitWords p.cells (with_word c w a)
+    number-set c w x g less = record { fits = λ d y e h. at d y e h (nat_eq c d) refl; asked = fits.asked }
       where
-        at : (d : ℕ) (y : program.Cell) → slice_get p.cells d ≡ Some y → (b : Bool) → nat_eq c d ≡ b → (if b then w else a.now d) < 2 ^ width_of y.kind
-        at d y e true h = let s : x ≡ y = some_same (sym g ∙ (ap (slice_get p.cells) (nat_eq-is c d h) ∙ e)) in subst (λ z. w < 2 ^ width_of z.kind) s less
-        at d y e false h = fits.fits.words d y e
+        at : (d : ℕ) (y : program.Cell) → slice_get p.cells d ≡ Some y → is_held y.sort ≡ true → (b : Bool) → nat_eq c d ≡ b → (if b then w else a.now d) < 2 ^ width_of y.kind
+        at d y e k true h = let s : x ≡ y = some_same (sym g ∙ (ap (slice_get p.cells) (nat_eq-is c d h) ∙ e)) in subst (λ z. w < 2 ^ width_of z.kind) s less
+        at d y e k false h = fits.fits d y e k
 
-    root-asked : (c w : ℕ) (x : program.Cell) → slice_get p.cells c ≡ Some x → has_sort is_root p.cells c ≡ true → w < 2 ^ width_of x.kind → FitsAll p.cells (with_asked c w a)
-    root-asked c w x g root less = record {
-      fits = record { words = fits.fits.words; roots = λ d e. none d e (nat_eq c d) refl };
-      asked = λ d v y e h. at d v y e (nat_eq c d) refl h;
-    }
+    root-asked : (c w : ℕ) (x : program.Cell) → slice_get p.cells c ≡ Some x → has_sort is_root p.cells c ≡ true → w < 2 ^ width_of x.kind → FitWords p.cells (with_asked c w a)
+    root-asked c w x g root less = record { fits = fits.fits; asked = λ d y v e k h. at d v y e k (nat_eq c d) refl h }
       where
-        none : (d : ℕ) → has_sort is_root p.cells d ≡ false → (b : Bool) → nat_eq c d ≡ b → (if b then Some w else a.asked d) ≡ None
-        none d e true h = let f : true ≡ false = sym root ∙ (ap (has_sort is_root p.cells) (nat_eq-is c d h) ∙ e) in absurd cc
-        none d e false h = fits.fits.roots d e
-
-        at : (d v : ℕ) (y : program.Cell) → slice_get p.cells d ≡ Some y → (b : Bool) → nat_eq c d ≡ b → (if b then Some w else a.asked d) ≡ Some v → v < 2 ^ width_of y.kind
-        at d v y e true h u = let s : x ≡ y = some_same (sym g ∙ (ap (slice_get p.cells) (nat_eq-is c d h) ∙ e)) in subst (λ z. z < 2 ^ width_of y.kind) (some_same u) (subst (λ z. w < 2 ^ width_of z.kind) s less)
-        at d v y e false h u = fits.asked d v y e u
+        at : (d v : ℕ) (y : program.Cell) → slice_get p.cells d ≡ Some y → is_held y.sort ≡ true → (b : Bool) → nat_eq c d ≡ b → (if b then Some w else a.asked d) ≡ Some v → v < 2 ^ width_of y.kind
+        at d v y e k true h u = let s : x ≡ y = some_same (sym g ∙ (ap (slice_get p.cells) (nat_eq-is c d h) ∙ e)) in subst (λ z. z < 2 ^ width_of y.kind) (some_same u) (subst (λ z. w < 2 ^ width_of z.kind) s less)
+        at d v y e k false h u = fits.asked d y v e k u
 
     put-fits : (n : ℕ) (x : program.Cell) (k : Pick) (j : Kind) (new : ℕ) (b : Acting) → slice_get p.cells n ≡ Some x → is_pointer x.sort ≡ false → takes k j x ≡ true → new < 2 ^ width_of j
-        → put_in p.cells a (Some (root_of p.cells n)) k new ≡ Some b → FitsAll p.cells b
+        → put_in p.cells a (Some (root_of p.cells n)) k new ≡ Some b → FitWords p.cells b
     put-fits n x k j new b g pt t less e = by (is_number x.sort) refl (rooted n x g pt)
       where
         width-is : (y : Rooted n x) → width_at p.cells (root_of p.cells n) ≡ width_of x.kind
@@ -208,28 +213,28 @@ module _ (p : Program) (r : IsResolved p) (q : Process) where
         chosen-put false h = subst (λ z. (if z then option_map (λ w. with_asked (root_of p.cells n) new a) (picked p.cells a (width_at p.cells (root_of p.cells n)) k 0 new)
             else option_map (λ w. with_word (root_of p.cells n) w a) (picked p.cells a (width_at p.cells (root_of p.cells n)) k (a.now (root_of p.cells n)) new)) ≡ Some b) h e
 
-        by : (m : Bool) → is_number x.sort ≡ m → Rooted n x → FitsAll p.cells b
+        by : (m : Bool) → is_number x.sort ≡ m → Rooted n x → FitWords p.cells b
         by true m y =
             let same : y.cell ≡ x = y.number m in
             let e' = chosen-put false (has-root y ∙ (ap (λ z. is_root z.sort) same ∙ number-no-root x.sort m)) in
             let u = map_is (picked p.cells a (width_at p.cells (root_of p.cells n)) k (a.now (root_of p.cells n)) new) (λ w. with_word (root_of p.cells n) w a) b e' in
-            let old : a.now (root_of p.cells n) < 2 ^ width_of x.kind = subst (λ z. a.now (root_of p.cells n) < 2 ^ width_of z) (sym y.kind) (fits.fits.words (root_of p.cells n) y.cell y.stands) in
+            let old : a.now (root_of p.cells n) < 2 ^ width_of x.kind = subst (λ z. a.now (root_of p.cells n) < 2 ^ width_of z) (sym y.kind) (fits.fits (root_of p.cells n) y.cell y.stands y.held) in
             let w = picks-fit k j x (a.now (root_of p.cells n)) new u.0 t old less (subst (λ z. picked p.cells a z k (a.now (root_of p.cells n)) new ≡ Some u.0) (width-is y) u.1) in
-            subst (FitsAll p.cells) u.2 (number-set (root_of p.cells n) u.0 y.cell y.stands (subst (λ z. u.0 < 2 ^ width_of z) y.kind w))
+            subst (FitWords p.cells) u.2 (number-set (root_of p.cells n) u.0 y.cell y.stands (subst (λ z. u.0 < 2 ^ width_of z) y.kind w))
         by false m y =
             let rt = has-root y ∙ y.root m in
             let e' = chosen-put true rt in
             let u = map_is (picked p.cells a (width_at p.cells (root_of p.cells n)) k 0 new) (λ w. with_asked (root_of p.cells n) new a) b e' in
-            subst (FitsAll p.cells) u.2 (root-asked (root_of p.cells n) new y.cell y.stands rt (subst (λ z. new < 2 ^ width_of z) y.kind (whole k t m)))
+            subst (FitWords p.cells) u.2 (root-asked (root_of p.cells n) new y.cell y.stands rt (subst (λ z. new < 2 ^ width_of z) y.kind (whole k t m)))
 
-    assigned-fits : (l : Left) (k : Pick) (e : Term) (b : Acting) → fit_term p.cells q e ≡ true → all_named p.cells (takes k (kind_of e)) l ≡ true → assigned p.cells a l k e ≡ Some b → FitsAll p.cells b
+    pub assigned-fits : (l : Left) (k : Pick) (e : Term) (b : Acting) → fit_term p.cells q e ≡ true → all_named p.cells (takes k (kind_of e)) l ≡ true → assigned p.cells a l k e ≡ Some b → FitWords p.cells b
     assigned-fits l k e b te named h =
         let w = then_is (word_in p.cells a e) (λ w. option_and_then (λ s. put_in p.cells a (cell_named p.cells (Some s)) k w) (steps_in p.cells a l)) b h in
         let s = then_is (steps_in p.cells a l) (λ s. put_in p.cells a (cell_named p.cells (Some s)) k w.0) b w.2 in
         by w.0 s.0 s.1 (acting-fits e w.0 te w.1) (cell_at false 0 s.0 p.cells) refl s.2
       where
-        by : (w : ℕ) (s : List Step) → steps_in p.cells a l ≡ Some s → w < 2 ^ width_of (kind_of e) → (o : Option ℕ) → cell_at false 0 s p.cells ≡ o → put_in p.cells a (option_map (root_of p.cells) o) k w ≡ Some b → FitsAll p.cells b
-        by w s se less None c d = let m = map_is (picked p.cells a 1 k 0 w) (λ w. a) b d in subst (FitsAll p.cells) m.2 fits
+        by : (w : ℕ) (s : List Step) → steps_in p.cells a l ≡ Some s → w < 2 ^ width_of (kind_of e) → (o : Option ℕ) → cell_at false 0 s p.cells ≡ o → put_in p.cells a (option_map (root_of p.cells) o) k w ≡ Some b → FitWords p.cells b
+        by w s se less None c d = let m = map_is (picked p.cells a 1 k 0 w) (λ w. a) b d in subst (FitWords p.cells) m.2 fits
         by w s se less (Some n) c d =
             let x = cell_of p.cells n s c in
             let u = opens-agree p.cells q (cells-apart p r) a l s se in
@@ -237,17 +242,17 @@ module _ (p : Program) (r : IsResolved p) (q : Process) where
             put-fits n x.0 k (kind_of e) w b x.1 x.2 t less d
 
   FitsEffect : Effect → Type 0
-  FitsEffect (Fell a) = FitsAll p.cells a
-  FitsEffect (Left_out n a) = FitsAll p.cells a
+  FitsEffect (Fell a) = FitWords p.cells a
+  FitsEffect (Left_out n a) = FitWords p.cells a
   FitsEffect Lost = Unit {0}
 
-  then-fits : (x : Effect) (f : Acting → Effect) → FitsEffect x → ((a : Acting) → FitsAll p.cells a → FitsEffect (f a)) → FitsEffect (then_effect x f)
+  then-fits : (x : Effect) (f : Acting → Effect) → FitsEffect x → ((a : Acting) → FitWords p.cells a → FitsEffect (f a)) → FitsEffect (then_effect x f)
   unfolding FitsEffect
   then-fits (Fell a) f t g = g a t
   then-fits (Left_out n a) f t g = t
   then-fits Lost f t g = tt
 
-  shut-fits : (x : Effect) (f : Acting → Effect) → FitsEffect x → ((a : Acting) → FitsAll p.cells a → FitsEffect (f a)) → FitsEffect (shut x f)
+  shut-fits : (x : Effect) (f : Acting → Effect) → FitsEffect x → ((a : Acting) → FitWords p.cells a → FitsEffect (f a)) → FitsEffect (shut x f)
   unfolding FitsEffect
   shut-fits (Fell a) f t g = g a t
   shut-fits (Left_out zero a) f t g = g a t
@@ -284,9 +289,9 @@ module _ (p : Program) (r : IsResolved p) (q : Process) where
   every (Block o b c) t = (every b (and-first (fit_code p.cells q b) (fit_code p.cells q c) t), every c (and-second (fit_code p.cells q b) (fit_code p.cells q c) t))
   every (Loop o n b c) t = (every b (and-first (fit_code p.cells q b) (fit_code p.cells q c) t), every c (and-second (fit_code p.cells q b) (fit_code p.cells q c) t))
   every (Exit o n c) t = every c t
-  every (Wait o l n c) t = every c t
+  every (Wait o l n c) t = every c (and-second (nat_lt 0 n) (fit_code p.cells q c) t)
 
-  effect-fits : (c : Code) (a : Acting) → Every P T c → FitsAll p.cells a → FitsEffect (effect p.cells c a)
+  effect-fits : (c : Code) (a : Acting) → Every P T c → FitWords p.cells a → FitsEffect (effect p.cells c a)
   unfolding FitsEffect
   effect-fits End a t f = f
   effect-fits (Put o l k e c) a t f =
@@ -301,11 +306,11 @@ module _ (p : Program) (r : IsResolved p) (q : Process) where
   effect-fits (Loop o n b c) a t f = tt
   effect-fits (Wait o l n c) a t f = tt
 
-  pub fell-fits : (c : Code) (a b : Acting) → fit_code p.cells q c ≡ true → FitsAll p.cells a → effect p.cells c a ≡ Fell b → FitsAll p.cells b
+  pub fell-fits : (c : Code) (a b : Acting) → fit_code p.cells q c ≡ true → FitWords p.cells a → effect p.cells c a ≡ Fell b → FitWords p.cells b
   unfolding FitsEffect
   fell-fits c a b t f e = subst FitsEffect e (effect-fits c a (every c t) f)
 
-  then-runs : (x : Effect) (f : Acting → Ran) → FitsEffect x → ((a : Acting) → FitsAll p.cells a → FitsRan p.cells (f a)) → FitsRan p.cells (then_ran x f)
+  then-runs : (x : Effect) (f : Acting → Ran) → FitsEffect x → ((a : Acting) → FitWords p.cells a → FitsRan p.cells (f a)) → FitsRan p.cells (then_ran x f)
   unfolding FitsEffect
   then-runs (Fell a) f t g = g a t
   then-runs (Left_out n a) f t g = tt
@@ -315,7 +320,7 @@ module _ (p : Program) (r : IsResolved p) (q : Process) where
   choose-fits zero x y f g = g
   choose-fits (suc n) x y f g = f
 
-  segment-fits : (s : Segment) (a : Acting) → EverySegment P T s → FitsAll p.cells a → FitsRan p.cells (run_segment p.cells s a)
+  segment-fits : (s : Segment) (a : Acting) → EverySegment P T s → FitWords p.cells a → FitsRan p.cells (run_segment p.cells s a)
   segment-fits (Plain c s) a t f = then-runs (effect p.cells c a) (run_segment p.cells s) (effect-fits c a t.0 f) (λ b g. segment-fits s b t.1 g)
   segment-fits (Test o u s v) a t f = by (word_in p.cells a u) (segment-fits s a t.1 f) (segment-fits v a t.2 f)
     where
@@ -326,9 +331,9 @@ module _ (p : Program) (r : IsResolved p) (q : Process) where
   segment-fits Finish a t f = f
 
   -- whatever segment of a thread runs, and a method too
-  pub thread-fits : (n : ℕ) (s : Segment) (a : Acting) → fit_code p.cells q q.body ≡ true → slice_get (all_segments (live_body p.cells q.body)) n ≡ Some s → FitsAll p.cells a → FitsRan p.cells (run_segment p.cells s a)
+  pub thread-fits : (n : ℕ) (s : Segment) (a : Acting) → fit_code p.cells q q.body ≡ true → slice_get (all_segments (live_body p.cells q.body)) n ≡ Some s → FitWords p.cells a → FitsRan p.cells (run_segment p.cells s a)
   thread-fits n s a t e f = segment-fits s a (fit_at P T p.cells (all_segments (live_body p.cells q.body)) n s (fit_all P T p.cells q.body (every q.body t)) e) f
 
-  pub method-fits : (a b : Acting) → fit_code p.cells q q.body ≡ true → FitsAll p.cells a → effect p.cells (live p.cells q.body) a ≡ Fell b → FitsAll p.cells b
+  pub method-fits : (a b : Acting) → fit_code p.cells q q.body ≡ true → FitWords p.cells a → effect p.cells (live p.cells q.body) a ≡ Fell b → FitWords p.cells b
   unfolding FitsEffect
   method-fits a b t f e = subst FitsEffect e (effect-fits (live p.cells q.body) a (fit_alive P T p.cells q.body (every q.body t)) f)

@@ -4,7 +4,7 @@ use Rattle.scc_semantics.specs.Location.{Part}
 use Rattle.scc_semantics.specs.Location as location
 use Rattle.scc_core_spec.specs.Term.{CellName, Own}
 use Rattle.scc_core_spec.specs.Named.{Step, Named, At, Ours, Open, part_step, own_steps, steps_of, fits, is_open}
-use Rattle.scc_core_resolved_laws.specs.Named.{agrees}
+use Rattle.scc_core_spec.specs.OpenNames.{agrees}
 use Rattle.scc_core_resolved_laws.proofs.Bools.{and-first, and-second, and-both, nat_eq-is, nat_eq-self}
 
 pub agrees-append : (o s : List Step) (x y : Step) → agrees o s ≡ true → agrees (x ∷ []) (y ∷ []) ≡ true → agrees (o ++ x ∷ []) (s ++ y ∷ []) ≡ true

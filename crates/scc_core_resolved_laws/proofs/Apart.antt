@@ -15,7 +15,7 @@ use Rattle.scc_blocks_spec.specs.Passed.{IsHome}
 use Rattle.scc_states_laws.specs.Alike.{IsName, Names, base, member, element, TellsApart}
 use Rattle.scc_states_laws.proofs.Statics.{find_cell}
 use Rattle.scc_states_laws.proofs.Values.{some_same}
-use Rattle.scc_core_resolved_laws.specs.IsResolved.{IsResolved, processes_apart, has_path, own_is, name_is, sort_is}
+use Rattle.scc_core_spec.specs.IsResolved.{IsResolved, processes_apart, has_path, own_is, name_is, sort_is}
 use Rattle.scc_core_resolved_laws.proofs.Bools.{and-first, and-second, not-false, nat_eq-is, nat_eq-self, all-at}
 use Rattle.scc_core_resolved_laws.proofs.Agreeing.{fits-is, fits-self, name-closed, path-closed, closed-append}
 use Rattle.scc_core_resolved_laws.proofs.Cells.{one-cell}
@@ -23,11 +23,11 @@ use Rattle.scc_core_resolved_laws.proofs.Fitting.{path-is}
 use Rattle.scc_core_resolved_laws.proofs.Parts.{processes-apart, cells-apart, cell-fits}
 use Rattle.scc_core_resolved_laws.proofs.Valued.{root-of}
 
-nil-behind : {A : Type 0} (xs : List A) → xs ++ [] ≡ xs
+pub nil-behind : {A : Type 0} (xs : List A) → xs ++ [] ≡ xs
 nil-behind [] = refl
 nil-behind (x ∷ xs) = ap (λ ys. x ∷ ys) (nil-behind xs)
 
-joined-behind : {A : Type 0} (xs ys zs : List A) → (xs ++ ys) ++ zs ≡ xs ++ (ys ++ zs)
+pub joined-behind : {A : Type 0} (xs ys zs : List A) → (xs ++ ys) ++ zs ≡ xs ++ (ys ++ zs)
 joined-behind [] ys zs = refl
 joined-behind (x ∷ xs) ys zs = ap (λ l. x ∷ l) (joined-behind xs ys zs)
 
@@ -68,7 +68,7 @@ not-ours : (x : Part) (n : ℕ) → part_step x ≡ Ours n → ⊥
 not-ours (location.Member m) n e = cc
 not-ours (Element m) n e = cc
 
-no-ours : (a b : List Part) (n : ℕ) (xs : List Step) → map part_step a ≡ map part_step b ++ (Ours n ∷ xs) → ⊥
+pub no-ours : (a b : List Part) (n : ℕ) (xs : List Step) → map part_step a ≡ map part_step b ++ (Ours n ∷ xs) → ⊥
 no-ours [] [] n xs e = cc
 no-ours [] (y ∷ b) n xs e = cc
 no-ours (x ∷ a) [] n xs e = not-ours x n (tail-is (part_step x) (Ours n) (map part_step a) xs e).0
@@ -77,7 +77,7 @@ no-ours (x ∷ a) (y ∷ b) n xs e = no-ours a b n xs (tail-is (part_step x) (pa
 ours-is : (n m : ℕ) → Ours n ≡ Ours m → n ≡ m
 ours-is n m e = cc
 
-two-ours : (a b : List Part) (n m : ℕ) (xs ys : List Step) → map part_step a ++ (Ours n ∷ xs) ≡ map part_step b ++ (Ours m ∷ ys) → (a ≡ b) × (n ≡ m) × (xs ≡ ys)
+pub two-ours : (a b : List Part) (n m : ℕ) (xs ys : List Step) → map part_step a ++ (Ours n ∷ xs) ≡ map part_step b ++ (Ours m ∷ ys) → (a ≡ b) × (n ≡ m) × (xs ≡ ys)
 two-ours [] [] n m xs ys e = let t = tail-is (Ours n) (Ours m) xs ys e in (refl, ours-is n m t.0, t.1)
 two-ours [] (y ∷ b) n m xs ys e = absurd (not-ours y n (sym (tail-is (Ours n) (part_step y) xs (map part_step b ++ (Ours m ∷ ys)) e).0))
 two-ours (x ∷ a) [] n m xs ys e = absurd (not-ours x m (tail-is (part_step x) (Ours m) (map part_step a ++ (Ours n ∷ xs)) ys e).0)
@@ -90,7 +90,7 @@ path-self : (a : List Part) → same_path a a ≡ true
 path-self a = same-self (record { root = Top; path = a })
 
 -- a process is found by its path
-named-first : (ps : List Process) (m k : ℕ) (q : Process) (path : List Part) → processes_apart ps ≡ true → slice_get ps k ≡ Some q → path ≡ q.name.path → process_named m path ps ≡ m + k
+pub named-first : (ps : List Process) (m k : ℕ) (q : Process) (path : List Part) → processes_apart ps ≡ true → slice_get ps k ≡ Some q → path ≡ q.name.path → process_named m path ps ≡ m + k
 named-first [] m k q path h g e = absurd cc
 named-first (x ∷ ps) m zero q path h g e =
     by (same_path path x.name.path) (subst (λ z. same_path path z ≡ true) (e ∙ ap (λ z. z.name.path) (sym (some_same g))) (path-self path))

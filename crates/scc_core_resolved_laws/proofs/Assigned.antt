@@ -26,11 +26,12 @@ use Rattle.scc_core_spec.specs.Uses.{cells_of, root_of, root_of_sort, among}
 use Rattle.scc_core_spec.specs.Source.{Home, thing_of, source_of, left_of, expr_of, pick_of, at_top, cell_location}
 use Rattle.scc_states_path_laws.specs.Moved.{World, around}
 use Rattle.scc_states_laws.specs.Processes.{HoldsFixed, world_of}
-use Rattle.scc_states_laws.specs.Alike.{Names, TellsApart, is_number}
+use Rattle.scc_states_laws.specs.Alike.{Names, TellsApart}
+use Rattle.scc_core_spec.specs.Program.{is_number}
 use Rattle.scc_states_laws.proofs.Values.{some_same, map_is, cell_of, thing_at, nothing_at, port_names, root_is}
-use Rattle.scc_core_resolved_laws.specs.Named.{all_named, is_sized}
-use Rattle.scc_core_resolved_laws.specs.Fit.{takes, fit_left}
-use Rattle.scc_core_resolved_laws.specs.IsResolved.{IsResolved}
+use Rattle.scc_core_spec.specs.OpenNames.{all_named, is_sized}
+use Rattle.scc_core_spec.specs.Fit.{takes, fit_left}
+use Rattle.scc_core_spec.specs.IsResolved.{IsResolved}
 use Rattle.scc_core_resolved_laws.proofs.Bools.{and-first, and-second, nat_eq-is, nat_le-is, nat_lt-is}
 use Rattle.scc_core_resolved_laws.proofs.Cells.{named-passes}
 use Rattle.scc_core_resolved_laws.proofs.Fitting.{left-fits}
@@ -50,6 +51,12 @@ none-is (Some x) e = absurd cc
 pub holds-fixed : (d : Design) (h : Held) → Proper d h → HoldsFixed d h
 unfolding Proper
 holds-fixed d h ok l v e = subst (λ o. HoldsConstant o (h.store.words l)) e (ok.0.fixed l)
+
+-- what is written is not fixed
+pub takes-fixed : (k : Pick) (j : Kind) (x : program.Cell) → takes k j x ≡ true → fixed_word x.sort ≡ None
+takes-fixed Whole j x t = none-is (fixed_word x.sort) (and-first (not (is_some (fixed_word x.sort))) (nat_eq (width_of j) (width_of x.kind)) t)
+takes-fixed (OneBit e) j x t = none-is (fixed_word x.sort) (and-first (not (is_some (fixed_word x.sort))) (is_number x.sort && nat_eq (width_of j) 1) t)
+takes-fixed (Bits hi lo) j x t = none-is (fixed_word x.sort) (and-first (not (is_some (fixed_word x.sort))) (is_number x.sort && (nat_le lo hi && (nat_lt hi (width_of x.kind) && nat_eq (width_of j) (hi - lo + 1)))) t)
 
 -- no constant is told of a cell
 unfoldable pub IsFree : (Location → Option ℕ) → Home → Program → ℕ → Type 0
@@ -74,11 +81,6 @@ module _ (home : Home) (constant : Location → Option ℕ) (p : Program) (i : �
         fixed = subst (λ o. HoldsConstant o w) (sym (ap (option_and_then (λ c. fixed_word c.sort)) there ∙ fixed)) tt;
         constants = subst (λ o. HoldsConstant o w) (sym (ap constant (sym at) ∙ free x g)) tt;
       }
-
-  takes-fixed : (k : Pick) (j : Kind) (x : program.Cell) → takes k j x ≡ true → fixed_word x.sort ≡ None
-  takes-fixed Whole j x t = none-is (fixed_word x.sort) (and-first (not (is_some (fixed_word x.sort))) (nat_eq (width_of j) (width_of x.kind)) t)
-  takes-fixed (OneBit e) j x t = none-is (fixed_word x.sort) (and-first (not (is_some (fixed_word x.sort))) (is_number x.sort && nat_eq (width_of j) 1) t)
-  takes-fixed (Bits hi lo) j x t = none-is (fixed_word x.sort) (and-first (not (is_some (fixed_word x.sort))) (is_number x.sort && (nat_le lo hi && (nat_lt hi (width_of x.kind) && nat_eq (width_of j) (hi - lo + 1)))) t)
 
   -- of what is no number the whole is written
   takes-whole : (k : Pick) (j : Kind) (x : program.Cell) (new : ℕ) → takes k j x ≡ true → is_number x.sort ≡ false → new < 2 ^ width_of j → new < 2 ^ width_of x.kind

@@ -4,7 +4,7 @@ use Rattle.std.specs.Prelude.{◌||◌, ◌≤◌, nat_lt, nat_le, slice_get}
 use Rattle.std.specs.List.{list_all}
 use Rattle.scc_bits_kinds.specs.declared.kind.Kind.{Kind}
 use Rattle.scc_bits_kinds.specs.declared.kind.Kind.TheVariants as kind
-use Rattle.scc_core_resolved_laws.specs.Fit.{same_bool, same_kind, is_kind, is_nil}
+use Rattle.scc_core_spec.specs.Fit.{same_bool, same_kind, is_kind, is_nil}
 
 pub and-first : (a b : Bool) → (a && b) ≡ true → a ≡ true
 and-first true b e = refl
@@ -39,6 +39,9 @@ nat_eq-self n = grind arith
 
 pub nat_lt-is : (m n : ℕ) → nat_lt m n ≡ true → m < n
 nat_lt-is m n e = grind arith
+
+pub nat_lt-some : (n : ℕ) → nat_lt 0 (suc n) ≡ true
+nat_lt-some n = grind arith
 
 pub nat_le-is : (m n : ℕ) → nat_le m n ≡ true → m ≤ n
 nat_le-is m n e = grind arith

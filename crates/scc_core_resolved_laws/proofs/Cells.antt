@@ -8,8 +8,8 @@ use Rattle.scc_core_spec.specs.Program.{is_pointer}
 use Rattle.scc_core_spec.specs.Named.{Step, steps_of, names_cell, cell_at, fits, is_open}
 use Rattle.scc_core_spec.specs.Static.{Cells}
 use Rattle.scc_states_laws.proofs.Values.{some_same}
-use Rattle.scc_core_resolved_laws.specs.Named.{agrees, open_name, all_agreeing, passes, all_named}
-use Rattle.scc_core_resolved_laws.specs.IsResolved.{cells_apart}
+use Rattle.scc_core_spec.specs.OpenNames.{agrees, open_name, all_agreeing, passes, all_named}
+use Rattle.scc_core_spec.specs.IsResolved.{cells_apart}
 use Rattle.scc_core_resolved_laws.proofs.Bools.{and-first, and-second, or-second, not-false, not-true, all-at}
 use Rattle.scc_core_resolved_laws.proofs.Agreeing.{agrees-closed, agrees-is, fits-is, fits-self, name-closed}
 

@@ -1,21 +1,22 @@
 -- What a process of a resolved core comes to stands, and holds proper words.
 use Rattle.std.proofs.Common.{◌≡◌, ℕ, zero, suc, ◌+◌, true, false, List, [], ◌∷◌, Option, Some, refl, sym, ap, subst, ◌∙◌, arith}
-use Rattle.std.specs.Prelude.{slice_get}
+use Rattle.std.specs.Prelude.{slice_get, if◌then◌else◌}
 use Rattle.scc_semantics.specs.Location.{Location}
 use Rattle.scc_semantics.specs.Design as running
 use Rattle.scc_semantics.specs.Value.{Held}
 use Rattle.scc_semantics.specs.Machine.{Frames, Inner, Outcome, Suspended, Ended}
 use Rattle.scc_semantics.specs.Process.{first_frames}
+use Rattle.scc_semantics.specs.Same.{is_others}
 use Rattle.scc_semantics.specs.Start.{IsProper}
 use Rattle.scc_core_spec.specs.Program.{Program, Process}
 use Rattle.scc_core_spec.specs.Kept.{written_by}
 use Rattle.scc_core_spec.specs.Uses.{among}
 use Rattle.scc_core_spec.specs.Source.{Home, source_of, processes_from}
-use Rattle.scc_blocks_spec.specs.Comes.{Comes, begins, goes_on, resumes, restarts, repeats, Keeps, next_points}
+use Rattle.scc_blocks_spec.specs.Comes.{Comes, begins, goes_on, resumes, restarts, repeats, elsewhere, Keeps, next_points}
 use Rattle.scc_states_laws.specs.Processes.{running_of}
 use Rattle.scc_states_laws.specs.Alike.{TellsApart}
 use Rattle.scc_states_laws.proofs.Values.{some_same}
-use Rattle.scc_core_resolved_laws.specs.IsResolved.{IsResolved}
+use Rattle.scc_core_spec.specs.IsResolved.{IsResolved}
 use Rattle.scc_core_resolved_laws.proofs.Parts.{code-fit}
 use Rattle.scc_core_resolved_laws.proofs.Assigned.{Proper, IsFree, holds-fixed}
 use Rattle.scc_core_resolved_laws.proofs.Standing.{Stands, stops, Fine, after-fine, points-nothing}
@@ -59,6 +60,10 @@ module _ (home : Home) (constant : Location → Option ℕ) (p : Program) (i : �
   unfolding Proper
   renewed words targets w = (w, tt)
 
+  aside : (h : Held) (others : Location → Option Location) → Proper D h → Proper D (record { store = record { words = h.store.words; targets = λ l. if is_others i l.root then others l else h.store.targets l }; requests = h.requests })
+  unfolding Proper
+  aside h others ok = ok
+
   pub comes-fine : {signals : Location → ℕ} {f : Frames} {h : Held} → Comes D i P signals f h → Comes' signals f h
   comes-fine (begins signals words a b) = record { shown = a; stands = first-stands; proper = renewed words D.targets b }
   comes-fine (goes_on {signals = s} {f = f} {g = g'} {h = h} {k = k} c w e) =
@@ -70,6 +75,7 @@ module _ (home : Home) (constant : Location → Option ℕ) (p : Program) (i : �
       let m = moved s f g' h k _ (after-fine home constant p i q s apart r t.shown f h t.stands t.proper) e in
       record { shown = a; stands = m.0; proper = renewed words k.store.targets b }
   comes-fine (restarts {h = h} signals words a b c w) = record { shown = a; stands = first-stands; proper = renewed words h.store.targets b }
+  comes-fine (elsewhere {h = h} others c) = let t = comes-fine c in record { shown = t.shown; stands = t.stands; proper = aside h others t.proper }
   comes-fine (repeats {k = k} signals words a b c e) = record { shown = a; stands = first-stands; proper = renewed words k.store.targets b }
 
 module _ (home : Home) (constant : Location → Option ℕ) (p : Program) (r : IsResolved p) (apart : (i : ℕ) (q : Process) → slice_get p.processes i ≡ Some q → TellsApart home p i q)

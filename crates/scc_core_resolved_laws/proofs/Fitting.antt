@@ -1,6 +1,6 @@
 -- Code that passes the tests fits.
 use Rattle.std.proofs.Common.{◌≡◌, Bool, true, ◌&&◌, nat_eq, List, [], ◌∷◌, ◌++◌, Option, Some, None, refl, sym, ap, subst, ◌∙◌}
-use Rattle.std.specs.Prelude.{◌+◌, ◌-◌, nat_le, slice_get, option_map}
+use Rattle.std.specs.Prelude.{◌+◌, ◌-◌, nat_le, nat_lt, slice_get, option_map}
 use Rattle.scc_bits_kinds.specs.declared.kind.Kind.{Kind}
 use Rattle.scc_bits_kinds.specs.Kinds.{width_of}
 use Rattle.scc_bits.specs.Values.{kind_of as operator_kind}
@@ -14,11 +14,13 @@ use Rattle.scc_core_spec.specs.Program.{Process, Sort, is_pointer}
 use Rattle.scc_core_spec.specs.Named.{Step, Named, At, Open, steps_of}
 use Rattle.scc_core_spec.specs.Static.{Cells, grown}
 use Rattle.scc_blocks_spec.specs.Acting.{Acting, steps_in, word_in}
-use Rattle.scc_states_laws.specs.Alike.{IsName, IsFit, IsFitLeft, IsFitPick, IsFitCode, IsCellName, Sorts, is_number, is_read}
+use Rattle.scc_states_laws.specs.Alike.{IsName, IsFit, IsFitLeft, IsFitPick, IsFitCode, IsCellName, Sorts}
+use Rattle.scc_core_spec.specs.Fit.{is_read}
+use Rattle.scc_core_spec.specs.Program.{is_number}
 use Rattle.scc_states_laws.proofs.Values.{map_is, then_is, some_same}
-use Rattle.scc_core_resolved_laws.specs.Named.{agrees, open_name, all_named, is_sized}
-use Rattle.scc_core_resolved_laws.specs.Fit.{same_kind, is_kind, is_name, is_loaded, is_shown, takes, bits_of, is_cell, fit_term, fit_left, fit_pick, fit_put, fit_code}
-use Rattle.scc_core_resolved_laws.specs.IsResolved.{cells_apart}
+use Rattle.scc_core_spec.specs.OpenNames.{agrees, open_name, all_named, is_sized}
+use Rattle.scc_core_spec.specs.Fit.{same_kind, is_kind, is_name, is_loaded, is_shown, takes, bits_of, is_cell, fit_term, fit_left, fit_pick, fit_put, fit_code}
+use Rattle.scc_core_spec.specs.IsResolved.{cells_apart}
 use Rattle.scc_core_resolved_laws.proofs.Bools.{and-first, and-second, is_kind-is, is_nil-is}
 use Rattle.scc_core_resolved_laws.proofs.Agreeing.{agrees-append, agrees-self, name-closed}
 use Rattle.scc_core_resolved_laws.proofs.Cells.{named-passes}
@@ -144,4 +146,4 @@ module _ (cs : Cells) (q : Process) (apart : cells_apart cs ≡ true) where
   code-fits (Block p b r) h = (code-fits b (and-first (fit_code cs q b) (fit_code cs q r) h), code-fits r (and-second (fit_code cs q b) (fit_code cs q r) h))
   code-fits (Loop p n b r) h = (code-fits b (and-first (fit_code cs q b) (fit_code cs q r) h), code-fits r (and-second (fit_code cs q b) (fit_code cs q r) h))
   code-fits (Exit p n r) h = code-fits r h
-  code-fits (Wait p l n r) h = code-fits r h
+  code-fits (Wait p l n r) h = code-fits r (and-second (nat_lt 0 n) (fit_code cs q r) h)

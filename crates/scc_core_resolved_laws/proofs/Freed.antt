@@ -12,7 +12,7 @@ use Rattle.scc_core_spec.specs.Constants.{written, constant_from, constant_if, c
 use Rattle.scc_core_spec.specs.Source.{Home, cell_location, cell_there}
 use Rattle.scc_blocks_spec.specs.Passed.{IsHome}
 use Rattle.scc_states_laws.proofs.Values.{some_same}
-use Rattle.scc_core_resolved_laws.specs.IsResolved.{IsResolved}
+use Rattle.scc_core_spec.specs.IsResolved.{IsResolved}
 use Rattle.scc_core_resolved_laws.proofs.Bools.{and-first, nat_eq-is}
 use Rattle.scc_core_resolved_laws.proofs.Writes.{or-left, or-right}
 use Rattle.scc_core_resolved_laws.proofs.Assigned.{IsFree}
@@ -27,10 +27,10 @@ module _ (home : Home) (p : Program) where
   -- no constant is told of a location where each cell that stands there tells none
   pub none-from : (m : ℕ) (cs : Cells) (l : Location) → ((k : ℕ) (c : program.Cell) → slice_get cs k ≡ Some c → same (cell_location home p c) l ≡ true → constant_if (among (m + k) (written p)) c.sort ≡ None) → constant_from home p m cs l ≡ None
   none-from m [] l h = refl
-  none-from m (c ∷ cs) l h = by (same (cell_location home p c) l) refl (none-from (m + 1) cs l (λ k d g e. let n : (m + 1) + k ≡ m + suc k = omega arith in subst (λ n. constant_if (among n (written p)) d.sort ≡ None) (sym n) (h (suc k) d g e)))
+  none-from m (c ∷ cs) l h = by (same (cell_location home p c) l && not (is_pointer c.sort)) refl (none-from (m + 1) cs l (λ k d g e. let n : (m + 1) + k ≡ m + suc k = omega arith in subst (λ n. constant_if (among n (written p)) d.sort ≡ None) (sym n) (h (suc k) d g e)))
     where
-      by : (b : Bool) → same (cell_location home p c) l ≡ b → constant_from home p (m + 1) cs l ≡ None → constant_from home p m (c ∷ cs) l ≡ None
-      by true e i = let n : m + 0 ≡ m = omega arith in rw e (subst (λ n. constant_if (among n (written p)) c.sort ≡ None) n (h 0 c refl e))
+      by : (b : Bool) → (same (cell_location home p c) l && not (is_pointer c.sort)) ≡ b → constant_from home p (m + 1) cs l ≡ None → constant_from home p m (c ∷ cs) l ≡ None
+      by true e i = let n : m + 0 ≡ m = omega arith in rw e (subst (λ n. constant_if (among n (written p)) c.sort ≡ None) n (h 0 c refl (and-first (same (cell_location home p c) l) (not (is_pointer c.sort)) e)))
       by false e i = rw e i
 
 constant-free : (b : Bool) (s : Sort) → b ≡ true → constant_if b s ≡ None

@@ -17,7 +17,7 @@ use Rattle.scc_core_spec.specs.Source.{Home, source_of, port_of, cell_location}
 use Rattle.scc_blocks_spec.specs.Comes.{Comes, Keeps}
 use Rattle.scc_blocks_spec.specs.Passed.{IsHome}
 use Rattle.scc_states_laws.proofs.Values.{some_same}
-use Rattle.scc_core_resolved_laws.specs.IsResolved.{IsResolved}
+use Rattle.scc_core_spec.specs.IsResolved.{IsResolved}
 use Rattle.scc_core_resolved_laws.proofs.Apart.{tells-apart}
 use Rattle.scc_core_resolved_laws.proofs.Coming.{keeps, comes-fine}
 use Rattle.scc_core_resolved_laws.proofs.Assigned.{Proper}
@@ -26,7 +26,7 @@ use Rattle.scc_core_resolved_laws.proofs.Freed.{written-free, input-constants, i
 use Rattle.scc_core_resolved_laws.proofs.Steady.{all-steady}
 use Rattle.scc_core_resolved_laws.proofs.Writes.{or-cases}
 
-any-at : {A : Type 0} (t : A → Bool) (xs : List A) → list_any t xs ≡ true → (k : ℕ) × (x : A) × (slice_get xs k ≡ Some x) × (t x ≡ true)
+pub any-at : {A : Type 0} (t : A → Bool) (xs : List A) → list_any t xs ≡ true → (k : ℕ) × (x : A) × (slice_get xs k ≡ Some x) × (t x ≡ true)
 any-at t [] e = absurd cc
 any-at t (x ∷ xs) e = by (or-cases (t x) (list_any t xs) e) (any-at t xs)
   where
@@ -34,7 +34,7 @@ any-at t (x ∷ xs) e = by (or-cases (t x) (list_any t xs) e) (any-at t xs)
     by (inl h) i = (0, x, refl, h)
     by (inr h) i = let u = i h in (suc u.0, u.1, u.2, u.3)
 
-filter-at : {A : Type 0} (f : A → Bool) (xs : List A) (k : ℕ) (x : A) → slice_get (filter f xs) k ≡ Some x → (n : ℕ) × (slice_get xs n ≡ Some x) × (f x ≡ true)
+pub filter-at : {A : Type 0} (f : A → Bool) (xs : List A) (k : ℕ) (x : A) → slice_get (filter f xs) k ≡ Some x → (n : ℕ) × (slice_get xs n ≡ Some x) × (f x ≡ true)
 filter-at f [] k x e = absurd cc
 filter-at {A} f (y ∷ ys) k x e = by (f y) refl k e (filter-at f ys)
   where
@@ -44,12 +44,12 @@ filter-at {A} f (y ∷ ys) k x e = by (f y) refl k e (filter-at f ys)
     by true h (suc k) g i = let u = i k x g in (suc u.0, u.1, u.2)
     by false h k g i = let u = i k x g in (suc u.0, u.1, u.2)
 
-mapped-at : {A B : Type 0} (f : A → B) (xs : List A) (k : ℕ) (y : B) → slice_get (map f xs) k ≡ Some y → (x : A) × (slice_get xs k ≡ Some x) × (f x ≡ y)
+pub mapped-at : {A B : Type 0} (f : A → B) (xs : List A) (k : ℕ) (y : B) → slice_get (map f xs) k ≡ Some y → (x : A) × (slice_get xs k ≡ Some x) × (f x ≡ y)
 mapped-at f [] k y e = absurd cc
 mapped-at f (x ∷ xs) zero y e = (x, refl, some_same e)
 mapped-at f (x ∷ xs) (suc k) y e = mapped-at f xs k y e
 
-chosen-at : {A B : Type 0} (h : A → Option B) (xs : List A) (k : ℕ) (y : B) → slice_get (filter_map h xs) k ≡ Some y → (n : ℕ) × (x : A) × (slice_get xs n ≡ Some x) × (h x ≡ Some y)
+pub chosen-at : {A B : Type 0} (h : A → Option B) (xs : List A) (k : ℕ) (y : B) → slice_get (filter_map h xs) k ≡ Some y → (n : ℕ) × (x : A) × (slice_get xs n ≡ Some x) × (h x ≡ Some y)
 chosen-at h [] k y e = absurd cc
 chosen-at {A} {B} h (x ∷ xs) k y e = by (h x) refl k (rw e refl) (chosen-at h xs)
   where

@@ -16,7 +16,7 @@ use Rattle.scc_states_laws.specs.Processes.{HoldsFixed, world_of}
 use Rattle.scc_states_laws.specs.Alike.{Names, base, member, element, TellsApart, IsFitLeft, IsCellName}
 use Rattle.scc_states_laws.proofs.Values.{some_same, kind_is}
 use Rattle.scc_states_laws.proofs.Statics.{static_is}
-use Rattle.scc_core_resolved_laws.specs.Named.{agrees, open_name}
+use Rattle.scc_core_spec.specs.OpenNames.{agrees, open_name}
 use Rattle.scc_core_resolved_laws.proofs.Agreeing.{agrees-append, agrees-self, name-closed}
 
 pub behind-is : (o : Option (Option Location)) (f : Location → Option (Option Location)) (k : Location) → followed (machine.behind o f) ≡ Some k → (m : Location) × (o ≡ Some (Some m)) × (followed (f m) ≡ Some k)

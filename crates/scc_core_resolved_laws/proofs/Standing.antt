@@ -1,5 +1,6 @@
 -- Frames of a resolved core's process, and what a run of them comes to.
 use Rattle.std.proofs.Common.{◌≡◌, ℕ, zero, suc, Bool, true, false, ◌&&◌, ◌||◌, Option, Some, None, refl, sym, ap, subst, ◌∙◌}
+use Rattle.std.specs.Prelude.{nat_lt}
 use Rattle.scc_base.specs.declared.refusal.Place.{Place}
 use Rattle.scc_semantics.specs.Location.{Location}
 use Rattle.scc_semantics.specs.Scene.{followed}
@@ -23,9 +24,9 @@ use Rattle.scc_states_laws.specs.Processes.{world_of}
 use Rattle.scc_states_laws.specs.Alike.{TellsApart}
 use Rattle.scc_states_laws.proofs.Statics.{tests_hold}
 use Rattle.scc_states_laws.proofs.Values.{some_same}
-use Rattle.scc_core_resolved_laws.specs.Fit.{fit_term, fit_put, fit_code}
-use Rattle.scc_core_resolved_laws.specs.IsResolved.{IsResolved}
-use Rattle.scc_core_resolved_laws.proofs.Bools.{and-first, and-second, nat_eq-self}
+use Rattle.scc_core_spec.specs.Fit.{fit_term, fit_put, fit_code}
+use Rattle.scc_core_spec.specs.IsResolved.{IsResolved}
+use Rattle.scc_core_resolved_laws.proofs.Bools.{and-first, and-second, and-both, nat_eq-self, nat_lt-some}
 use Rattle.scc_core_resolved_laws.proofs.Fitting.{code-fits, put-parts}
 use Rattle.scc_core_resolved_laws.proofs.Parts.{cells-apart}
 use Rattle.scc_core_resolved_laws.proofs.Valued.{value-fits}
@@ -60,11 +61,11 @@ module _ (home : Home) (constant : Location → Option ℕ) (p : Program) (i : �
     goes_on : {k : Frames} → (mark : Mark) (c : Code) → fit_code p.cells q c ≡ true → FreesHere c → ((alive p.cells c).ends ≡ true → Stands k)
         → ((n : ℕ) → (alive p.cells c).leaves n ≡ true → Stands (leave n k)) → Stands (Go mark (own_names i) (B c) k)
 
-  abbrev Shape : Frames → Type 0
+  abbrev pub Shape : Frames → Type 0
   Shape Stop = Unit {0}
   Shape (Go mark m b k) = (c : Code) × (own_names i ≡ m) × (B c ≡ b) × (fit_code p.cells q c ≡ true) × FreesHere c × ((alive p.cells c).ends ≡ true → Stands k) × ((n : ℕ) → (alive p.cells c).leaves n ≡ true → Stands (leave n k))
 
-  shape : (f : Frames) → Stands f → Shape f
+  pub shape : (f : Frames) → Stands f → Shape f
   shape f stops = tt
   shape f (goes_on mark c fit free ends leaves) = (c, refl, refl, fit, free, ends, leaves)
 
@@ -101,7 +102,7 @@ module _ (home : Home) (constant : Location → Option ℕ) (p : Program) (i : �
     waits-fine : (p' : Place) (l left : ℕ) (c : Code) (k : Frames) → Stands (Go Inner (own_names i) (B c) k) → fit_code p.cells q c ≡ true → FreesHere c → ((alive p.cells c).ends ≡ true → Stands k)
         → ((n : ℕ) → (alive p.cells c).leaves n ≡ true → Stands (leave n k)) → Stands (waiting l left (Go Inner (own_names i) (B c) k))
     waits-fine p' l zero c k s fit free ends leaves = s
-    waits-fine p' l (suc left) c k s fit free ends leaves = goes_on Inner (Wait p' l (suc left) c) fit free ends leaves
+    waits-fine p' l (suc left) c k s fit free ends leaves = goes_on Inner (Wait p' l (suc left) c) (and-both (nat_lt 0 (suc left)) (fit_code p.cells q c) (nat_lt-some left) fit) free ends leaves
 
     -- a test goes one of the ways that paths go
     branch : (o : Place) (t : Term) (a b : Code) (x : ℕ) (g : Option Bool) → ((y : Bool) → g ≡ Some y → is_true x ≡ y) → (k : Frames)
@@ -172,7 +173,8 @@ module _ (home : Home) (constant : Location → Option ℕ) (p : Program) (i : �
           (goes_on Inner b fb free (λ e. goes_on Inner (Loop o n b c) fit free ends leaves) (λ m e. leaves m (loop-ends (alive p.cells b).ends o n (alive p.cells b) m e))) ok
       fine-code mark (Exit o n c) k h fit free ends leaves ok rest = go (leave n k) h (leaves n (nat_eq-self n)) ok
       fine-code mark (Wait o l n c) k h fit free ends leaves ok rest =
-          (waits-fine o l (one_less n) c k (goes_on Inner c fit free ends leaves) fit free ends leaves, ok)
+          let fc = and-second (nat_lt 0 n) (fit_code p.cells q c) fit in
+          (waits-fine o l (one_less n) c k (goes_on Inner c fc free ends leaves) fc free ends leaves, ok)
 
       pub fine : (f : Frames) (h : Held) → Stands f → Proper D h → Fine (A next f h)
       unfolding Fine

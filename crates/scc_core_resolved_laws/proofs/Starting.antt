@@ -17,7 +17,7 @@ use Rattle.scc_core_spec.specs.Constants.{written, constant_from, constant_if, c
 use Rattle.scc_core_spec.specs.Source.{Home, source_of, thing_of, cell_location, cell_there}
 use Rattle.scc_blocks_spec.specs.Passed.{IsHome}
 use Rattle.scc_states_laws.proofs.Values.{some_same}
-use Rattle.scc_core_resolved_laws.specs.IsResolved.{IsResolved, name_is, sort_is}
+use Rattle.scc_core_spec.specs.IsResolved.{IsResolved, name_is, sort_is}
 use Rattle.scc_core_resolved_laws.proofs.Bools.{and-first, and-second, and-both, not-false, nat_eq-is, nat_lt-is}
 use Rattle.scc_core_resolved_laws.proofs.Numbers.{nought}
 use Rattle.scc_core_resolved_laws.proofs.Parts.{cell-fits}
@@ -55,12 +55,12 @@ module _ (home : Home) (is : IsHome home) (p : Program) (r : IsResolved p) where
   some-from : (m : ℕ) (cs : Cells) (l : Location) (v : ℕ) → constant_from home p m cs l ≡ Some v
       → (k : ℕ) × (c : program.Cell) × (slice_get cs k ≡ Some c) × (same (cell_location home p c) l ≡ true) × (constant_if (among (m + k) (written p)) c.sort ≡ Some v)
   some-from m [] l v e = absurd cc
-  some-from m (c ∷ cs) l v e = by (same (cell_location home p c) l) refl e (some-from (m + 1) cs l v)
+  some-from m (c ∷ cs) l v e = by (same (cell_location home p c) l && not (is_pointer c.sort)) refl e (some-from (m + 1) cs l v)
     where
-      by : (b : Bool) → same (cell_location home p c) l ≡ b → constant_from home p m (c ∷ cs) l ≡ Some v
+      by : (b : Bool) → (same (cell_location home p c) l && not (is_pointer c.sort)) ≡ b → constant_from home p m (c ∷ cs) l ≡ Some v
           → (constant_from home p (m + 1) cs l ≡ Some v → (k : ℕ) × (d : program.Cell) × (slice_get cs k ≡ Some d) × (same (cell_location home p d) l ≡ true) × (constant_if (among ((m + 1) + k) (written p)) d.sort ≡ Some v))
           → (k : ℕ) × (d : program.Cell) × (slice_get (c ∷ cs) k ≡ Some d) × (same (cell_location home p d) l ≡ true) × (constant_if (among (m + k) (written p)) d.sort ≡ Some v)
-      by true t d i = let n : m ≡ m + 0 = omega arith in let d' : constant_if (among m (written p)) c.sort ≡ Some v = rw t at d in (0, c, refl, t, subst (λ n. constant_if (among n (written p)) c.sort ≡ Some v) n d')
+      by true t d i = let n : m ≡ m + 0 = omega arith in let d' : constant_if (among m (written p)) c.sort ≡ Some v = rw t at d in (0, c, refl, and-first (same (cell_location home p c) l) (not (is_pointer c.sort)) t, subst (λ n. constant_if (among n (written p)) c.sort ≡ Some v) n d')
       by false t d i =
           let d' : constant_from home p (m + 1) cs l ≡ Some v = rw t at d in
           let u = i d' in
@@ -78,7 +78,7 @@ module _ (home : Home) (is : IsHome home) (p : Program) (r : IsResolved p) where
   constant-word false (Pointer t) v e = absurd cc
   constant-word false (Port t) v e = absurd cc
 
-  there-is : (l : Location) (k : ℕ) (c : program.Cell) → slice_get p.cells k ≡ Some c → same (cell_location home p c) l ≡ true → cell_there home p false l ≡ Some c
+  pub there-is : (l : Location) (k : ℕ) (c : program.Cell) → slice_get p.cells k ≡ Some c → same (cell_location home p c) l ≡ true → cell_there home p false l ≡ Some c
   there-is l k c g e = by (cell_there home p false l) refl
     where
       plain : is_pointer c.sort ≡ false

@@ -19,7 +19,7 @@ use Rattle.scc_blocks_spec.specs.Passed.{IsHome}
 use Rattle.scc_states_laws.specs.Processes.{running_of}
 use Rattle.scc_states_laws.specs.Alike.{IsFit, IsFitLeft, IsFitPick, IsFitCode}
 use Rattle.scc_states_laws.proofs.Values.{some_same}
-use Rattle.scc_core_resolved_laws.specs.IsResolved.{IsResolved}
+use Rattle.scc_core_spec.specs.IsResolved.{IsResolved}
 use Rattle.scc_core_resolved_laws.proofs.Bools.{and-both}
 use Rattle.scc_core_resolved_laws.proofs.Parts.{fits}
 use Rattle.scc_core_resolved_laws.proofs.Assigned.{Proper}

@@ -15,7 +15,7 @@ use Rattle.scc_blocks_spec.specs.Acting.{Acting, word_in, steps_in, cell_named, 
 use Rattle.scc_states_laws.proofs.Values.{some_same, map_is, then_is, two_is}
 use Rattle.scc_states_laws.proofs.Statics.{find_cell, index_closed, open_front}
 use Rattle.scc_core_resolved_laws.specs.Asked.{HoldsFixed}
-use Rattle.scc_core_resolved_laws.specs.Named.{agrees, is_sized}
+use Rattle.scc_core_spec.specs.OpenNames.{agrees, is_sized}
 use Rattle.scc_core_resolved_laws.proofs.Agreeing.{agrees-append, agrees-self, name-closed}
 use Rattle.scc_core_resolved_laws.proofs.Cells.{found-at}
 use Rattle.scc_core_resolved_laws.proofs.Writes.{named-among}

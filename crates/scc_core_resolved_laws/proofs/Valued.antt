@@ -20,11 +20,13 @@ use Rattle.scc_core_spec.specs.Static.{Cells}
 use Rattle.scc_core_spec.specs.Source.{Home, thing_of, source_of, left_of, expr_of, at_top}
 use Rattle.scc_states_path_laws.specs.Moved.{World, around}
 use Rattle.scc_states_laws.specs.Processes.{HoldsFixed, world_of}
-use Rattle.scc_states_laws.specs.Alike.{TellsApart, is_number, is_read}
+use Rattle.scc_states_laws.specs.Alike.{TellsApart}
+use Rattle.scc_core_spec.specs.Fit.{is_read}
+use Rattle.scc_core_spec.specs.Program.{is_number}
 use Rattle.scc_states_laws.proofs.Values.{some_same, map_is, then_is, two_is, kind_is, thing_at, nothing_at, cell_of, port_names}
-use Rattle.scc_core_resolved_laws.specs.Named.{all_named, is_sized}
-use Rattle.scc_core_resolved_laws.specs.Fit.{same_kind, is_loaded, is_shown, bits_of, fit_term, fit_left}
-use Rattle.scc_core_resolved_laws.specs.IsResolved.{IsResolved, root_is, sort_is, name_is}
+use Rattle.scc_core_spec.specs.OpenNames.{all_named, is_sized}
+use Rattle.scc_core_spec.specs.Fit.{same_kind, is_loaded, is_shown, bits_of, fit_term, fit_left}
+use Rattle.scc_core_spec.specs.IsResolved.{IsResolved, root_is, sort_is, name_is}
 use Rattle.scc_core_resolved_laws.proofs.Bools.{and-first, and-second, nat_eq-is, nat_lt-is, nat_le-is, same_kind-is}
 use Rattle.scc_core_resolved_laws.proofs.Cells.{named-passes}
 use Rattle.scc_core_resolved_laws.proofs.Fitting.{term-fits, left-fits}

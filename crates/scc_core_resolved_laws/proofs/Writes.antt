@@ -14,7 +14,7 @@ use Rattle.scc_core_spec.specs.Static.{Cells, goes, pattern}
 use Rattle.scc_core_spec.specs.Live.{Alive, alive, live, then_alive, by_test, looped, shut}
 use Rattle.scc_core_spec.specs.Uses.{Act, acts, cells_of, writes_of, among, root_of}
 use Rattle.scc_states_laws.proofs.Values.{some_same}
-use Rattle.scc_core_resolved_laws.specs.Named.{agrees, all_agreeing, completes, is_sized}
+use Rattle.scc_core_spec.specs.OpenNames.{agrees, all_agreeing, completes, is_sized}
 use Rattle.scc_core_resolved_laws.proofs.Bools.{and-both, or-second, not-true, nat_eq-self, nat_eq-is, all-at}
 use Rattle.scc_core_resolved_laws.proofs.Agreeing.{agrees-closed, fits-is}
 use Rattle.scc_core_resolved_laws.proofs.Cells.{found-cell}

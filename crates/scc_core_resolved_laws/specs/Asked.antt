@@ -1,19 +1,14 @@
 -- What is asked of signals and ports fits too. This project's own.
-use Rattle.std.specs.Prelude.{◌≡◌, ℕ, ◌<◌, ◌^◌, Some, slice_get}
-use Rattle.scc_bits_kinds.specs.Kinds.{width_of}
+use Rattle.std.specs.Prelude.{◌≡◌, ℕ, Some, slice_get}
 use Rattle.scc_core_spec.specs.Program.{Cell}
 use Rattle.scc_core_spec.specs.Static.{Cells, fixed_word}
+use Rattle.scc_core_effect_laws.specs.Sound.{FitWords}
 use Rattle.scc_blocks_spec.specs.Acting.{Acting}
 use Rattle.scc_blocks_spec.specs.Effect.{Ran, Waits, Ends, Fails}
-use Rattle.scc_blocks_spec.specs.Lowered.{Fits}
-
-pub record FitsAll (cs : Cells) (a : Acting) : Type 0 where
-  pub fits : Fits cs a
-  pub asked : (c w : ℕ) (x : Cell) → slice_get cs c ≡ Some x → a.asked c ≡ Some w → w < 2 ^ width_of x.kind
 
 abbrev pub FitsRan : Cells → Ran → Type 0
-FitsRan cs (Waits a place) = FitsAll cs a
-FitsRan cs (Ends a) = FitsAll cs a
+FitsRan cs (Waits a place) = FitWords cs a
+FitsRan cs (Ends a) = FitWords cs a
 FitsRan cs Fails = Unit {0}
 
 -- the registers hold what no process can change

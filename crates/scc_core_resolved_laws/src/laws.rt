@@ -6,6 +6,7 @@ ghost use Rattle.scc_semantics.specs.Process.{State};
 ghost use Rattle.scc_semantics.specs.Start.{IsProper, IsStart};
 ghost use Rattle.scc_semantics.specs.Steady.{AllProperRequests, IsSteady};
 ghost use Rattle.scc_semantics.specs.Value.{Held};
+ghost use Rattle.scc_core_effect_laws.specs.Follows.{IsSoundCore};
 ghost use Rattle.scc_core_spec.specs.Constants.{constants_of};
 ghost use Rattle.scc_core_spec.specs.Code.{Code};
 ghost use Rattle.scc_core_spec.specs.Program.{Program, Process};
@@ -27,14 +28,15 @@ ghost use Rattle.scc_blocks_spec.specs.Effect.{Fell, effect, run_segment};
 ghost use Rattle.scc_blocks_spec.specs.Comes.{Comes, Keeps};
 ghost use Rattle.scc_blocks_spec.specs.Passed.{IsHome};
 ghost use Rattle.scc_states_laws.specs.Alike.{IsFitCode, TellsApart};
-ghost use Rattle.scc_states_path_laws.specs.Exits.{exits_within};
+ghost use Rattle.scc_core_spec.specs.Exits.{exits_within};
 ghost use Rattle.scc_states_laws.specs.InTime.{NeverStuck};
 ghost use Rattle.scc_states_laws.specs.Processes.{Reached, running_of};
 ghost use Rattle.scc_states_laws.specs.Turned.{ComesToWaits, MethodTurns, ThreadTurns};
-ghost use Rattle.scc_core_resolved_laws.specs.Asked.{FitsAll, FitsRan, HoldsFixed};
-ghost use Rattle.scc_core_resolved_laws.specs.Fit.{fit_code, fit_term};
-ghost use Rattle.scc_core_resolved_laws.specs.Named.{is_sized};
-ghost use Rattle.scc_core_resolved_laws.specs.IsResolved.{IsResolved, is_resolved};
+ghost use Rattle.scc_core_effect_laws.specs.Sound.{FitWords};
+ghost use Rattle.scc_core_resolved_laws.specs.Asked.{FitsRan, HoldsFixed};
+ghost use Rattle.scc_core_spec.specs.Fit.{fit_code, fit_term};
+ghost use Rattle.scc_core_spec.specs.OpenNames.{is_sized};
+ghost use Rattle.scc_core_spec.specs.IsResolved.{IsResolved, is_resolved};
 
 /// The bodies of a resolved core fit.
 pub fn bodies_of_a_resolved_core_fit()
@@ -85,11 +87,11 @@ pub fn threads_of_a_resolved_core_turn()
 
 /// Words of registers fit: what terms that fit give, and what code that fits leaves.
 pub fn words_of_registers_stay_fit()
-    ensures terms { (p : Program) (q : Process) (a : Acting) (e : Term) (x : ℕ) → IsResolved p → FitsAll p.cells a → fit_term p.cells q e ≡ true → word_in p.cells a e ≡ Some x → x < 2 ^ width_of (kind_of e) }
-    ensures code { (p : Program) (q : Process) (c : Code) (a b : Acting) → IsResolved p → fit_code p.cells q c ≡ true → FitsAll p.cells a → effect p.cells c a ≡ Fell b → FitsAll p.cells b }
-    ensures segments { (p : Program) (i n : ℕ) (q : Process) (s : Segment) (a : Acting) → IsResolved p → slice_get p.processes i ≡ Some q → slice_get (all_segments (live_body p.cells q.body)) n ≡ Some s → FitsAll p.cells a
+    ensures terms { (p : Program) (q : Process) (a : Acting) (e : Term) (x : ℕ) → IsResolved p → FitWords p.cells a → fit_term p.cells q e ≡ true → word_in p.cells a e ≡ Some x → x < 2 ^ width_of (kind_of e) }
+    ensures code { (p : Program) (q : Process) (c : Code) (a b : Acting) → IsResolved p → fit_code p.cells q c ≡ true → FitWords p.cells a → effect p.cells c a ≡ Fell b → FitWords p.cells b }
+    ensures segments { (p : Program) (i n : ℕ) (q : Process) (s : Segment) (a : Acting) → IsResolved p → slice_get p.processes i ≡ Some q → slice_get (all_segments (live_body p.cells q.body)) n ≡ Some s → FitWords p.cells a
         → FitsRan p.cells (run_segment p.cells s a) }
-    ensures methods { (p : Program) (i : ℕ) (q : Process) (a b : Acting) → IsResolved p → slice_get p.processes i ≡ Some q → FitsAll p.cells a → effect p.cells (live p.cells q.body) a ≡ Fell b → FitsAll p.cells b }
+    ensures methods { (p : Program) (i : ℕ) (q : Process) (a b : Acting) → IsResolved p → slice_get p.processes i ≡ Some q → FitWords p.cells a → effect p.cells (live p.cells q.body) a ≡ Fell b → FitWords p.cells b }
 {}
 
 /// What a location names while registers hold what is fixed is among the cells that its statement tells.
@@ -105,4 +107,9 @@ pub fn a_resolved_core_starts()
 /// A resolved core is never stuck, where the rules refuse nothing.
 pub fn a_resolved_core_is_never_stuck()
     ensures { (home : Home) (p : Program) → IsHome home → IsResolved p → loop_may_not_wait p ≡ None → wait_in_method p ≡ None → NeverStuck home p }
+{}
+
+/// Of a resolved core cells are apart, live parts are sound, clocks and resets are roots, locals are named by their own processes, and what is fixed is written by none.
+pub fn a_resolved_core_is_sound()
+    ensures { (home : Home) (p : Program) → IsHome home → IsResolved p → IsSoundCore home p }
 {}

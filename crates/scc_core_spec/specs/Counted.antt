@@ -1,31 +1,33 @@
 -- Counted loops: which loops are written out, and their turns. The form of loop is this project's own (ISO C++ [stmt.for]).
-use Rattle.std.specs.Prelude.{ℕ, zero, suc, Bool, true, false, not, ◌&&◌, ◌||◌, nat_eq, List, [], ◌∷◌, Option, Some, None, option_map, option_and_then, find, unwrap_or, is_some, slice_get}
+use Rattle.std.specs.Prelude.{ℕ, zero, suc, ◌+◌, Bool, true, false, not, ◌&&◌, nat_eq, nat_le, List, [], ◌∷◌, Option, Some, None, option_map, option_and_then, find, unwrap_or, is_some, slice_get, if◌then◌else◌}
 use Rattle.scc_base.specs.declared.refusal.Place.{Place}
 use Rattle.scc_bits_kinds.specs.declared.kind.Kind.{Kind}
-use Rattle.scc_bits_kinds.specs.Kinds.{number_of, stored}
-use Rattle.scc_core_spec.specs.Term.{Term, Literal, Load, Read, Convert, Unary, Binary, Choose, Bit, Range, Join, Left, Cell, Prefix, Null, Follow, Member, Index, Pick, Whole, OneBit, Bits, kind_of}
+use Rattle.scc_semantics.specs.Location.{Part, same_path}
+use Rattle.scc_core_spec.specs.Term.{Term, Literal, Load, Read, Convert, Unary, Binary, Choose, Bit, Range, Join, Left, Cell, Prefix, Null, Follow, Member, Index, Pick, Whole, OneBit, Bits, CellName, Own}
 use Rattle.scc_core_spec.specs.Code.{Code, Count, Pointed, Declared, Assigned, End, Put, Aim, If, Block, Loop, Exit, Wait, holds_wait}
-use Rattle.scc_core_spec.specs.Static.{Cells, static, is_true}
+use Rattle.scc_core_spec.specs.Program as program
+use Rattle.scc_core_spec.specs.Program.{is_pointer}
+use Rattle.scc_core_spec.specs.Static.{Cells, static, goes}
 
 -- a counter that stands as a literal
 pub record Counter : Type 0 where
   pub cell : ℕ
-  pub kind : Kind
   pub word : ℕ
 
 abbrev pub counter_at : List Counter → Left → Option Counter
 counter_at ns (Cell p n) = find (λ c. nat_eq n c.cell) ns
 counter_at ns _ = None
 
-abbrev pub literal_or : Place → Option Counter → Term → Term
-literal_or p (Some c) e = Literal p c.kind c.word
-literal_or p None e = e
+-- the literal keeps the kind of what it stands for
+abbrev pub loaded_as : Option Counter → Place → Kind → Left → Term
+loaded_as (Some c) p k l = Literal p k c.word
+loaded_as None p k l = Load p k l
 
 abbrev mutual
   -- with the counters as literals
   pub counting : List Counter → Term → Term
   counting ns (Literal p k w) = Literal p k w
-  counting ns (Load p k l) = literal_or p (counter_at ns l) (Load p k (counting_left ns l))
+  counting ns (Load p k l) = loaded_as (counter_at ns l) p k (counting_left ns l)
   counting ns (Read p k l) = Read p k (counting_left ns l)
   counting ns (Convert p k e) = Convert p k (counting ns e)
   counting ns (Unary p k o a) = Unary p k o (counting ns a)
@@ -52,20 +54,60 @@ abbrev pub is_cell : ℕ → Left → Bool
 is_cell n (Cell p m) = nat_eq n m
 is_cell n _ = false
 
-abbrev pub is_declared : ℕ → Pointed → Bool
-is_declared n (Declared m) = nat_eq n m
-is_declared n (Assigned l) = is_cell n l
+abbrev pub is_whole : Pick → Bool
+is_whole Whole = true
+is_whole _ = false
 
--- statements write a counter, or lead a pointer to it
-abbrev pub touches : ℕ → Code → Bool
-touches n End = false
-touches n (Put p l k e r) = is_cell n l || touches n r
-touches n (Aim p to l r) = is_cell n l || (is_declared n to || touches n r)
-touches n (If p t a b r) = touches n a || (touches n b || touches n r)
-touches n (Block p b r) = touches n b || touches n r
-touches n (Loop p c b r) = touches n b || touches n r
-touches n (Exit p d r) = touches n r
-touches n (Wait p l d r) = touches n r
+-- what stands around a statement: the cells, the name of its process and the whole body
+pub record Setting : Type 0 where
+  pub cells : Cells
+  pub path : List Part
+  pub body : Code
+
+-- the local that a name has as a whole, by its number
+abbrev pub own_whole : Option Own → List ℕ → Option ℕ
+own_whole (Some o) [] = Some o.number
+own_whole _ _ = None
+
+abbrev pub own_of : CellName → Option ℕ
+own_of n = own_whole n.own n.indices
+
+abbrev pub own_at : Cells → Left → Option ℕ
+own_at cs (Cell p n) = option_and_then (λ c. own_of c.name) (slice_get cs n)
+own_at cs (Prefix p n) = own_of n
+own_at cs _ = None
+
+abbrev pub is_it : ℕ → Option ℕ → Bool
+is_it o None = false
+is_it o (Some m) = nat_eq o m
+
+abbrev pub times : ℕ → Bool → ℕ
+times n true = n
+times n false = 0
+
+-- how often statements assign a local as a whole; one that leads a pointer to it counts as more than any loop does
+abbrev pub uses : Cells → ℕ → Code → ℕ
+uses cs o End = 0
+uses cs o (Put p l k e r) = times 1 (is_it o (own_at cs l)) + uses cs o r
+uses cs o (Aim p to t r) = times 3 (is_it o (own_at cs t)) + uses cs o r
+uses cs o (If p t a b r) = uses cs o a + (uses cs o b + uses cs o r)
+uses cs o (Block p b r) = uses cs o b + uses cs o r
+uses cs o (Loop p n b r) = uses cs o b + uses cs o r
+uses cs o (Exit p n r) = uses cs o r
+uses cs o (Wait p l n r) = uses cs o r
+
+-- a counter is a local of the process that is no array, by its number
+abbrev pub number_of : List Part → Option program.Cell → Option ℕ
+number_of path None = None
+number_of path (Some c) = if same_path c.name.path path && not (is_pointer c.sort) then own_of c.name else None
+
+abbrev pub counter_number : Setting → ℕ → Option ℕ
+counter_number s n = number_of s.path (slice_get s.cells n)
+
+-- nothing but what begins and steps the loop assigns it, and no pointer leads to it
+abbrev pub is_seldom : Setting → Option ℕ → Bool
+is_seldom s None = false
+is_seldom s (Some o) = nat_le (uses s.cells o s.body) 2
 
 -- the parts of the body of a loop with a count: the test that leaves it, a turn, and the step, which gives the counter its next value
 pub record Turning : Type 0 where
@@ -88,55 +130,106 @@ abbrev pub turning_of : Code → Option Turning
 turning_of (If p t a b r) = turn_of t r
 turning_of _ = None
 
+abbrev pub is_end : Code → Bool
+is_end End = true
+is_end _ = false
+
+abbrev pub leaves_block : Code → Bool
+leaves_block (Exit p n r) = nat_eq n 0 && is_end r
+leaves_block _ = false
+
+abbrev pub is_step : ℕ → Code → Bool
+is_step n (Put p l k e r) = is_cell n l && (is_whole k && is_end r)
+is_step n _ = false
+
+abbrev pub is_turn : ℕ → Code → Bool
+is_turn n (Block p b r) = is_step n r
+is_turn n _ = false
+
+-- a test that leaves the block where it fails, a block, and an assignment of the counter
+abbrev pub is_turning : ℕ → Code → Bool
+is_turning n (If p t a b r) = is_end a && (leaves_block b && is_turn n r)
+is_turning n _ = false
+
+-- an assignment
+pub record Start : Type 0 where
+  pub left : Left
+  pub pick : Pick
+  pub value : Term
+
+-- where a statement stands: it is its block's first, or stands behind that one, which is an assignment, or elsewhere
+pub data Stand : Type 0 where
+  First : Stand
+  Behind : (start : Start) → Stand
+  Elsewhere : Stand
+
+abbrev pub behind : Stand → Start → Stand
+behind First z = Behind z
+behind _ z = Elsewhere
+
 abbrev pub is_static : Cells → List Counter → Term → Bool
 is_static cs ns e = is_some (static cs (counting ns e))
 
--- A counted loop holds no wait; its start, bound and step are static where the counters around stand as literals; its turn neither writes
--- the counter nor leads a pointer to it.
-abbrev pub counts : Cells → List Counter → Count → Code → Bool
-counts cs ns c b = not (holds_wait b) && (is_static cs ns c.start && (is_static cs ns c.bound && (is_static cs ns c.step
-    && unwrap_or (option_map (λ t. not (touches c.cell t.turn)) (turning_of b)) false)))
-
-abbrev pub counted_by : Cells → List Counter → Option Count → Code → Option Count
-counted_by cs ns None b = None
-counted_by cs ns (Some c) b = found_if (counts cs ns c b) c
-  where
-    found_if : Bool → Count → Option Count
-    found_if true c = Some c
-    found_if false c = None
-
--- the word of an expression in the counter's kind
-abbrev pub converted_word : Cells → List Counter → Kind → Term → Option ℕ
-converted_word cs ns k e = option_map (λ w. stored k (number_of (kind_of e) w)) (static cs (counting ns e))
+-- A counted loop holds no wait; its start, bound and step are static where the counters around stand as literals; it and, before it, the assignment
+-- that begins its counter are a block; beside that one its step alone assigns the counter, and no pointer leads to it.
+abbrev pub counts : Setting → List Counter → Start → Count → Code → Code → Bool
+counts s ns z c b r = not (holds_wait b) && (is_static s.cells ns c.start && (is_static s.cells ns c.bound && (is_static s.cells ns c.step
+    && (is_cell c.cell z.left && (is_whole z.pick && (is_end r && (is_turning c.cell b && is_seldom s (counter_number s c.cell))))))))
 
 -- a turn: the counter in it and behind it
 pub record Turn : Type 0 where
   pub now : ℕ
   pub next : ℕ
 
-abbrev pub turn_if : Bool → (Unit {0} → List Turn) → List Turn
-turn_if true more = more tt
-turn_if false more = []
+-- turns, and whether they come to an end, with each test and step static
+pub record Turns : Type 0 where
+  pub list : List Turn
+  pub ends : Bool
+
+abbrev pub no_turns : Bool → Turns
+no_turns ends = record { list = []; ends = ends }
+
+abbrev pub one_more : ℕ → Option ℕ → Turns → Turns
+one_more now next ts = record { list = record { now = now; next = unwrap_or next 0 } ∷ ts.list; ends = ts.ends }
+
+abbrev pub if_goes : Option Bool → (Unit {0} → Turns) → Turns
+if_goes None more = no_turns false
+if_goes (Some false) more = no_turns true
+if_goes (Some true) more = more tt
+
+abbrev pub counter : ℕ → ℕ → Counter
+counter n x = record { cell = n; word = x }
 
 -- at most so many turns: one begins where the test lets it in
-abbrev pub turns_from : Cells → List Counter → ℕ → Kind → Turning → ℕ → Option ℕ → List Turn
-turns_from cs ns n k t zero x = []
-turns_from cs ns n k t (suc left) None = []
-turns_from cs ns n k t (suc left) (Some x) =
-    let here = record { cell = n; kind = k; word = x } ∷ ns in
-    let next = converted_word cs here k t.step in
-    turn_if (unwrap_or (option_map is_true (static cs (counting here t.test))) false) (λ _. record { now = x; next = unwrap_or next 0 } ∷ turns_from cs ns n k t left next)
+abbrev pub turns_from : Cells → List Counter → ℕ → Turning → ℕ → Option ℕ → Turns
+turns_from cs ns n t zero x = no_turns false
+turns_from cs ns n t (suc left) None = no_turns false
+turns_from cs ns n t (suc left) (Some x) = if_goes (goes cs (counting (counter n x ∷ ns) t.test))
+    (λ _. one_more x (static cs (counting (counter n x ∷ ns) t.step)) (turns_from cs ns n t left (static cs (counting (counter n x ∷ ns) t.step))))
 
 -- one turn more than a process may have
 abbrev pub enough_turns : ℕ
 enough_turns = 4097
 
-abbrev pub kind_at : Cells → ℕ → Option Kind
-kind_at cs n = option_map (λ c. c.kind) (slice_get cs n)
+abbrev pub turns_by : Cells → List Counter → ℕ → Term → Option Turning → Turns
+turns_by cs ns n start None = no_turns false
+turns_by cs ns n start (Some t) = turns_from cs ns n t enough_turns (static cs (counting ns start))
 
-abbrev pub turns_of : Cells → List Counter → Count → Code → List Turn
-turns_of cs ns c b = unwrap_or (option_and_then (λ k. option_map (λ t. turns_from cs ns c.cell k t enough_turns (converted_word cs ns k c.start)) (turning_of b)) (kind_at cs c.cell)) []
+-- a loop that is counted: its counter's cell and its turns
+pub record Counting : Type 0 where
+  pub cell : ℕ
+  pub turns : Turns
 
--- the counters inside a turn
-abbrev pub inside_turn : Cells → List Counter → Count → ℕ → List Counter
-inside_turn cs ns c x = unwrap_or (option_map (λ k. record { cell = c.cell; kind = k; word = x } ∷ ns) (kind_at cs c.cell)) ns
+abbrev pub counted_by : Setting → List Counter → Stand → Option Count → Code → Code → Option Counting
+counted_by s ns (Behind z) (Some c) b r = if counts s ns z c b r then Some (record { cell = c.cell; turns = turns_by s.cells ns c.cell z.value (turning_of b) }) else None
+counted_by s ns _ _ b r = None
+
+-- it is written out where its turns come to an end
+abbrev pub ended : Option Counting → Option Counting
+ended None = None
+ended (Some g) = if g.turns.ends then Some g else None
+
+-- counters of the counted loops around a loop, as 0
+abbrev pub around : List Counter → Option Counting → List Counter
+around ns None = ns
+around ns (Some g) = counter g.cell 0 ∷ ns

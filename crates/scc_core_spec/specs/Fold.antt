@@ -1,6 +1,7 @@
 -- Locations as far as their names are known: members and static indices in range go into the name, a whole name is its cell, and a port below the
 -- top its root's. This project's own.
 use Rattle.std.specs.Prelude.{ℕ, Bool, nat_eq, nat_lt, List, [], ◌∷◌, ◌++◌, Option, Some, None, option_map, slice_get, unwrap_or, if◌then◌else◌}
+use Rattle.scc_base.specs.declared.refusal.Place.{Place}
 use Rattle.scc_semantics.specs.Location.{Part, Element}
 use Rattle.scc_semantics.specs.Location as location
 use Rattle.scc_semantics.specs.Scene.{index_of}
@@ -41,8 +42,13 @@ module _ (cs : Cells) (vs : List Vector) where
   as_name (Cell p n) = unwrap_or (option_map (λ c. Prefix p c.name) (slice_get cs n)) (Cell p n)
   as_name l = l
 
+  -- behind a local stands no member
+  abbrev pub member_behind : Place → CellName → Option Own → ℕ → Left
+  member_behind p n None name = Prefix p (extended n (location.Member name))
+  member_behind p n (Some o) name = Member (Prefix p n) name
+
   abbrev pub member_of : Left → ℕ → Left
-  member_of (Prefix p n) name = Prefix p (extended n (location.Member name))
+  member_of (Prefix p n) name = member_behind p n n.own name
   member_of l name = Member l name
 
   abbrev pub in_range : ℕ → Option ℕ → Option ℕ

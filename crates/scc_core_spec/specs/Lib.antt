@@ -23,6 +23,10 @@ pub mod Unpointed
 pub mod Renumbered
 pub mod Source
 pub mod Constants
+pub mod Exits
+pub mod OpenNames
+pub mod Fit
+pub mod IsResolved
 pub mod Worked
 pub mod WorkedRun
 pub mod WorkedRules

@@ -1,12 +1,13 @@
 -- Resolved bodies: objects in place of the pointers and references that lead to them (ISO C++ [dcl.ref], [dcl.ptr]), and what is refused. This
 -- project's own: where each leads is known before anything runs.
-use Rattle.std.specs.Prelude.{ℕ, Bool, true, false, ◌||◌, List, [], Option, Some, None, option_map, option_and_then, unwrap_or, if◌then◌else◌}
+use Rattle.std.specs.Prelude.{ℕ, Bool, true, false, ◌||◌, List, [], Option, Some, None, option_map, option_and_then, unwrap_or, is_some, slice_get, if◌then◌else◌}
 use Rattle.scc_base.specs.declared.refusal.Place.{Place}
 use Rattle.scc_base.specs.declared.refusal.Refusal.{Refusal}
 use Rattle.scc_base.specs.declared.code.Code.TheVariants as reason
 use Rattle.scc_core_spec.specs.Term.{Term, Literal, Load, Read, Convert, Unary, Binary, Choose, Bit, Range, Join, Left, Cell, Prefix, Null, Follow, Member, Index, place_at}
-use Rattle.scc_core_spec.specs.Program.{Vector, Pointer, Sort}
-use Rattle.scc_core_spec.specs.Named.{Step, cell_at, is_open, chooses_object}
+use Rattle.scc_core_spec.specs.Program.{Vector, Pointer, Sort, is_pointer}
+use Rattle.scc_core_spec.specs.Program as program
+use Rattle.scc_core_spec.specs.Named.{cell_at, is_open, chooses_object}
 use Rattle.scc_core_spec.specs.Static.{Cells, pattern}
 use Rattle.scc_core_spec.specs.Uses.{sort_at}
 use Rattle.scc_core_spec.specs.Fold.{as_name, member_of, element_of, whole}
@@ -45,22 +46,40 @@ abbrev pub left_by : Place → Option Sort → Option Left
 left_by p (Some (Pointer (Some path))) = Some (Prefix p (record { path = path; own = None; indices = [] }))
 left_by p _ = None
 
--- where the pointer of a cell leads, None for null
-abbrev pub leads_to : Leads → Place → ℕ → Option Left
-leads_to s p n = unwrap_or (option_map (λ t. option_map (placed p) t) (s.local n)) (left_by p (sort_at s.cells n))
+abbrev pub is_local_name : Option program.Cell → Bool
+is_local_name None = false
+is_local_name (Some c) = is_some c.name.own
 
-abbrev pub pointer_of : Leads → Left → List Step → Option ℕ
-pointer_of s (Cell p n) q = Some n
-pointer_of s _ q = cell_at true 0 q s.cells
+abbrev pub led_by : Leads → Place → ℕ → Option (Option Left) → Tried (Option Left)
+led_by s p n (Some t) = Made (option_map (placed p) t)
+led_by s p n None = if is_local_name (slice_get s.cells n) then Stopped (refused reason.EmptyPointer p) else Made (left_by p (sort_at s.cells n))
+
+-- Where the pointer of a cell leads, None for null. A local one leads nowhere before its declaration, and none is looked at there.
+abbrev pub leads_to : Leads → Place → ℕ → Tried (Option Left)
+leads_to s p n = led_by s p n (s.local n)
+
+abbrev pub pointer_there : Leads → Place → Option ℕ → Tried (Option Left)
+pointer_there s p None = Made None
+pointer_there s p (Some n) = leads_to s p n
 
 -- where the pointer leads that stands at a location without pointers; one that an index which isn't static chooses is refused (E512)
 abbrev pub pointed : Leads → Left → Tried (Option Left)
 pointed s l = if unwrap_or (option_map is_open (pattern s.cells l)) false then Stopped (refused reason.StaticIndex (place_at l))
-    else Made (option_and_then (leads_to s (place_at l)) (option_and_then (pointer_of s l) (pattern s.cells l)))
+    else pointer_there s (place_at l) (option_and_then (λ q. cell_at true 0 q s.cells) (pattern s.cells l))
+
+-- the cell of a pointer stands by its name, since that cell is no more behind this
+abbrev pub named_pointer : Place → ℕ → Option program.Cell → Left
+named_pointer p n None = Cell p n
+named_pointer p n (Some c) = if is_pointer c.sort then Prefix p c.name else Cell p n
+
+abbrev pub without_pointer : Cells → Left → Left
+without_pointer cs (Cell p n) = named_pointer p n (slice_get cs n)
+without_pointer cs l = l
 
 -- an object that an index which isn't static chooses is refused; a whole name is its cell
 abbrev pub looked : Leads → Left → Tried Left
-looked s l = if unwrap_or (option_map chooses_object (pattern s.cells l)) false then Stopped (refused reason.StaticIndex (place_at l)) else Made (whole s.cells s.vectors false l)
+looked s l = if unwrap_or (option_map chooses_object (pattern s.cells l)) false then Stopped (refused reason.StaticIndex (place_at l))
+    else Made (without_pointer s.cells (whole s.cells s.vectors false l))
 
 -- null that is followed is refused (E405); in a target it is null
 abbrev pub or_null : Bool → Place → Option Left → (Left → Tried (Option Left)) → Tried (Option Left)

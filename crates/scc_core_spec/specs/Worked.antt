@@ -85,7 +85,8 @@ abbrev pub int : Kind
 int = kind.Native 32 true
 
 abbrev pub turn_cells : List Cell
-turn_cells = cell 0 kind.Bool Input ∷ cell 1 (kind.Uint 8) Input ∷ cell 2 (kind.Uint 8) Output ∷ cell 3 (kind.Uint 8) (Variable 0 false) ∷ cell 4 int (Local 0) ∷ []
+turn_cells = cell 0 kind.Bool Input ∷ cell 1 (kind.Uint 8) Input ∷ cell 2 (kind.Uint 8) Output ∷ cell 3 (kind.Uint 8) (Variable 0 false)
+    ∷ record { name = record { path = location.Member 9 ∷ []; own = Some (record { number = 0; identifier = 4 }); indices = [] }; kind = int; sort = Local 0; place = here } ∷ []
 
 abbrev pub counter : Term
 counter = Load here int (term.Cell here 4)

@@ -16,14 +16,17 @@ ghost use Rattle.scc_core_spec.specs.Kept.{kept, is_kept, TellsKept};
 ghost use Rattle.scc_core_spec.specs.Feeding.{IsOrder};
 ghost use Rattle.scc_core_spec.specs.Rules.{first_rule};
 ghost use Rattle.scc_core_spec.specs.Split.{first_after_passes, first_split};
-ghost use Rattle.scc_core_spec.specs.Unrolled.{unrolled, run_turns, first_unrolled};
+ghost use Rattle.scc_core_spec.specs.Unrolled.{unrolled, run_turns, first_unrolled, setting_of};
+ghost use Rattle.scc_core_spec.specs.Counted.{Elsewhere};
 ghost use Rattle.scc_base.specs.declared.code.Code.TheVariants as reason;
-ghost use Rattle.scc_core_spec.specs.Resolved.{Made, Stopped, resolved};
+ghost use Rattle.scc_core_spec.specs.Resolved.{Made, Stopped, made_map, resolved};
 ghost use Rattle.scc_core_spec.specs.Uses.{loads};
 ghost use Rattle.scc_core_spec.specs.Live.{live};
 ghost use Rattle.scc_core_spec.specs.Unpointed.{unpointed};
 ghost use Rattle.scc_core_spec.specs.Renumbered.{resolved_program};
-ghost use Rattle.scc_core_spec.specs.WorkedRun.{counts, counting};
+ghost use Rattle.scc_core_spec.specs.WorkedRun.{counts, counting, counting_process};
+ghost use Rattle.scc_core_spec.specs.Fit.{fit_code};
+ghost use Rattle.scc_core_spec.specs.IsResolved.{IsResolved};
 ghost use Rattle.scc_core_spec.specs.WorkedPlaces.{choosing_of, element_behind, elements_at, input, vector_cells};
 ghost use Rattle.scc_core_spec.specs.Term.{Index, Prefix};
 ghost use Rattle.scc_core_spec.specs.Sizes.{index_sum};
@@ -92,8 +95,8 @@ pub fn no_methods_are_ordered()
 
 /// A counted loop of three turns, written out; one of eight has eight turns.
 pub fn counted_loops_are_written_out()
-    ensures three { unrolled turn_cells [] (turn_body 2) ≡ Block here (Block here (put 4 (number 0) (turn_written 0 (turn_written 1 (turn_written 2 End)))) End) End }
-    ensures eight { length (run_turns turn_cells [] 0 (turn_body 7)) ≡ 8 }
+    ensures three { unrolled (setting_of turn_cells (process false [] (turn_body 2))) [] Elsewhere (turn_body 2) ≡ Block here (Block here (put 4 (number 0) (turn_written 0 (turn_written 1 (turn_written 2 End)))) End) End }
+    ensures eight { length (run_turns (setting_of turn_cells (process false [] (turn_body 7))) [] Elsewhere 0 (turn_body 7)) ≡ 8 }
     ensures none { first_unrolled turn_cells (process false [] (turn_body 7)) ≡ None }
 {}
 
@@ -152,4 +155,11 @@ pub fn elements_under_an_index_are_counted()
     ensures measure { measure (choosing_of 4) ≡ 7 }
     ensures most { index_too_wide (choosing_of 1048576) ≡ None }
     ensures past { index_too_wide (choosing_of 1048577) ≡ Some (refused reason.IndexTooWide (at 7)) }
+{}
+
+/// The counting thread is resolved. What lies behind a pointer isn't, and its object is.
+pub fn the_counting_thread_is_resolved()
+    ensures counting { IsResolved counting }
+    ensures behind { fit_code pointer_cells counting_process (through 0) ≡ false }
+    ensures object { made_map (fit_code pointer_cells counting_process) (unpointed (record { cells = pointer_cells; vectors = []; local = λ n. None }) (through 0)) ≡ Made true }
 {}

@@ -9,5 +9,6 @@ pub use laws::{
     counted_loops_are_written_out, elements_under_an_index_are_counted, no_methods_are_ordered,
     nothing_has_no_pointers, pointers_give_way_to_objects, the_counting_thread_counts,
     the_counting_thread_is_accepted, the_counting_thread_is_cut, the_counting_thread_is_measured,
-    vectors_of_an_array_have_one_size, what_lives_across_a_wait_is_kept,
+    the_counting_thread_is_resolved, vectors_of_an_array_have_one_size,
+    what_lives_across_a_wait_is_kept,
 };

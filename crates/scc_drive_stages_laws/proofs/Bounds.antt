@@ -1,10 +1,10 @@
 -- With more statements allowed a design that goes well shows the same.
-use Rattle.std.proofs.Common.{◌≡◌, ℕ, zero, suc, ◌+◌, ◌≤◌, Bool, true, false, List, [], ◌∷◌, length, filter, Option, Some, None, refl, sym, ap, ◌∙◌, arith, if◌then◌else◌}
+use Rattle.std.proofs.Common.{◌≡◌, ℕ, zero, suc, ◌+◌, ◌≤◌, Bool, true, false, List, [], ◌∷◌, length, filter, Option, Some, None, sym, ap, ◌∙◌, arith, if◌then◌else◌}
 use Rattle.scc_semantics.specs.Location.{Location}
 use Rattle.scc_semantics.specs.Places.{Sort}
 use Rattle.scc_semantics.specs.Design.{Process, Design}
-use Rattle.scc_semantics.specs.Machine.{Frames, Outcome, Suspended, Ended, Stuck, Unfinished, run}
-use Rattle.scc_semantics.specs.Process.{State, Phase, Went, Well, Failed, and_then, left_by, resume, resume_all, resumed_frames, phase, update, rounds, settle, is_combinational}
+use Rattle.scc_semantics.specs.Machine.{Frames, Outcome, Suspended, Ended, Stuck, Unfinished}
+use Rattle.scc_semantics.specs.Process.{State, Phase, Went, Well, and_then, left_by, resume, resume_all, resumed_frames, phase, update, rounds, settle, is_combinational}
 use Rattle.scc_semantics.specs.Run.{Step, Shown, Shows, observed, with_inputs, restarts, resumes_at, begun, edged, finished, step, shown}
 use Rattle.scc_semantics_laws.specs.Words.{IsOver}
 use Rattle.scc_semantics_laws.proofs.Bound.{run-later}

@@ -1,47 +1,65 @@
 -- The module of a core shows what the core's design shows.
-use Rattle.std.proofs.Common.{◌≡◌, ℕ, ◌<◌, ◌^◌, Bool, true, false, List, [], ◌∷◌, Option, Some, None, refl, sym, ap, ◌∙◌, subst, slice_get}
+use Rattle.std.proofs.Common.{◌≡◌, ℕ, zero, suc, ◌+◌, ◌≤◌, ◌<◌, ◌^◌, arith, Bool, true, false, List, [], ◌∷◌, Some, None, sym, ap, ◌∙◌, subst, slice_get}
 use Rattle.std.specs.Prelude.{map, option_map, unwrap_or}
 use Rattle.scc_bits_kinds.specs.Kinds.{width_of}
 use Rattle.scc_semantics.specs.Location.{Location}
-use Rattle.scc_semantics.specs.Process.{State, Well}
-use Rattle.scc_semantics.specs.Run.{Step, Shown, Shows, FitSteps}
+use Rattle.scc_semantics.specs.Process.{State}
+use Rattle.scc_semantics.specs.Run.{Step, Shown, Shows, FitsStep, FitSteps}
 use Rattle.scc_semantics.specs.Start.{IsStart, FindsResets}
-use Rattle.scc_semantics.specs.Statement.{Shot, Seen, AllSame, AreAlike}
+use Rattle.scc_semantics.specs.Statement.{Seen, AllSame, AreAlike}
 use Rattle.scc_svtree.specs.declared.module.SvModule.{SvModule}
 use Rattle.scc_svtree.specs.Steps.{StepInput, Steps}
 use Rattle.scc_svtree.specs.Steps as steps
 use Rattle.scc_blocks_spec.specs.Emitted.{register, shot, seen_of, step_of, AreSeen, Runs, ModuleShows}
-use Rattle.scc_blocks_spec.specs.Matches.{register_of, first}
-use Rattle.scc_core_spec.specs.Program.{Program, Process, Cell, is_root}
+use Rattle.scc_core_spec.specs.Program.{Program, Process, Cell, is_root, is_held}
 use Rattle.scc_core_spec.specs.Rules.{first_rule}
 use Rattle.scc_core_spec.specs.Source.{Home, cell_location}
-use Rattle.scc_core_spec.specs.Uses.{width_at, has_sort}
-use Rattle.scc_blocks_spec.specs.Effect.{Place}
-use Rattle.scc_blocks_spec.specs.Names.{is_register}
-use Rattle.scc_blocks_spec.specs.Turns.{constant_at}
-use Rattle.scc_blocks_spec.specs.Tied.{Registers, Tied, MirrorsRegisters}
+use Rattle.scc_blocks_spec.specs.Tied.{Registers, MirrorsRegisters}
 use Rattle.scc_blocks_run_laws.specs.Blocks.{IsProper}
-use Rattle.scc_blocks_run_laws.specs.Follows.{IsModuleOf, AllSameTurns, registers_shown}
+use Rattle.scc_blocks_run_laws.specs.Follows.{IsModuleOf, SameTurn, AllSameTurns, registers_shown}
 use Rattle.scc_blocks_laws.proofs.Follow.{steps-follow, steps-exist}
 use Rattle.scc_blocks_laws.proofs.Shots.{steps-show}
-use Rattle.scc_core_effect_laws.specs.Follows.{Does, IsResolved, RunsSegments, design_of}
+use Rattle.scc_core_spec.specs.IsResolved.{IsResolved}
+use Rattle.scc_blocks_spec.specs.Passed.{IsHome}
+use Rattle.scc_states_path_laws.specs.Tracks.{steps_of}
+use Rattle.scc_core_effect_laws.specs.Follows.{IsSoundCore, design_of}
+use Rattle.scc_core_resolved_laws.proofs.Owned.{sound-core}
+use Rattle.scc_core_resolved_laws.proofs.Starting.{start}
 use Rattle.scc_core_laws.specs.Given.{regs_of, regs_step_of}
 use Rattle.scc_core_laws.specs.Stepped.{RunFollows, SeesAll, regs_shown, outputs_from}
-use Rattle.scc_core_laws.proofs.Counting.{tracks}
-use Rattle.scc_core_laws.proofs.Starting.{start-tied, steps-of}
-use Rattle.scc_core_laws.proofs.Stepping.{run-follows}
-use Rattle.scc_core_effect_laws.proofs.Told.{obeys}
+use Rattle.scc_core_laws.proofs.Resolved.{run-from}
+use Rattle.scc_core_laws.proofs.Starting.{start-tied}
 use Rattle.scc_core_effect_laws.proofs.Names.{true-false}
 use Rattle.scc_core_effect_laws.proofs.Unsure.{sort-of}
 use Rattle.scc_drive_stages_laws.specs.Joined.{IsJoined, turn_of}
+use Rattle.scc_drive_stages_laws.proofs.Alike.{alike}
+use Rattle.scc_drive_stages_laws.proofs.Wired.{steps-alike}
 use Rattle.scc_drive_stages_laws.proofs.Bounds.{one-run}
 use Rattle.scc_drive_stages_laws.proofs.Shots.{all-same}
 use Rattle.scc_drive_stages_laws.proofs.Resets.{finds}
 
-module _ (home : Home) (p : Program) (text : Location → List ℕ) (at : Location → ℕ) (many : Bool) (r : Registers) (m : SvModule) (mo : IsModuleOf many p r m) (resolved : IsResolved home p)
-    (unbroken : first_rule p ≡ None) (bound : ℕ) (does : Does home p (λ i. bound)) (segments : RunsSegments home p (λ i. bound)) (joined : IsJoined home p text at r m mo.built.clock_variable) where
+-- the steps that suffice for each of the bodies
+most_of : List Process → ℕ
+most_of [] = 0
+most_of (q ∷ qs) = steps_of q.body + most_of qs
+
+within-most : (qs : List Process) (i : ℕ) (q : Process) → slice_get qs i ≡ Some q → steps_of q.body ≤ most_of qs
+unfolding most_of
+within-most [] i q g = absurd (cc)
+within-most (o ∷ qs) zero q g = let one : o ≡ q = cc in subst (λ z. steps_of z.body ≤ steps_of o.body + most_of qs) one (omega arith)
+within-most (o ∷ qs) (suc i) q g = let e = within-most qs i q g in omega (arith, e)
+
+module _ (home : Home) (p : Program) (text : Location → List ℕ) (at : Location → ℕ) (many : Bool) (r : Registers) (m : SvModule) (mo : IsModuleOf many p r m) (is : IsHome home) (core : IsResolved p)
+    (unbroken : first_rule p ≡ None) (joined : IsJoined home p text at r m mo.built.clock_variable) where
+  resolved : IsSoundCore home p
+  resolved = sound-core home is p core
+
+  -- one bound for all processes
+  abbrev bound : ℕ
+  bound = most_of p.processes
+
   follows : (s : State) → IsStart (design_of home p) s → (xs : List Step) → FitSteps (design_of home p) xs → RunFollows home p (λ i. bound) s (regs_of home p s) xs (map (regs_step_of home p) xs)
-  follows s start xs fit = run-follows home p resolved (obeys p unbroken) (λ i. bound) does (tracks home p (λ i. bound) segments) xs (map (regs_step_of home p) xs) s (regs_of home p s) (start-tied home p resolved s start) (steps-of home p resolved xs fit)
+  follows s start xs fit = run-from home is p core unbroken (λ i. bound) (λ i q g. within-most p.processes i q g) s start xs fit
 
   -- ---- the module goes through all steps
   step-seen : (i : StepInput) (x z : ℕ → ℕ) (o : List (ℕ → ℕ)) → steps.Step m i x z o → (s : Seen) × (seen_of text m o ≡ Some s)
@@ -64,6 +82,7 @@ module _ (home : Home) (p : Program) (text : Location → List ℕ) (at : Locati
   start-proper : (s : State) → IsStart (design_of home p) s → IsProper p r (regs_of home p s)
   start-proper s start = let t = start-tied home p resolved s start in record {
     fits = λ c v e. let h = joined.placed.held c v e in subst (λ n. (regs_of home p s).word c < 2 ^ n) (sym (ap (λ o. unwrap_or (option_map (λ x. width_of x.kind) o) 0) h.1)) (t.fits c h.0 h.1 h.2);
+    held = λ c h. let x = sort-of is_held p.cells c h in subst (λ n. (regs_of home p s).word c < 2 ^ n) (sym (ap (λ o. unwrap_or (option_map (λ x. width_of x.kind) o) 0) x.1)) (t.fits c x.0 x.1 x.2);
     constants = λ c w h e. let x = sort-of is_root p.cells c h in word s c x.0 x.1 ∙ t.constants c x.0 w x.1 e;
     places = λ i q place e h. absurd (cc);
   }
@@ -76,15 +95,18 @@ module _ (home : Home) (p : Program) (text : Location → List ℕ) (at : Locati
     counters = λ i q place e t h. absurd (cc);
   }
 
+  wired-steps : (x : Step) → FitsStep (design_of home p) x → SameTurn p r m mo.built.clock_variable (turn_of (regs_step_of home p x)) (step_of text (design_of home p) m x)
+  wired-steps x fit = steps-alike home p resolved text r m mo.built.clock_variable joined.wired joined.placed.held x fit
+
   same-turns : (xs : List Step) → FitSteps (design_of home p) xs → AllSameTurns p r m mo.built.clock_variable (map turn_of (map (regs_step_of home p) xs)) (map (step_of text (design_of home p) m) xs)
   same-turns [] f = tt
-  same-turns (x ∷ xs) f = (joined.steps x f.0, same-turns xs f.1)
+  same-turns (x ∷ xs) f = (wired-steps x f.0, same-turns xs f.1)
 
   pub same : (s : State) (x : ℕ → ℕ) → IsStart (design_of home p) s → AreAlike (ℕ → ℕ) (register text m) (Runs text (design_of home p) m) s x → (xs : List Step) → FitSteps (design_of home p) xs
       → (os : List Shown) → Shows (design_of home p) s xs os → FindsResets (design_of home p) [] xs os → (seen : List Seen) → Runs text (design_of home p) m x xs seen → AllSame os seen
   same s x start alike xs fit os shows found seen runs =
       let f = follows s start xs fit in
-      let resets = finds many p r m mo home resolved mo.built.clock_variable text joined.steps in
+      let resets = finds many p r m mo home resolved mo.built.clock_variable text wired-steps in
       let one : f.shows ≡ os = one-run (design_of home p) s xs f.shows os (bound, f.goes) shows in
       let seen-all : SeesAll home p os (regs_shown p (map (regs_step_of home p) xs) (regs_of home p s)) = subst (λ os. SeesAll home p os (regs_shown p (map (regs_step_of home p) xs) (regs_of home p s))) one f.sees in
       let turns = map turn_of (map (regs_step_of home p) xs) in
@@ -97,6 +119,6 @@ module _ (home : Home) (p : Program) (text : Location → List ℕ) (at : Locati
     source_shows = λ s start xs fit. let f = follows s start xs fit in (f.shows, (bound, f.goes));
     text_runs = λ x xs fit. let a = steps-exist many p r m mo (map (step_of text (design_of home p) m) xs) x in let b = all-seen (map (step_of text (design_of home p) m) xs) x a.0 a.1 in (b.0, (a.0, a.1, b.1));
     same = same;
-    starts = joined.starts;
-    alike = joined.alike;
+    starts = start home is p core;
+    alike = λ s start. alike home p text at r m joined.placed s;
   }

@@ -1,5 +1,5 @@
 -- Where a design's first edges find resets active, its registers' do.
-use Rattle.std.proofs.Common.{◌≡◌, ℕ, zero, suc, ◌+◌, ◌<◌, ◌^◌, nat_eq, Bool, true, false, not, ◌&&◌, ◌||◌, List, [], ◌∷◌, ◌++◌, length, filter, Option, Some, None, refl, sym, ap, ◌∙◌, subst, slice_get, if◌then◌else◌}
+use Rattle.std.proofs.Common.{◌≡◌, ℕ, zero, suc, ◌<◌, ◌^◌, nat_eq, Bool, true, false, not, ◌&&◌, ◌||◌, List, [], ◌∷◌, ◌++◌, length, filter, Option, Some, None, refl, sym, ap, ◌∙◌, subst, slice_get, if◌then◌else◌}
 use Rattle.std.specs.Prelude.{map, option_map, unwrap_or}
 use Rattle.std.specs.List.{list_any, list_all}
 use Rattle.scc_semantics.specs.Location.{Location, same}
@@ -10,10 +10,10 @@ use Rattle.scc_semantics.specs.Start.{FindsResets, finds_reset, resets_found}
 use Rattle.scc_svtree.specs.declared.module.SvModule.{SvModule}
 use Rattle.scc_svtree.specs.Steps.{StepInput, input_at}
 use Rattle.scc_blocks_spec.specs.Emitted.{step_of}
-use Rattle.scc_core_spec.specs.Program.{Program, Process, Cell, Edge, Reset, is_root, is_combinational}
+use Rattle.scc_core_spec.specs.Program.{Program, Process, Edge, Reset, is_root, is_held, is_combinational}
 use Rattle.scc_core_spec.specs.Source.{Home, at_top, cell_location, edge_at, processes_from, sort_of}
 use Rattle.scc_core_spec.specs.Source as source
-use Rattle.scc_core_spec.specs.Uses.{width_at, has_sort, among}
+use Rattle.scc_core_spec.specs.Uses.{width_at, has_sort}
 use Rattle.scc_blocks_spec.specs.Effect.{Place}
 use Rattle.scc_blocks_spec.specs.Tied.{Registers}
 use Rattle.scc_blocks_spec.specs.Turns.{Regs, Taking, acted, rounds, settled, with_inputs, begun, edged, has_clock, is_loaded}
@@ -24,7 +24,7 @@ use Rattle.scc_blocks_run_laws.specs.Blocks.{IsProper}
 use Rattle.scc_blocks_run_laws.specs.Follows.{IsModuleOf, Turn, SameTurn, FindsReset, FindResets, after_turn}
 use Rattle.scc_blocks_run_laws.proofs.Acted.{place-taken, place-rests}
 use Rattle.scc_blocks_laws.proofs.Proper.{acted-proper, rounds-proper}
-use Rattle.scc_core_effect_laws.specs.Follows.{IsResolved, design_of}
+use Rattle.scc_core_effect_laws.specs.Follows.{IsSoundCore, design_of}
 use Rattle.scc_core_laws.specs.Given.{regs_step_of, cells_at}
 use Rattle.scc_core_laws.specs.Stepped.{Sees, SeesStep, SeesAll, SameEdge, regs_step, regs_shown}
 use Rattle.scc_core_effect_laws.proofs.Names.{true-false, none-some, or-left}
@@ -83,10 +83,15 @@ module _ (many : Bool) (p : Program) (r : Registers) (m : SvModule) (mo : IsModu
   inputs-proper : (k : ℕ → ℕ) (t : Turn) (s : StepInput) → SameTurn p r m k t s → (g : Regs) → IsProper p r g → IsProper p r (with_inputs t.inputs g)
   inputs-proper k t s same g pr = record {
     fits = λ c v e. by c v e (input_at m.vars v) refl;
+    held = λ c h. held c h (t.inputs c) refl;
     constants = λ c w h e. ap (λ o. unwrap_or o (g.word c)) (same.constants c w e) ∙ pr.constants c w h e;
     places = pr.places;
   }
     where
+      held : (c : ℕ) → has_sort is_held p.cells c ≡ true → (o : Option ℕ) → t.inputs c ≡ o → unwrap_or (t.inputs c) (g.word c) < 2 ^ width_at p.cells c
+      held c h None k = subst (λ o. unwrap_or o (g.word c) < 2 ^ width_at p.cells c) (sym k) (pr.held c h)
+      held c h (Some w) k = subst (λ o. unwrap_or o (g.word c) < 2 ^ width_at p.cells c) (sym k) (same.fits c w h k)
+
       by : (c v : ℕ) → r.variable c ≡ Some v → (b : Bool) → input_at m.vars v ≡ b → unwrap_or (t.inputs c) (g.word c) < 2 ^ width_at p.cells c
       by c v e true i = let d = same.given c v e i in subst (λ o. unwrap_or o (g.word c) < 2 ^ width_at p.cells c) (sym d.0) d.1
       by c v e false i = subst (λ o. unwrap_or o (g.word c) < 2 ^ width_at p.cells c) (sym (same.others c v e i)) (pr.fits c v e)
@@ -120,7 +125,7 @@ module _ (many : Bool) (p : Program) (r : Registers) (m : SvModule) (mo : IsModu
       let c : IsThreadCode (sight_of p i q) b.numbers.width b.wide q b.body = subst (λ z. BodyBy z (sight_of p i q) b.numbers.width b.wide q b.body) t b.is_body in
       (c.reset, c.has_reset)
 
-  module _ (home : Home) (resolved : IsResolved home p) where
+  module _ (home : Home) (resolved : IsSoundCore home p) where
     abbrev clock : Edge → Location
     clock e = (edge_at home p e).clock
 

@@ -1,11 +1,11 @@
 -- What is observed of both sides is the same where both are observed as registers.
-use Rattle.std.proofs.Common.{◌≡◌, ℕ, Bool, true, false, List, [], ◌∷◌, Option, Some, None, refl, sym, ap, ◌∙◌, subst}
+use Rattle.std.proofs.Common.{◌≡◌, ℕ, List, [], ◌∷◌, Option, Some, None, refl, sym, ap, ◌∙◌, subst}
 use Rattle.std.specs.Prelude.{map, option_map}
 use Rattle.scc_semantics.specs.Location.{Location}
 use Rattle.scc_semantics.specs.Run.{Observation, Shown}
 use Rattle.scc_semantics.specs.Statement.{Shot, Seen, SameShot, SameAfter, AllSame}
 use Rattle.scc_svtree.specs.declared.module.SvModule.{SvModule}
-use Rattle.scc_blocks_spec.specs.Emitted.{register, shot, seen_of, AreSeen}
+use Rattle.scc_blocks_spec.specs.Emitted.{shot, seen_of, AreSeen}
 use Rattle.scc_blocks_spec.specs.Matches.{register_of, first}
 use Rattle.scc_core_spec.specs.Program.{Program}
 use Rattle.scc_core_spec.specs.Source.{Home}

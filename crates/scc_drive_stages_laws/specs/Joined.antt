@@ -1,21 +1,18 @@
 -- What ties the cells of a core to the names of its module, so that both sides start, step and are observed alike. This project's own.
-use Rattle.std.specs.Prelude.{◌≡◌, ℕ, true, List, [], map, Option, Some, None, slice_get}
+use Rattle.std.specs.Prelude.{◌≡◌, ℕ, true, false, List, map, take, length, Some, slice_get}
 use Rattle.scc_semantics.specs.Location.{Location}
-use Rattle.scc_semantics.specs.Process.{State}
-use Rattle.scc_semantics.specs.Run.{Step, FitsStep}
-use Rattle.scc_semantics.specs.Start.{IsStart}
-use Rattle.scc_semantics.specs.Statement.{AreAlike}
 use Rattle.scc_svtree.specs.declared.module.SvModule.{SvModule}
-use Rattle.scc_blocks_spec.specs.Matches.{register_of, first}
-use Rattle.scc_blocks_spec.specs.Emitted.{register, step_of, Runs}
-use Rattle.scc_core_spec.specs.Program.{Program, Cell, is_held}
+use Rattle.scc_svtree.specs.declared.module.SvVar.{SvVar}
+use Rattle.scc_svtree.specs.Steps.{input_at}
+use Rattle.scc_blocks_spec.specs.Matches.{register_of, first, var_view, port_view, is_port, name_at}
+use Rattle.scc_core_spec.specs.Program.{Program, Process, Cell, Edge, is_root, is_held, is_input}
 use Rattle.scc_core_spec.specs.Source.{Home, cell_location}
 use Rattle.scc_blocks_spec.specs.Names.{holds_word, is_register}
 use Rattle.scc_blocks_spec.specs.Tied.{Registers}
-use Rattle.scc_blocks_run_laws.specs.Follows.{Turn, SameTurn}
+use Rattle.scc_blocks_run_laws.specs.Follows.{Turn}
 use Rattle.scc_blocks_laws.specs.Shots.{IsNamed}
 use Rattle.scc_core_effect_laws.specs.Follows.{design_of}
-use Rattle.scc_core_laws.specs.Given.{regs_step_of}
+use Rattle.scc_core_laws.specs.Given.{takes_word}
 use Rattle.scc_core_laws.specs.Stepped.{RegsStep, outputs_from}
 
 -- the two records of a step of registers
@@ -31,10 +28,21 @@ pub record IsPlaced (home : Home) (p : Program) (text : Location → List ℕ) (
   pub registers : (c v : ℕ) (x : Cell) → r.variable c ≡ Some v → is_register p c ≡ true → slice_get p.cells c ≡ Some x → first (register_of text m (cell_location home p x)) ≡ Some v
   -- only cells that are held have variables
   pub held : (c v : ℕ) → r.variable c ≡ Some v → (x : Cell) × (slice_get p.cells c ≡ Some x) × (is_held x.sort ≡ true)
+  -- and no two of them one
+  pub apart : (c d v : ℕ) → r.variable c ≡ Some v → r.variable d ≡ Some v → c ≡ d
 
+-- The ports of the module are those of the top in their order, and inputs and clocks are told by their names.
+pub record IsWired (home : Home) (p : Program) (text : Location → List ℕ) (r : Registers) (m : SvModule) (clock_variable : ℕ → ℕ) : Type 0 where
+  pub ports : map var_view (take (length (design_of home p).ports) m.vars) ≡ map (port_view text (design_of home p)) (design_of home p).ports
+  pub inner : (v : ℕ) (x : SvVar) → slice_get m.vars v ≡ Some x → is_port x.dir ≡ true → slice_get (take (length (design_of home p).ports) m.vars) v ≡ Some x
+  -- names of signals and ports of the top differ
+  pub apart : (c d : ℕ) (x y : Cell) → slice_get p.cells c ≡ Some x → slice_get p.cells d ≡ Some y → is_root x.sort ≡ true → is_root y.sort ≡ true → text (cell_location home p x) ≡ text (cell_location home p y) → c ≡ d
+  -- an input's variable is that of an input that is no clock, with its name, and no other input has one
+  pub inputs : (c v : ℕ) (x : Cell) → r.variable c ≡ Some v → slice_get p.cells c ≡ Some x → input_at m.vars v ≡ true → (takes_word home p x ≡ true) × (name_at m v ≡ text (cell_location home p x))
+  pub others : (c v : ℕ) (x : Cell) → r.variable c ≡ Some v → slice_get p.cells c ≡ Some x → input_at m.vars v ≡ false → is_input x.sort ≡ false
+  pub clocks : (i : ℕ) (q : Process) (e : Edge) (x : Cell) → slice_get p.processes i ≡ Some q → q.edge ≡ Some e → slice_get p.cells e.cell ≡ Some x → name_at m (clock_variable e.cell) ≡ text (cell_location home p x)
+
+-- Names tell on both sides what stands for what.
 pub record IsJoined (home : Home) (p : Program) (text : Location → List ℕ) (at : Location → ℕ) (r : Registers) (m : SvModule) (clock_variable : ℕ → ℕ) : Type 0 where
   pub placed : IsPlaced home p text at r m
-  -- inputs and clocks are taken alike, by their places and by their names
-  pub steps : (x : Step) → FitsStep (design_of home p) x → SameTurn p r m clock_variable (turn_of (regs_step_of home p x)) (step_of text (design_of home p) m x)
-  pub starts : (s : State) × IsStart (design_of home p) s
-  pub alike : (s : State) → IsStart (design_of home p) s → (x : ℕ → ℕ) × AreAlike (ℕ → ℕ) (register text m) (Runs text (design_of home p) m) s x
+  pub wired : IsWired home p text r m clock_variable

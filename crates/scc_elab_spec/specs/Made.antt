@@ -1,6 +1,6 @@
 -- Objects: their members in declaration order, each with its initialisers, then what belongs to no member, then the constructor's body (ISO C++
 -- [class.base.init]; IEEE 1666-2011, 4.1).
-use Rattle.std.specs.Prelude.{ℕ, zero, suc, ◌+◌, ◌-◌, min, Bool, true, false, nat_eq, List, [], ◌∷◌, ◌++◌, map, length, Option, Some, None, option_map, option_and_then, slice_get, unwrap_or, if◌then◌else◌}
+use Rattle.std.specs.Prelude.{ℕ, zero, suc, ◌+◌, ◌-◌, min, Bool, true, false, not, ◌&&◌, nat_eq, List, [], ◌∷◌, ◌++◌, map, length, Option, Some, None, option_map, option_and_then, slice_get, unwrap_or, is_some, if◌then◌else◌}
 use Rattle.std.specs.List.{range_with_len}
 use Rattle.scc_base.specs.declared.refusal.Place.{Place}
 use Rattle.scc_base.specs.declared.code.Code.TheVariants as reason
@@ -14,8 +14,8 @@ use Rattle.scc_elab_spec.specs.Program.{Base, Number, OfClass, Input, Output, Si
 use Rattle.scc_elab_spec.specs.Design as design
 use Rattle.scc_elab_spec.specs.Types.{is_direct}
 use Rattle.scc_elab_spec.specs.Bodies.{elements}
-use Rattle.scc_elab_spec.specs.Grown.{Grown, added, at_path, local_of, with_word, with_target, with_vector}
-use Rattle.scc_elab_spec.specs.Worth.{Site, at_now, Given, Word, Place_given, given}
+use Rattle.scc_elab_spec.specs.Grown.{Grown, added, at_path, local_of, thing_at, node_of, variable_kind, with_word, with_target, with_vector}
+use Rattle.scc_elab_spec.specs.Worth.{Site, at_now, is_inside, direct_kind, Given, Word, Place_given, given}
 use Rattle.scc_elab_spec.specs.Construct.{Ran, Fell, Left_out, Halted, Making, then_run, ran}
 
 -- what is made so far after some statements; blocks that they would leave there are none
@@ -29,16 +29,17 @@ abbrev pub is_name : Base → Bool
 is_name Named = true
 is_name b = false
 
-abbrev pub param_given : Grown → ℕ → ℕ → Given → Grown
-param_given g object n (Word w) = with_word g (local_of object n []) w
-param_given g object n (Place_given t) = with_target g (local_of object n []) t
+-- a word is taken by a number, a target by a pointer or reference; none of them is an array
+abbrev pub param_given : Grown → ℕ → ℕ → Member → Given → Grown
+param_given g object n m (Word w) = if is_inside m.shape.sizes [] && is_some (direct_kind m) then with_word g (local_of object n []) w else g
+param_given g object n m (Place_given t) = if is_inside m.shape.sizes [] && not (is_direct m.shape.reach) then with_target g (local_of object n []) t else g
 
 abbrev pub params_given : ℕ → ℕ → ℕ → List Member → List Given → Grown → Grown
 params_given object n zero ms gs g = g
 params_given object n (suc left) [] gs g = g
 params_given object n (suc left) (m ∷ ms) [] g = g
 params_given object n (suc left) (m ∷ ms) (x ∷ xs) g = if is_name m.shape.base then params_given object (n + 1) left ms (x ∷ xs) g
-    else params_given object (n + 1) left ms xs (param_given g object n x)
+    else params_given object (n + 1) left ms xs (param_given g object n m x)
 
 abbrev pub last_word : List Given → ℕ
 last_word [] = 0
@@ -52,9 +53,10 @@ over_elements f (x ∷ xs) g = and_made (f g x) (over_elements f xs)
 abbrev pub none_given : Grown → Tried (List Given)
 none_given g = Made []
 
+-- the variable that stands there takes the last argument, if any
 abbrev pub word_if : List Given → Location → Grown → Grown
 word_if [] l g = g
-word_if (x ∷ xs) l g = with_word g l (last_word (x ∷ xs))
+word_if (x ∷ xs) l g = if is_some (variable_kind (option_and_then (node_of g) (thing_at g l))) then with_word g l (last_word (x ∷ xs)) else g
 
 -- one thing of a base at a path, by how objects of a class are made
 abbrev pub Building : Type 0

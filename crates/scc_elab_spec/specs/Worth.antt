@@ -106,12 +106,12 @@ local_there s l r = None
 abbrev pub direct_kind : plain.Member → Option Kind
 direct_kind m = if is_direct m.shape.reach then number_kind m.shape.base else None
 
+abbrev pub or_kind : Option Kind → Option Kind → Option Kind
+or_kind (Some k) other = Some k
+or_kind None other = other
+
 abbrev pub kind_there : Site → Location → Option Kind
-kind_there s l = either (option_and_then direct_kind (local_there s l l.root)) (variable_kind (option_and_then (node_of s.now) (thing_at s.now l)))
-  where
-    either : Option Kind → Option Kind → Option Kind
-    either (Some k) other = Some k
-    either None other = other
+kind_there s l = or_kind (option_and_then direct_kind (local_there s l l.root)) (variable_kind (option_and_then (node_of s.now) (thing_at s.now l)))
 
 -- the bit that a left side names: its index is part of the left side, and is evaluated also where nothing stands
 abbrev pub bit_given : Site → Pick → Tried (Option ℕ)

@@ -19,3 +19,4 @@ pub mod All
 pub mod Homes
 pub mod Plain
 pub mod WorkedWhole
+pub mod Naming

@@ -13,7 +13,7 @@ use Rattle.scc_semantics.specs.Scene.{Names}
 use Rattle.scc_core_spec.specs.Term as core
 use Rattle.scc_core_spec.specs.Resolved.{placed}
 use Rattle.scc_core_spec.specs.Named.{cell_at, steps_of}
-use Rattle.scc_core_spec.specs.Fold.{named, extended, member_of, element_of, element_or, in_range, static_index, size_of}
+use Rattle.scc_core_spec.specs.Fold.{named, extended, member_behind, member_of, element_of, element_or, in_range, static_index, size_of}
 use Rattle.scc_core_spec.specs.Source.{Home}
 use Rattle.scc_elab_spec.specs.Term.{Term, Literal, Load, Read, Convert, Unary, Binary, Choose, Bit, Range, Join, Left, Local, Answer, This, Follow, Index, Pick, Whole, OneBit, Bits, Target, Null, Address, Copy, Argument, Value, Leads, ModuleName}
 use Rattle.scc_elab_spec.specs.Term as term
@@ -239,9 +239,9 @@ module _ (p : Plain) (d : Design) (constant : Location → Option ℕ) (i : ℕ)
   member-object (core.Cell o n) m k = tt
   member-object (core.Prefix o n) m k = by n.own k
     where
-      by : (w : Option core.Own) → w ≡ None → IsObject home h (core.Prefix o (extended (record { path = n.path; own = w; indices = n.indices }) (location.Member m)))
+      by : (w : Option core.Own) → w ≡ None → IsObject home h (member_behind h.cells h.vectors o (record { path = n.path; own = w; indices = n.indices }) w m)
       by None k = refl
-      by (Some w) k = cc
+      by (Some w) k = tt
   member-object (core.Null o) m k = tt
   member-object (core.Follow o t l) m k = tt
   member-object (core.Member l n) m k = tt

@@ -1,5 +1,5 @@
 //! Laws of copied bodies.
-ghost use Rattle.std.specs.Prelude.{◌≡◌, ℕ, Bool, true, List, [], length, Option, Some, slice_get};
+ghost use Rattle.std.specs.Prelude.{◌≡◌, ℕ, Bool, true, List, [], length, Option, None, Some, option_map, slice_get};
 ghost use Rattle.std.specs.List.{list_any};
 ghost use Rattle.scc_semantics.specs.Location.{Location, Root, same_root};
 ghost use Rattle.scc_semantics.specs.Places.{Places};
@@ -22,6 +22,7 @@ ghost use Rattle.scc_inline_spec.specs.Inlined.{here_of, home_of, copied_program
 ghost use Rattle.scc_elab_spec.specs.Numbering.{levels, numbered, number_of};
 ghost use Rattle.scc_elab_spec.specs.Worked.{program, made, method};
 ghost use Rattle.scc_inline_process_laws.specs.Sound.{IsSoundLeft, IsKinded};
+ghost use Rattle.scc_core_unroll_laws.specs.Named.{IsNamed};
 ghost use Rattle.scc_inline_laws.specs.OrderlyDesign.{IsOrderly};
 ghost use Rattle.scc_semantics.specs.Same.{SameDesign};
 ghost use Rattle.scc_core_spec.specs.Resolved.{Made};
@@ -39,8 +40,9 @@ ghost use Rattle.scc_core_spec.specs.Static.{static};
 ghost use Rattle.scc_core_spec.specs.Source.{expr_of, source_of};
 ghost use Rattle.scc_inline_process_laws.specs.Relation.{IsSoundAt};
 ghost use Rattle.scc_inline_laws.specs.WorkedProcess.{process};
-ghost use Rattle.scc_core_spec.specs.Counted.{counted_by, turns_of};
-ghost use Rattle.scc_inline_laws.specs.Defect.{cells, count, turning};
+ghost use Rattle.scc_core_spec.specs.Code.{End};
+ghost use Rattle.scc_core_spec.specs.Counted.{Behind, counted_by};
+ghost use Rattle.scc_inline_laws.specs.Defect.{aimed, unaimed, start, count, turning};
 ghost use Rattle.scc_inline_process_laws.specs.SoundCode.{IsFirm};
 ghost use Rattle.scc_inline_process_laws.specs.Chosen.{IsChosenStatically};
 ghost use Rattle.scc_inline_process_laws.specs.Whole.{IsReady, own_names, spoken_design, copied_design, spoken_process, copied_as_process};
@@ -71,11 +73,11 @@ pub fn a_number_leads_back()
         → home_of p d i (number_of (numbered p i q.function) r) ≡ r }
 {}
 
-/// A loop counts by the definition, with two turns, though its turn writes its counter through a pointer that leads there before: no law of all cores can stand on
-/// the test of the turn alone.
-pub fn a_counter_behind_a_pointer_counts()
-    ensures counts { counted_by cells [] (Some count) turning ≡ Some count }
-    ensures turns { length (turns_of cells [] count turning) ≡ 2 }
+/// A loop isn't counted where a pointer leads to its counter, through which its turn may write it; without the pointer's aim it is, with two turns.
+pub fn a_counter_behind_a_pointer_does_not_count()
+    ensures aimed { counted_by aimed [] (Behind start) (Some count) turning End ≡ None }
+    ensures counter { option_map (λ g. g.cell) (counted_by unaimed [] (Behind start) (Some count) turning End) ≡ Some 0 }
+    ensures turns { option_map (λ g. length g.turns.list) (counted_by unaimed [] (Behind start) (Some count) turning End) ≡ Some 2 }
 {}
 
 /// The copied body of a process means the same as its function with calls.
@@ -112,4 +114,9 @@ pub fn the_worked_program_means_the_same()
 pub fn an_untyped_value_differs()
     ensures static_word { static [] untyped ≡ Some 0 }
     ensures word { (home : Home) (cs : Cells) (i : ℕ) (s : Scene) → value s (expr_of home cs i untyped) ≡ Some 1 }
+{}
+
+/// The names of a copied core tell its processes and locals apart.
+pub fn a_copied_core_is_named()
+    ensures { (p : Plain) (d : design.Design) → IsOrderly p d → IsNamed (copied_program p d) }
 {}

@@ -2,11 +2,12 @@
 use Rattle.std.proofs.Common.{◌≡◌, ℕ, Bool, true, false, ◌&&◌, List, [], Option, Some, None, is_some, option_map, unwrap_or, if◌then◌else◌, refl, sym, ap, ◌∙◌, subst}
 use Rattle.scc_base.specs.declared.refusal.Place.{Place}
 use Rattle.scc_core_spec.specs.Term as core
+use Rattle.scc_core_spec.specs.Term.{Own}
 use Rattle.scc_core_spec.specs.Program as prog
 use Rattle.scc_core_spec.specs.Static.{Cells, static}
 use Rattle.scc_core_spec.specs.Named.{cell_at, steps_of}
-use Rattle.scc_core_spec.specs.Counted.{Counter, counting, counting_left, counter_at, literal_or}
-use Rattle.scc_core_spec.specs.Fold.{named, member_of, element_of, element_or, in_range, static_index, size_of}
+use Rattle.scc_core_spec.specs.Counted.{Counter, counting, counting_left, counter_at, loaded_as}
+use Rattle.scc_core_spec.specs.Fold.{named, member_behind, member_of, element_of, element_or, in_range, static_index, size_of}
 use Rattle.scc_core_spec.specs.Source.{Home}
 use Rattle.scc_semantics.specs.Scene.{index_of}
 use Rattle.scc_elab_spec.specs.Term.{Left, Local, Answer, This, Follow, Index}
@@ -33,7 +34,7 @@ no_counter (core.Index l size e) = refl
 mutual
   counting-none : (e : core.Term) → counting [] e ≡ e
   counting-none (core.Literal p k w) = refl
-  counting-none (core.Load p k l) = ap (λ o. literal_or p o (core.Load p k (counting_left [] l))) (no_counter l) ∙ ap (core.Load p k) (counting_left-none l)
+  counting-none (core.Load p k l) = ap (λ o. loaded_as o p k (counting_left [] l)) (no_counter l) ∙ ap (core.Load p k) (counting_left-none l)
   counting-none (core.Read p k l) = ap (core.Read p k) (counting_left-none l)
   counting-none (core.Convert p k e) = ap (core.Convert p k) (counting-none e)
   counting-none (core.Unary p k o a) = ap (core.Unary p k o) (counting-none a)
@@ -70,7 +71,11 @@ module _ (cs : Cells) (vs : List prog.Vector) where
 
   member-static : (l : core.Left) (n : ℕ) → is_static cs [] (member_of cs vs l n) ≡ is_static cs [] l
   member-static (core.Cell p c) n = refl
-  member-static (core.Prefix p name) n = refl
+  member-static (core.Prefix p name) n = by name.own
+    where
+      by : (o : Option Own) → is_static cs [] (member_behind cs vs p name o n) ≡ true
+      by None = refl
+      by (Some o) = refl
   member-static (core.Null p) n = refl
   member-static (core.Follow p s l) n = refl
   member-static (core.Member l m) n = refl

@@ -16,7 +16,7 @@ use Rattle.scc_semantics.specs.Value.{locate, value, behind}
 use Rattle.scc_core_spec.specs.Term as core
 use Rattle.scc_core_spec.specs.Term.{CellName, Own}
 use Rattle.scc_core_spec.specs.Static.{static}
-use Rattle.scc_core_spec.specs.Fold.{named, extended, member_of, element_of, element_or, in_range, static_index, size_of}
+use Rattle.scc_core_spec.specs.Fold.{named, extended, member_behind, member_of, element_of, element_or, in_range, static_index, size_of}
 use Rattle.scc_core_spec.specs.Resolved.{placed}
 use Rattle.scc_core_spec.specs.Source.{Home, location_of, left_of, expr_of}
 use Rattle.scc_elab_spec.specs.Term.{Term, Literal, Load, Read, Convert, Unary, Binary, Choose, Bit, Range, Join, Left, Local, Answer, This, Follow, Index, kind_of}
@@ -79,7 +79,11 @@ module _ (home : Home) (h : Here) where
 
   member-kinded : (l : core.Left) (n : ℕ) → IsKindedLeft l → IsKindedLeft (member_of h.cells h.vectors l n)
   member-kinded (core.Cell q c) n k = k
-  member-kinded (core.Prefix q name) n k = k
+  member-kinded (core.Prefix q name) n k = by name.own
+    where
+      by : (o : Option Own) → IsKindedLeft (member_behind h.cells h.vectors q name o n)
+      by None = tt
+      by (Some o) = tt
   member-kinded (core.Null q) n k = k
   member-kinded (core.Follow q s l) n k = k
   member-kinded (core.Member l m) n k = k

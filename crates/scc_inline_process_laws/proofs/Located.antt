@@ -16,7 +16,7 @@ use Rattle.scc_semantics.specs.Value.{locate, value, behind}
 use Rattle.scc_core_spec.specs.Term as core
 use Rattle.scc_core_spec.specs.Term.{CellName, Own}
 use Rattle.scc_core_spec.specs.Static.{static}
-use Rattle.scc_core_spec.specs.Fold.{named, extended, member_of, element_of, element_or, in_range, static_index, size_of}
+use Rattle.scc_core_spec.specs.Fold.{named, extended, member_behind, member_of, element_of, element_or, in_range, static_index, size_of}
 use Rattle.scc_core_spec.specs.Resolved.{placed}
 use Rattle.scc_core_spec.specs.Source.{Home, location_of, left_of, expr_of}
 use Rattle.scc_elab_spec.specs.Term.{Term, Literal, Load, Read, Convert, Unary, Binary, Choose, Bit, Range, Join, Left, Local, Answer, This, Follow, Index, kind_of}
@@ -114,10 +114,10 @@ module _ (home : Home) (h : Here) where
     member-same (core.Cell q c) n b g e = ap (λ o. behind o (λ l. Some (Some (within l (Member n))))) e
     member-same (core.Prefix q name) n b g e = by name.own g ∙ ap (λ o. behind o (λ l. Some (Some (within l (Member n))))) e
       where
-        by : (o : Option Own) → o ≡ None → Some (Some (location_of home h.process (extended (record { path = name.path; own = o; indices = name.indices }) (Member n))))
+        by : (o : Option Own) → o ≡ None → reach (member_behind h.cells h.vectors q (record { path = name.path; own = o; indices = name.indices }) o n)
             ≡ Some (Some (within (location_of home h.process (record { path = name.path; own = o; indices = name.indices })) (Member n)))
         by None g = refl
-        by (Some o) g = cc
+        by (Some o) g = refl
     member-same (core.Null q) n b g e = ap (λ o. behind o (λ l. Some (Some (within l (Member n))))) e
     member-same (core.Follow q s l) n b g e = ap (λ o. behind o (λ l. Some (Some (within l (Member n))))) e
     member-same (core.Member l m) n b g e = ap (λ o. behind o (λ l. Some (Some (within l (Member n))))) e

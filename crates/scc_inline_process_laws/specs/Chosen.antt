@@ -16,4 +16,4 @@ IsChosenStatically home h (Answer p n) = Unit {0}
 IsChosenStatically home h (This p) = IsKindedLeft h.this
 IsChosenStatically home h (Follow p l) = IsChosenStatically home h l
 IsChosenStatically home h (term.Member l m) = IsChosenStatically home h l
-pub IsChosenStatically home h (Index l e) = IsChosenStatically home h l × IsSoundTerm home h e × IsTyped e × (w : ℕ) × (static h.cells (copied h (result_name h) e) ≡ Some w)
+IsChosenStatically home h (Index l e) = IsChosenStatically home h l × IsSoundTerm home h e × IsTyped e × (w : ℕ) × (static h.cells (copied h (result_name h) e) ≡ Some w)

@@ -7,19 +7,18 @@ use Rattle.scc_base.specs.declared.code.Code.TheVariants as reason
 use Rattle.scc_core_spec.specs.Term as core
 use Rattle.scc_core_spec.specs.Program as prog
 use Rattle.scc_core_spec.specs.Static.{Cells, static}
-use Rattle.scc_core_spec.specs.Counted.{Counter, counting, counted_by}
-use Rattle.scc_core_spec.specs.Unrolled.{around}
+use Rattle.scc_core_spec.specs.Counted.{Counter, Setting, Start, Stand, First, Elsewhere, behind, counting, counted_by, around}
 use Rattle.scc_core_spec.specs.First.{or_else, first_of, first_numbered, when, refused}
 use Rattle.scc_core_spec.specs.Resolved.{Tried, Made, Stopped}
-use Rattle.scc_elab_spec.specs.Term.{Left, Argument, Leads}
+use Rattle.scc_elab_spec.specs.Term.{Term, Left, Pick, Argument, Leads}
 use Rattle.scc_elab_spec.specs.Program.{Code, End, Declare, Assign, Point, Write, Call, If, Loop, Block, Exit, Return, Wait, Make, Bind, Process, Sensitive, Quiet, Reset, Plain, Member}
 use Rattle.scc_elab_spec.specs.Design as design
 use Rattle.scc_elab_spec.specs.Design.{Design}
 use Rattle.scc_elab_spec.specs.Types.{is_reference}
 use Rattle.scc_elab_spec.specs.Numbering.{levels}
-use Rattle.scc_elab_spec.specs.Copied.{Here, left_of, target_of, count_of}
+use Rattle.scc_elab_spec.specs.Copied.{Here, copied, left_of, pick_of, target_of, count_of}
 use Rattle.scc_elab_spec.specs.Bodies.{Calling, result_name, inside, object_of}
-use Rattle.scc_inline_spec.specs.Inlined.{body_of, call_of, here_of, too_large, copied_program}
+use Rattle.scc_inline_spec.specs.Inlined.{body_of, call_of, here_of, core_cells, process_path, copied_body, too_large, copied_program}
 
 -- a location that has to be static, with the counters around it
 pub record Chosen : Type 0 where
@@ -49,38 +48,50 @@ by_arguments h ns p (m ∷ ms) (a ∷ args) = by_arguments h ns p ms args
 abbrev pub Choosing : Type 0
 Choosing = List ℕ → ℕ → core.Left → List Counter → List Chosen
 
-abbrev pub chosen_in : Choosing → Calling → Here → List Counter → Code → List Chosen
-chosen_in choose call h ns End = []
-chosen_in choose call h ns (Declare p n r) = chosen_in choose call h ns r
-chosen_in choose call h ns (Assign p l k e r) = chosen_in choose call h ns r
-chosen_in choose call h ns (Point p l t r) = chosen_in choose call h ns r
-chosen_in choose call h ns (Write p l e r) = chosen_in choose call h ns r
-chosen_in choose call h ns (Call p n f o args r) = by_object h ns o ++ (unwrap_or (option_map (λ g. by_arguments h ns p g.locals args) (slice_get h.plain.functions f)) []
-    ++ (choose (n ∷ h.calls) f (object_of h (result_name h) o) ns ++ chosen_in choose call h ns r))
-chosen_in choose call h ns (If p t a b r) = chosen_in choose call h ns a ++ (chosen_in choose call h ns b ++ chosen_in choose call h ns r)
-chosen_in choose call h ns (Loop p c b r) =
-    chosen_in choose call h (around h.cells ns (counted_by h.cells ns (option_and_then (count_of h (result_name h)) c) (body_of call h 0 [] b))) b ++ chosen_in choose call h ns r
-chosen_in choose call h ns (Block p b r) = chosen_in choose call h ns b ++ chosen_in choose call h ns r
-chosen_in choose call h ns (Exit p n r) = chosen_in choose call h ns r
-chosen_in choose call h ns (Return p v r) = chosen_in choose call h ns r
-chosen_in choose call h ns (Wait p n r) = chosen_in choose call h ns r
-chosen_in choose call h ns (Make p l b args r) = chosen_in choose call h ns r
-chosen_in choose call h ns (Bind p l t r) = chosen_in choose call h ns r
-chosen_in choose call h ns (Process p t f e r) = chosen_in choose call h ns r
-chosen_in choose call h ns (Sensitive p items r) = chosen_in choose call h ns r
-chosen_in choose call h ns (Quiet p r) = chosen_in choose call h ns r
-chosen_in choose call h ns (Reset p s e a r) = chosen_in choose call h ns r
+-- an assignment of the function at hand as its copy has it
+abbrev pub begun : Here → Left → Pick → Term → Start
+begun h l k e = record { left = left_of h (result_name h) true l; pick = pick_of h (result_name h) k; value = copied h (result_name h) e }
 
-abbrev pub chosen_by : Here → ℕ → Choosing
-chosen_by h zero cs f this ns = []
-chosen_by h (suc left) cs f this ns = unwrap_or (option_map (λ g. chosen_in (chosen_by h left) (call_of h left) (inside h cs g this) ns g.body) (slice_get h.plain.functions f)) []
+-- Inside so many open blocks of the function, where a statement stands: which loops are counted is what their copies tell.
+abbrev pub chosen_in : Choosing → Calling → Setting → Here → List Counter → ℕ → Stand → Code → List Chosen
+chosen_in choose call s h ns d w End = []
+chosen_in choose call s h ns d w (Declare p n r) = chosen_in choose call s h ns d Elsewhere r
+chosen_in choose call s h ns d w (Assign p l k e r) = chosen_in choose call s h ns d (behind w (begun h l k e)) r
+chosen_in choose call s h ns d w (Point p l t r) = chosen_in choose call s h ns d Elsewhere r
+chosen_in choose call s h ns d w (Write p l e r) = chosen_in choose call s h ns d Elsewhere r
+chosen_in choose call s h ns d w (Call p n f o args r) = by_object h ns o ++ (unwrap_or (option_map (λ g. by_arguments h ns p g.locals args) (slice_get h.plain.functions f)) []
+    ++ (choose (n ∷ h.calls) f (object_of h (result_name h) o) ns ++ chosen_in choose call s h ns d Elsewhere r))
+chosen_in choose call s h ns d w (If p t a b r) = chosen_in choose call s h ns d Elsewhere a ++ (chosen_in choose call s h ns d Elsewhere b ++ chosen_in choose call s h ns d Elsewhere r)
+chosen_in choose call s h ns d w (Loop p c b r) =
+    chosen_in choose call s h (around ns (counted_by s ns w (option_and_then (count_of h (result_name h)) c) (body_of call h d [] b) (body_of call h d [] r))) d Elsewhere b
+    ++ chosen_in choose call s h ns d Elsewhere r
+chosen_in choose call s h ns d w (Block p b r) = chosen_in choose call s h ns (suc d) First b ++ chosen_in choose call s h ns d Elsewhere r
+chosen_in choose call s h ns d w (Exit p n r) = chosen_in choose call s h ns d Elsewhere r
+chosen_in choose call s h ns d w (Return p v r) = chosen_in choose call s h ns d Elsewhere r
+chosen_in choose call s h ns d w (Wait p n r) = chosen_in choose call s h ns d Elsewhere r
+chosen_in choose call s h ns d w (Make p l b args r) = chosen_in choose call s h ns d Elsewhere r
+chosen_in choose call s h ns d w (Bind p l t r) = chosen_in choose call s h ns d Elsewhere r
+chosen_in choose call s h ns d w (Process p t f e r) = chosen_in choose call s h ns d Elsewhere r
+chosen_in choose call s h ns d w (Sensitive p items r) = chosen_in choose call s h ns d Elsewhere r
+chosen_in choose call s h ns d w (Quiet p r) = chosen_in choose call s h ns d Elsewhere r
+chosen_in choose call s h ns d w (Reset p x e a r) = chosen_in choose call s h ns d Elsewhere r
+
+abbrev pub chosen_by : Setting → Here → ℕ → Choosing
+chosen_by s h zero cs f this ns = []
+chosen_by s h (suc left) cs f this ns =
+    unwrap_or (option_map (λ g. chosen_in (chosen_by s h left) (call_of h left) s (inside h cs g this) ns 0 Elsewhere g.body) (slice_get h.plain.functions f)) []
 
 abbrev pub not_static : Here → Chosen → Option Refusal
 not_static h c = when (not (is_static h.cells c.counters c.left)) (refused reason.StaticIndex (core.place_at c.left))
 
+-- around the statements of a process: the cells, its name and its copied body
+abbrev pub setting_in : Plain → Design → ℕ → design.Process → Setting
+setting_in p d i q = record { cells = core_cells p d; path = process_path p d q; body = copied_body p d i q }
+
 abbrev pub first_copied : Plain → Design → ℕ → design.Process → Option Refusal
 first_copied p d i q = or_else (too_large p d i q)
-    (option_and_then (λ f. let h = here_of p d i q f in first_of (not_static h) (chosen_in (chosen_by h levels) (call_of h levels) h [] f.body)) (slice_get p.functions q.function))
+    (option_and_then (λ f. let h = here_of p d i q f in let s = setting_in p d i q in
+    first_of (not_static h) (chosen_in (chosen_by s h levels) (call_of h levels) s h [] 0 First f.body)) (slice_get p.functions q.function))
 
 -- the core of a design, or what is refused first
 abbrev pub inlined : Plain → Design → Tried prog.Program

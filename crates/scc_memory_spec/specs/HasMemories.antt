@@ -22,7 +22,7 @@ pub record StandsFor (m : SvModule) (b : Memory) (a : Array) : Type 0 where
   pub width : (v : ℕ) → list_any (nat_eq v) a.elements ≡ true → width_of m.vars v ≡ b.width
 
 abbrev pub SameShot : Shot → Shot → Type 0
-SameShot a b = (a.outputs ≡ b.outputs) × ((l : Location) (w : ℕ) → a.registers l ≡ Some w → b.registers l ≡ Some w)
+SameShot a b = (a.outputs ≡ b.outputs) × ((l : Location) → a.registers l ≡ b.registers l)
 
 abbrev pub SameAfter : Option Shot → Option Shot → Type 0
 SameAfter None None = Unit {0}
@@ -35,9 +35,9 @@ AllSame (a ∷ more) (b ∷ rest) = SameShot a.before b.before × SameAfter a.af
 AllSame _ _ = ⊥
 
 -- Valuations agree in all registers: word i of a memory is that of its element i, and every other register has one word, whatever the names of locations are, so
--- that those of threads' states and counters are among them.
+-- that those of threads' states and counters are among them. Neither module has a register that the other has not.
 abbrev pub Agree : SvModule → MemModule → (ℕ → ℕ) → Valuation → Type 0
-Agree m n x y = (text : Location → List ℕ) (l : Location) (w : ℕ) → plain.register text m x l ≡ Some w → register text n y l ≡ Some w
+Agree m n x y = (text : Location → List ℕ) (l : Location) → plain.register text m x l ≡ register text n y l
 
 -- Of an array that gave way to a memory no element and no next value is left.
 abbrev pub IsGone : MemModule → Array → Type 0
@@ -65,6 +65,9 @@ pub record HasMemories (m : SvModule) (n : MemModule) : Type 0 where
   pub others : (v : ℕ) (x : SvVar) → slice_get m.vars v ≡ Some x → ((a : Array) → IsTaken m a → is_of a v ≡ false) → (u : ℕ) × (slice_get n.vars u ≡ Some x)
   pub words : (x : ℕ → ℕ) (y : Valuation) → Agree m n x y → (k i v : ℕ) (b : Memory) (a : Array) → slice_get n.memories k ≡ Some b → StandsFor m b a
       → slice_get a.elements i ≡ Some v → y.elements k i ≡ x v
+  -- for each valuation of the one there is one of the other that agrees
+  pub agrees : (x : ℕ → ℕ) → (y : Valuation) × Agree m n x y
+  pub back : (y : Valuation) → (x : ℕ → ℕ) × Agree m n x y
   pub runs : (x : ℕ → ℕ) (y : Valuation) → Agree m n x y → (text : Location → List ℕ) (d : Design) (steps : List run.Step) (a : List Seen) → plain.Runs text d m x steps a
       → (b : List Seen) × Runs text d n y steps b
   pub same : (x : ℕ → ℕ) (y : Valuation) → Agree m n x y → (text : Location → List ℕ) (d : Design) (steps : List run.Step) (a b : List Seen) → plain.Runs text d m x steps a → Runs text d n y steps b

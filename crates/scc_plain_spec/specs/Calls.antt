@@ -1,16 +1,17 @@
 -- Arguments, and brackets behind what an expression names (ISO C++ [expr.call], [expr.new]; IEEE 1666-2011, 5.3).
-use Rattle.std.specs.Prelude.{ℕ, nat_eq, Bool, true, false, ◌&&◌, List, length, Option, Some, None, if◌then◌else◌}
+use Rattle.std.specs.Prelude.{ℕ, nat_eq, Bool, true, false, not, ◌&&◌, List, length, Option, Some, None, if◌then◌else◌}
 use Rattle.scc_base.specs.declared.refusal.Place.{Place}
 use Rattle.scc_base.specs.declared.code.Code.TheVariants as reason
 use Rattle.scc_bits_kinds.specs.declared.kind.Kind.{Kind}
 use Rattle.scc_bits_kinds.specs.declared.op.Op.{Op}
+use Rattle.scc_bits_kinds.specs.declared.op.Op.TheVariants as op
 use Rattle.scc_bits.specs.Value.{Number}
 use Rattle.scc_tree.specs.declared.expr.UnaryOp.{UnaryOp}
 use Rattle.scc_tree.specs.declared.expr.UnaryOp.TheVariants as before
 use Rattle.scc_templates_spec.specs.Walk.{Callee, Late, Calls, How, OnThis, ByClass, OnOther, same_kind}
 use Rattle.scc_templates_spec.specs.Walked.{Walked, pure, fault, meets, and_walk}
 use Rattle.scc_templates_spec.specs.World.{Owner, File, In, World, same_owner}
-use Rattle.scc_elab_spec.specs.Term.{Left, Load, Answer, Argument, Value, Leads, ModuleName, Target, Null}
+use Rattle.scc_elab_spec.specs.Term.{Term, Bit, Left, Load, Answer, Argument, Value, Leads, ModuleName, Target, Null}
 use Rattle.scc_templates_spec.specs.Tree.{Tree, Trees, Nil, Cons, place_of, count}
 use Rattle.scc_templates_spec.specs.Tree as tree
 use Rattle.scc_plain_spec.specs.Numbers.{int, small}
@@ -21,21 +22,36 @@ use Rattle.scc_plain_spec.specs.Parts.{operator_of, demanded}
 use Rattle.scc_plain_spec.specs.Functions.{Routine, routine_of, callee_in}
 use Rattle.scc_plain_spec.specs.Constants.{thing}
 use Rattle.scc_plain_spec.specs.Drafts.{Draft, drafted, converted, operate_one}
-use Rattle.scc_plain_spec.specs.Forms.{Form, is_pointer, is_direct, Subject}
+use Rattle.scc_plain_spec.specs.Forms.{Form, is_pointer, is_direct, is_all, Subject}
 use Rattle.scc_plain_spec.specs.Meant.{Meant, Valued, Stands, Done, Void, taken, is_name, is_module_name, followed, addressed, aimed}
 use Rattle.scc_plain_spec.specs.Methods.{Brackets, CallsFunction, StandsAlone, TakesRange, CallsMethod, Wrong, brackets, method, ranged}
 use Rattle.scc_plain_spec.specs.Room.{Around, Known, scope_in, Step, done, found, and_step, lift}
 use Rattle.scc_plain_spec.specs.Shapes.{Signature, signature, owner_of}
 
+-- a bit that an index selects, of a variable or of what a port or signal shows; no element, and not what a cast makes of a bit
+abbrev pub is_bit_select : Tree → Meant → Bool
+is_bit_select (tree.Index p of at) (Valued x) = is_bit x.term
+  where
+    is_bit : Term → Bool
+    is_bit (Bit p e i) = true
+    is_bit e = false
+is_bit_select (tree.Index p of at) (Stands l) = not (is_all l.taken)
+is_bit_select t m = false
+
+-- `~` of a bit-select is its complement, a `bool` (IEEE 1666-2011, 7.2.5); every other `bool` is promoted (ISO C++ [expr.unary.op])
+abbrev pub operator_on : Tree → Meant → UnaryOp → Option Op
+operator_on t m before.Not = Some (if is_bit_select t m then op.LogNot else op.Not)
+operator_on t m b = operator_of b
+
 -- an operator before one operand: of numbers, `*` and `&`
-abbrev pub unary : Place → Place → UnaryOp → Owner → Meant → Walked Meant
-unary p of before.Deref o m = and_walk (followed p o m) (λ l. pure (Stands l))
-unary p of before.Address o m = addressed p m
-unary p of b o m = by_operator (operator_of b)
+abbrev pub unary : Place → Tree → UnaryOp → Owner → Meant → Walked Meant
+unary p t before.Deref o m = and_walk (followed p o m) (λ l. pure (Stands l))
+unary p t before.Address o m = addressed p m
+unary p t b o m = by_operator (operator_on t m b)
   where
     by_operator : Option Op → Walked Meant
     by_operator None = fault reason.Mismatch p
-    by_operator (Some o) = and_walk (and_walk (taken of m) (operate_one p o)) (λ x. pure (Valued x))
+    by_operator (Some o) = and_walk (and_walk (taken (place_of t) m) (operate_one p o)) (λ x. pure (Valued x))
 
 -- the number 0 of `int` is null where a pointer is wanted
 abbrev pub is_zero : Tree → Bool

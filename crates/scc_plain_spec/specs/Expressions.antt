@@ -48,7 +48,7 @@ module _ (s : Source) (w : World Answer) (a : Around) (ks : List Known) where
     meant late (Name p x) = name s w a ks p x
     meant late (Scoped p t x) = found (and_walk (typed s w (scope_in a ks) t) (λ y. scoped s w a p x (object_in y)))
     meant late (Operate p at o l r) = and_step (valued (place_of l) (meant late l)) (λ x. and_step (valued (place_of r) (meant (late || is_lazy o) r)) (λ y. a_value (operate p at o x y)))
-    meant late (Before p o of) = and_step (meant late of) (λ m. found (unary p (place_of of) o a.owner m))
+    meant late (Before p o of) = and_step (meant late of) (λ m. found (unary p of o a.owner m))
     meant late (Choose p t l r) = and_step (and_step (valued (place_of t) (meant late t)) (λ x. found (converted kind.Bool x))) (λ x. and_step (valued (place_of l) (meant true l)) (λ y.
         and_step (valued (place_of r) (meant true r)) (λ z. a_value (choose p x y z))))
     meant late (Cast p t of) = and_step (found (typed s w (scope_in a ks) t)) (λ y. and_step (valued (place_of of) (meant late of)) (λ x. a_value (by_kind p (kind_in y) x)))

@@ -19,9 +19,8 @@ ghost use Rattle.scc_elab_spec.specs.Worked.{program as calling, made as called}
 ghost use Rattle.scc_core_spec.specs.Resolved.{Made, Stopped};
 ghost use Rattle.scc_core_spec.specs.First.{refused, refused_beside};
 ghost use Rattle.scc_plain_spec.specs.Program.{program_of};
-ghost use Rattle.scc_plain_spec.specs.Designs.{first_refusal, IsDesignOf};
+ghost use Rattle.scc_plain_spec.specs.Designs.{Compiled, compiled, design_in, first_refusal, IsDesignOf};
 ghost use Rattle.scc_plain_spec.specs.Asked.{constant_of, instance_of, value_in};
-ghost use Rattle.scc_semantics.specs.Design.{Design};
 ghost use Rattle.scc_base.specs.declared.refusal.Refusal.{Refusal};
 ghost use Rattle.scc_plain_spec.specs.Scope.{Number_};
 ghost use Rattle.scc_plain_spec.specs.WorkedProgram.{program_by, body_by, bare, bare_program, second};
@@ -98,13 +97,13 @@ pub fn bodies_are_written()
 /// What the static stage refuses is refused first, and then there is no design.
 pub fn what_is_refused_has_no_design()
     ensures refused { (many : Bool) (t : FileTree) (top : ℕ) (r : Refusal) → program_of (source_of t) top ≡ Stopped r → first_refusal many t top ≡ Some r }
-    ensures design { (many : Bool) (t : FileTree) (top : ℕ) (d : Design) → IsDesignOf many t top d → IsDesignOf many t top d }
+    ensures design { (many : Bool) (t : FileTree) (top : ℕ) (c : Compiled) → compiled many t top ≡ Some (Made c) → IsDesignOf many t top (design_in c) }
 {}
 
 /// A constant is asked for in its scope, a class with its arguments.
 pub fn constants_and_classes_are_asked_for()
     ensures constant { value_in counting (behind_chain counting 12 []) File (literal_tree 3) ≡ pure (number int 3) }
-    ensures asked { (n : ℕ) → constant_of counting File (literal_tree n) ≡ constant_of counting File (literal_tree n) }
+    ensures asked { constant_of counting File (literal_tree 3) ≡ pure (number int 3) }
     ensures none { instance_of nowhere 0 (args 1) here ≡ fault reason.UnknownName here }
 {}
 

@@ -1,2 +1,3 @@
 pub mod WorkedMaking
 pub mod WorkedChosen
+pub mod WorkedBits

@@ -13,6 +13,7 @@ ghost use Rattle.scc_plain_spec.specs.Worked.{here};
 ghost use Rattle.scc_plain_spec.specs.WorkedProgram.{program_by, body_by};
 ghost use Rattle.scc_plain_spec.specs.WorkedTemplates.{args, named, literal as literal_tree};
 ghost use Rattle.scc_plain_worked.specs.WorkedMaking.{takes_number, makes_object, makes_vector, object_code, begun_by, begun_code, inits_by};
+ghost use Rattle.scc_plain_worked.specs.WorkedBits.{gives, complement, bit, bit_read, element, cast, bit_term, read_term, element_term, complemented, promoted};
 ghost use Rattle.scc_plain_worked.specs.WorkedChosen.{chosen as source_with, written_number, inside, beside, called_by_class, class_code, instance_by};
 
 /// The arguments of a class that is asked for are converted as if they were written.
@@ -49,4 +50,13 @@ pub fn the_first_body_counts()
 pub fn functions_are_called_by_their_class()
     ensures called { body_by (program_by (called_by_class (literal_tree 1)) 20) 1 ≡ Some class_code }
     ensures object { program_by (called_by_class (named 29)) 20 ≡ Stopped (refused reason.Mismatch (at 5)) }
+{}
+
+/// `~` of a bit-select, of a variable or of what a port shows, is its complement, a `bool`; an element of an array and what a cast makes of a bit are promoted.
+#[tactic(auto, unfolding(scc_templates_spec::specs::Stage::staged_from))]
+pub fn a_bit_has_a_complement()
+    ensures variable { body_by (program_by (gives (complement bit)) 20) 0 ≡ Some (complemented bit_term) }
+    ensures port { body_by (program_by (gives (complement bit_read)) 20) 0 ≡ Some (complemented read_term) }
+    ensures element { body_by (program_by (gives (complement element)) 20) 0 ≡ Some (promoted element_term) }
+    ensures cast { body_by (program_by (gives (complement cast)) 20) 0 ≡ Some (promoted bit_term) }
 {}

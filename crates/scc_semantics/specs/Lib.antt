@@ -14,3 +14,5 @@ pub mod Same
 pub mod Schedule
 pub mod Statement
 pub mod Steady
+pub mod Rounds
+pub mod Worked

@@ -1,10 +1,10 @@
 -- A design without pointers, whose words stay proper. This project's own: what the rules leave of a program is one.
-use Rattle.std.specs.Prelude.{◌≡◌, ℕ, ◌+◌, Bool, true, false, ◌&&◌, List, [], ◌∷◌, Option, None}
+use Rattle.std.specs.Prelude.{◌≡◌, ℕ, ◌+◌, Bool, true, false, ◌&&◌, List, [], ◌∷◌, None}
 use Rattle.std.specs.List.{list_any}
 use Rattle.scc_semantics.specs.Location.{Location, same}
 use Rattle.scc_semantics.specs.Expressions.{Expr, Literal, Load, Read, Convert, Unary, Binary, Choose, Bit, Range, Join, Left, Declared, Result, This, At, Null, Follow, Field, Indexed, Pick, Whole, OneBit, Bits}
 use Rattle.scc_semantics.specs.Store.{Request}
-use Rattle.scc_semantics.specs.Body.{Body, End, Assign, Point, Clear, If, Block, Loop, Exit, Call, Begin, Pass, Return, Wait}
+use Rattle.scc_semantics.specs.Body.{Body, End, Assign, If, Block, Loop, Exit, Wait}
 use Rattle.scc_semantics.specs.Design.{Process, Design, inputs}
 use Rattle.scc_semantics.specs.Run.{FitsThing}
 use Rattle.scc_semantics.specs.Same.{Turn, Seen, Plays, AllProper, at_first}

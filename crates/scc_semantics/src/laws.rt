@@ -7,7 +7,9 @@ ghost use Rattle.scc_semantics.specs.Run.{Step, shown};
 ghost use Rattle.scc_semantics.specs.Statement.{AllSame, Seen, ShowsTheSame};
 ghost use Rattle.scc_semantics.specs.Start.{IsStart, FindsResets};
 ghost use Rattle.scc_semantics.specs.Same.{SameDesign};
+ghost use Rattle.scc_semantics.specs.Rounds.{EndsSoon};
 ghost use Rattle.scc_semantics.specs.Schedule.{AnyOrder, SameShown};
+ghost use Rattle.scc_semantics.specs.Worked.{handing_on};
 
 /// No steps show nothing.
 pub fn a_design_without_processes_shows_its_ports()
@@ -15,11 +17,12 @@ pub fn a_design_without_processes_shows_its_ports()
     ensures resets { (d : Design) → FindsResets d [] [] [] }
 {}
 
-/// Where nothing is shown, nothing differs; and any order is any order.
-pub fn nothing_differs_from_nothing()
+/// A design of one method at a clock's edge means what it means, shows the same in any order at all locations, and its settling ends at once.
+pub fn a_design_at_one_clock_shows_the_same()
     ensures nothing { SameShown (λ l. true) [] [] }
-    ensures order { (d : Design) → AnyOrder (λ l. true) d → AnyOrder (λ l. true) d }
-    ensures same { (d : Design) → SameDesign 1 d d → SameDesign 1 d d }
+    ensures same { SameDesign 1 handing_on handing_on }
+    ensures order { AnyOrder (λ l. true) handing_on }
+    ensures soon { EndsSoon handing_on }
 {}
 
 /// No steps show nothing on both sides.

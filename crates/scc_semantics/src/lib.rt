@@ -4,6 +4,6 @@
 mod laws;
 
 pub use laws::{
-    a_design_without_processes_shows_its_ports, nothing_differs_from_nothing,
+    a_design_at_one_clock_shows_the_same, a_design_without_processes_shows_its_ports,
     nothing_is_shown_alike,
 };

@@ -1,5 +1,5 @@
 -- A process without pointers does the same wherever pointers lead, and leaves them as they are.
-use Rattle.std.proofs.Common.{◌≡◌, ℕ, zero, suc, Bool, true, false, ◌&&◌, Option, Some, None, refl, sym, ap, ◌∙◌}
+use Rattle.std.proofs.Common.{◌≡◌, ℕ, zero, suc, Bool, true, false, ◌&&◌, Option, Some, None, refl, ap, ◌∙◌}
 use Rattle.std.specs.Prelude.{option_map, option_and_then}
 use Rattle.scc_bits_kinds.specs.declared.kind.Kind.{Kind}
 use Rattle.scc_bits_kinds.specs.declared.kind.Kind.TheVariants as kind
@@ -9,11 +9,10 @@ use Rattle.scc_bits.specs.Values.{applied}
 use Rattle.scc_semantics.specs.Location.{Location, Member, Element, within}
 use Rattle.scc_semantics.specs.Places.{Places, Thing, Number, Signal, Port}
 use Rattle.scc_semantics.specs.Expressions.{Expr, Literal, Load, Read, Convert, Unary, Binary, Choose, Bit, Range, Join, Left, Declared, Result, This, At, Null, Follow, Field, Indexed, Pick, Whole, OneBit, Bits}
-use Rattle.scc_semantics.specs.Store.{Store}
 use Rattle.scc_semantics.specs.Scene.{Names, Scene, expr_kind, loaded, sensed, index_of, bit_at, with_two, chosen, followed, with_bit}
 use Rattle.scc_semantics.specs.Body.{Body, End, Assign, Point, Clear, If, Block, Loop, Exit, Call, Begin, Pass, Return, Wait}
-use Rattle.scc_semantics.specs.Value.{Held, behind, locate, value, put_at, picked, with_words, asked}
-use Rattle.scc_semantics.specs.Machine.{Mark, Inner, BehindBlock, BehindCall, Frames, Stop, Go, Outcome, Suspended, Ended, Stuck, Unfinished, Next, leave, pick, one_less, waiting, unless_stuck, scene, act, idle, run}
+use Rattle.scc_semantics.specs.Value.{Held, behind, locate, value, put_at, picked, asked}
+use Rattle.scc_semantics.specs.Machine.{Inner, BehindBlock, BehindCall, Frames, Stop, Go, Outcome, Next, leave, pick, one_less, waiting, unless_stuck, scene, act, idle, run}
 use Rattle.scc_semantics.specs.Steady.{plain_expr, plain_left, plain_pick, plain_body}
 use Rattle.scc_semantics_laws.specs.Words.{aimed, all_aimed, PlainFrames, PlainLeft}
 

@@ -1,16 +1,16 @@
 -- What an emitted side shows of a steady design it shows of every design that means the same.
-use Rattle.std.proofs.Common.{◌≡◌, ℕ, ◌+◌, ◌*◌, ◌≤◌, List, [], ◌∷◌, ◌++◌, Bool, true, false, nat_eq, ◌&&◌, Option, Some, None, ap, refl, sym, ◌∙◌, subst, arith, if◌then◌else◌, unwrap_or}
+use Rattle.std.proofs.Common.{◌≡◌, ℕ, ◌+◌, ◌*◌, ◌≤◌, List, [], ◌∷◌, ◌++◌, true, false, nat_eq, ◌&&◌, Option, Some, None, ap, refl, sym, ◌∙◌, subst, arith, if◌then◌else◌, unwrap_or}
 use Rattle.std.specs.Prelude.{filter}
-use Rattle.std.specs.List.{list_any, list_all}
+use Rattle.std.specs.List.{list_all}
 use Rattle.scc_semantics.specs.Location.{Location}
 use Rattle.scc_semantics.specs.Design.{Process, Design, locations, clocks, inputs}
 use Rattle.scc_semantics.specs.Machine.{Frames, Stop}
 use Rattle.scc_semantics.specs.Process.{State, first_frames}
-use Rattle.scc_semantics.specs.Run.{Step, Shown, Shows, FitsThing, AllFit, EdgeOf, EdgesFit, FitsStep, FitSteps}
-use Rattle.scc_semantics.specs.Start.{AllFirst, IsStart, finds_reset, resets_found, FindsResets}
+use Rattle.scc_semantics.specs.Run.{Step, Shown, FitsThing, AllFit, EdgeOf, EdgesFit, FitSteps}
+use Rattle.scc_semantics.specs.Start.{AllFirst, IsStart, finds_reset, FindsResets}
 use Rattle.scc_semantics.specs.Same.{AllTheSame, SameDesign}
 use Rattle.scc_semantics.specs.Steady.{IsSteady}
-use Rattle.scc_semantics.specs.Statement.{Seen, AreAlike, ShowsTheSame}
+use Rattle.scc_semantics.specs.Statement.{Seen, ShowsTheSame}
 use Rattle.scc_semantics_laws.proofs.Order.{proper-too}
 use Rattle.scc_semantics_laws.proofs.Places.{proper-at, proper-by}
 use Rattle.scc_semantics_laws.proofs.Runs.{same-clocks, same-inputs, proper-back, slow-runs, fast-runs}

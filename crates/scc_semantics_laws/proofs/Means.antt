@@ -1,5 +1,5 @@
 -- How a pass is shown to keep the meaning: a relation between where a process stands on both sides, which every resume keeps.
-use Rattle.std.proofs.Common.{◌≡◌, ℕ, ◌*◌, List, [], ◌∷◌, map, Option, Some, refl}
+use Rattle.std.proofs.Common.{◌≡◌, ℕ, ◌*◌, List, [], ◌∷◌, map, Some}
 use Rattle.scc_semantics.specs.Design.{Process, Design}
 use Rattle.scc_semantics.specs.Start.{IsProper}
 use Rattle.scc_semantics.specs.Same.{Turn, Seen, Middle, seen_of, leading, left_in, resumed, Plays, AllProper, at_first, MeansTheSame}

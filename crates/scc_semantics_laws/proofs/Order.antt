@@ -1,10 +1,10 @@
 -- Meaning the same is reflexive and transitive.
-use Rattle.std.proofs.Common.{◌≡◌, ℕ, ◌+◌, ◌*◌, List, [], ◌∷◌, map, Option, Some, None, refl, sym, ap, ◌∙◌, subst, arith, one-mul, mul_assoc}
+use Rattle.std.proofs.Common.{◌≡◌, ℕ, ◌+◌, ◌*◌, List, [], ◌∷◌, map, refl, sym, ◌∙◌, subst, one-mul, mul_assoc}
 use Rattle.scc_semantics.specs.Location.{Location}
 use Rattle.scc_semantics.specs.Design.{Process, Design}
 use Rattle.scc_semantics.specs.Run.{FitsThing}
 use Rattle.scc_semantics.specs.Start.{IsProper, HoldsConstant}
-use Rattle.scc_semantics.specs.Same.{Turn, Seen, Plays, AllProper, at_first, MeansTheSame, AllTheSame, SameDesign}
+use Rattle.scc_semantics.specs.Same.{Turn, Plays, AllProper, at_first, MeansTheSame, AllTheSame, SameDesign}
 
 once : (ns : List ℕ) → ns ≡ map (λ n. 1 * n) ns
 once [] = refl

@@ -1,18 +1,16 @@
 -- What means the same as a steady design that shows the same in any order shows the same in any order.
-use Rattle.std.proofs.Common.{◌≡◌, ℕ, zero, suc, ◌+◌, ◌<◌, ◌≤◌, max, length, List, [], ◌∷◌, Bool, true, false, nat_eq, ◌&&◌, Option, Some, None, ap, refl, sym, ◌∙◌, subst, arith, le_trans, if◌then◌else◌}
+use Rattle.std.proofs.Common.{◌≡◌, ℕ, zero, suc, ◌+◌, ◌<◌, ◌≤◌, max, length, List, [], ◌∷◌, Bool, true, false, ◌&&◌, Option, Some, None, ap, refl, sym, ◌∙◌, subst, arith, le_trans, if◌then◌else◌}
 use Rattle.std.specs.Prelude.{filter, option_map, unwrap_or, slice_get}
-use Rattle.scc_bits_kinds.specs.declared.kind.Kind.{Kind}
 use Rattle.scc_semantics.specs.Location.{Location, Root, Top, Local, Answer}
-use Rattle.scc_semantics.specs.Places.{Signal, Sort}
+use Rattle.scc_semantics.specs.Places.{Sort}
 use Rattle.scc_semantics.specs.Design.{Process, Design, inputs}
 use Rattle.scc_semantics.specs.Process.{State, Phase, Went, Well, and_then, is_levels, resume, update}
 use Rattle.scc_semantics.specs.Run.{Step, Shown, AllFit, FitSteps, observed, with_inputs, restarts_by, has_edge}
-use Rattle.scc_semantics.specs.Start.{IsProper, IsStart}
+use Rattle.scc_semantics.specs.Start.{IsProper}
 use Rattle.scc_semantics.specs.Schedule.{Running, process_at, senses_of, has_changed, must_run, is_method, among, Covers, starting, run_list, round, found_after, Settles, last, goes, EachOnce, Begins, Edged, Scheduled, done, held as holding, edged, fresh, AnyOrder}
 use Rattle.scc_semantics.specs.Same.{is_own, is_others, SameDesign}
 use Rattle.scc_semantics.specs.Steady.{IsSteady}
-use Rattle.scc_semantics_laws.specs.Alike.{SameHeld}
-use Rattle.scc_semantics_laws.proofs.Sim.{Own, Ties, Alike, AlikeStates, Goes, middle, at_index, at_index-is, at_index-within, other-index, other-index-up, ties-stay, goes-well, goes-then, updated-alike, inputs-alike, observed-same, well-is, well-same}
+use Rattle.scc_semantics_laws.proofs.Sim.{Own, Ties, Alike, AlikeStates, Goes, middle, at_index, at_index-is, at_index-within, other-index, ties-stay, goes-well, goes-then, updated-alike, inputs-alike, observed-same, well-is, well-same}
 use Rattle.scc_semantics_laws.proofs.Step.{Tie, tie-stays}
 use Rattle.scc_semantics_laws.proofs.Runs.{fast-resume, fast-lets, same-inputs, same-outputs, given, held, ties, fast-runs}
 use Rattle.scc_semantics_laws.proofs.Carried.{starting_with, start-too, steps-fit}
@@ -25,7 +23,7 @@ seen-not-own-up i j (Answer n calls) l h = grind arith
 some-is : {A : Type 0} {x y : A} → Some x ≡ Some y → x ≡ y
 some-is e = cc
 
-abbrev Free : ℕ → ℕ → Type 0
+abbrev pub Free : ℕ → ℕ → Type 0
 Free j n = Unit {0}
 
 module _ (k : ℕ) (d e : Design) (s : SameDesign k d e) (steady : IsSteady e) (b : ℕ → ℕ) where
@@ -102,7 +100,7 @@ module _ (k : ℕ) (d e : Design) (s : SameDesign k d e) (steady : IsSteady e) (
       (λ ux uy ox oy m. put i i 0 (omega arith) d.processes e.processes sx sy ux uy a.ties ox oy m) w.0 w.1)
       (λ uy al. list-goes is signals w.0 uy proper al tx w.2)
 
-  round-goes : (runs : List ℕ) (sx sy : State) → Same sx sy → (tx : State) → round b d runs sx ≡ Well tx → GoesTo State (λ c. round c e runs sy) (Same tx)
+  pub round-goes : (runs : List ℕ) (sx sy : State) → Same sx sy → (tx : State) → round b d runs sx ≡ Well tx → GoesTo State (λ c. round c e runs sy) (Same tx)
   round-goes runs sx sy a tx eq =
       let w = well-is (run_list b d sx.store.words runs (starting sx)) (λ t. Well (update b d t)) tx eq in
       let ended : update b d w.0 ≡ tx = well-same (update b d w.0) tx w.2 in
@@ -113,7 +111,7 @@ module _ (k : ℕ) (d e : Design) (s : SameDesign k d e) (steady : IsSteady e) (
       (updated-alike d d e b Free (Tie k d e) (fast-lets k d e b) is_levels d.processes e.processes 0 w.0 ty al))))
 
   -- running alike
-  record AlikeR (r t : Running) : Type 0 where
+  pub record AlikeR (r t : Running) : Type 0 where
     pub states : Same r.state t.state
     pub found : (i : ℕ) → r.found i ≡ t.found i
 
@@ -140,14 +138,14 @@ module _ (k : ℕ) (d e : Design) (s : SameDesign k d e) (steady : IsSteady e) (
       by None (Some q) m = absurd m
       by (Some p) None m = absurd m
 
-  covers-too : (r t : Running) (runs : List ℕ) → AlikeR r t → Covers d r runs → Covers e t runs
+  pub covers-too : (r t : Running) (runs : List ℕ) → AlikeR r t → Covers d r runs → Covers e t runs
   covers-too r t runs a c = record { methods = λ i h. sym (method-same i r t a) ∙ c.methods i h; all = λ i h. c.all i (must-same i r t a ∙ h) }
 
-  found-same : (runs : List ℕ) (r t : Running) → AlikeR r t → (i : ℕ) → found_after b d runs r i ≡ found_after b e runs t i
+  pub found-same : (runs : List ℕ) (r t : Running) → AlikeR r t → (i : ℕ) → found_after b d runs r i ≡ found_after b e runs t i
   found-same runs r t a i = λ z. if among i runs then Some (a.states.held.words z) else a.found i z
 
   -- what stays so with greater bounds
-  record Comes (t : Running) (R : (ℕ → ℕ) → Running → Type 0) : Type 0 where
+  pub record Comes (t : Running) (R : (ℕ → ℕ) → Running → Type 0) : Type 0 where
     pub most : ℕ
     pub to : Running
     pub alike : AlikeR t to
@@ -174,7 +172,7 @@ module _ (k : ℕ) (d e : Design) (s : SameDesign k d e) (steady : IsSteady e) (
         runs = λ c h. goes runs g.to (covers-too r u runs a cov) (g.runs c (λ i. let hi = h i in let wi = g.within i in omega arith)) (more.runs c (λ i. let hi = h i in omega arith));
       }
 
-  as-many : (T : Sort → Bool) (ps qs : List Process) (i : ℕ) (sx sy : Phase) → TiesAt i ps qs sx sy → length (filter (λ p. T p.sort) ps) ≡ length (filter (λ p. T p.sort) qs)
+  pub as-many : (T : Sort → Bool) (ps qs : List Process) (i : ℕ) (sx sy : Phase) → TiesAt i ps qs sx sy → length (filter (λ p. T p.sort) ps) ≡ length (filter (λ p. T p.sort) qs)
   as-many T [] [] i sx sy t = refl
   as-many T (p ∷ ps) (q ∷ qs) i sx sy t = by (T p.sort) (T q.sort) (ap T t.0) (as-many T ps qs (i + 1) sx sy t.2)
     where
@@ -187,7 +185,7 @@ module _ (k : ℕ) (d e : Design) (s : SameDesign k d e) (steady : IsSteady e) (
   as-many T [] (q ∷ qs) i sx sy t = absurd t
   as-many T (p ∷ ps) [] i sx sy t = absurd t
 
-  once-too : (T : Sort → Bool) (order : List ℕ) (c : ℕ → ℕ) (sx sy : Phase) → TiesAt 0 d.processes e.processes sx sy → EachOnce b d (λ p. T p.sort) order → EachOnce c e (λ p. T p.sort) order
+  pub once-too : (T : Sort → Bool) (order : List ℕ) (c : ℕ → ℕ) (sx sy : Phase) → TiesAt 0 d.processes e.processes sx sy → EachOnce b d (λ p. T p.sort) order → EachOnce c e (λ p. T p.sort) order
   once-too T order c sx sy t o = record {
     all = λ i q at test. all-by i (process_at d i) (process_at e i) (look i i 0 (omega arith) d.processes e.processes sx sy t) (o.all i) q at test;
     only = λ i a. only-by i (process_at d i) (process_at e i) (look i i 0 (omega arith) d.processes e.processes sx sy t) (o.only i a);

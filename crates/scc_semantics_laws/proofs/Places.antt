@@ -1,10 +1,9 @@
 -- Locations that are the same are equal; whose a root is; words that stay proper.
-use Rattle.std.proofs.Common.{◌≡◌, ℕ, ◌+◌, ◌<◌, ◌≤◌, List, [], ◌∷◌, ◌++◌, Bool, true, false, not, ◌&&◌, nat_eq, Option, Some, None, ap, refl, sym, ◌∙◌, subst, arith, if◌then◌else◌}
-use Rattle.std.specs.List.{list_any}
+use Rattle.std.proofs.Common.{◌≡◌, ℕ, ◌+◌, ◌<◌, List, [], ◌∷◌, ◌++◌, Bool, true, false, ◌&&◌, nat_eq, Option, Some, None, ap, refl, sym, subst, arith, if◌then◌else◌}
 use Rattle.scc_semantics.specs.Location.{Location, Part, Member, Element, Root, Top, Local, Answer, same_part, same_path, same_calls, same_root, same}
 use Rattle.scc_semantics.specs.Store.{Request, changed, updated}
 use Rattle.scc_semantics.specs.Design.{Design}
-use Rattle.scc_semantics.specs.Run.{AllFit, FitsThing, set_inputs}
+use Rattle.scc_semantics.specs.Run.{AllFit, set_inputs}
 use Rattle.scc_semantics.specs.Start.{IsProper, HoldsConstant}
 use Rattle.scc_semantics.specs.Same.{is_own, is_others, same_target}
 use Rattle.scc_semantics.specs.Steady.{IsProperAt, AllProperRequests}

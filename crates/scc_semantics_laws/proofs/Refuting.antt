@@ -1,18 +1,16 @@
 -- By the old definition runs of designs that mean the same differ.
-use Rattle.std.proofs.Common.{◌≡◌, inl, inr, ◌⊎◌, ℕ, zero, suc, ◌*◌, ◌<◌, ◌^◌, List, [], ◌∷◌, map, Bool, true, false, Option, Some, None, refl, sym, ap, ◌∙◌, subst, one-mul, arith, if◌then◌else◌}
+use Rattle.std.proofs.Common.{◌≡◌, inl, inr, ◌⊎◌, ℕ, zero, suc, ◌*◌, ◌<◌, ◌^◌, List, [], ◌∷◌, map, Bool, true, false, Some, None, refl, sym, ap, ◌∙◌, subst, one-mul, arith, if◌then◌else◌}
 use Rattle.scc_bits_kinds.specs.Kinds.{width_of}
 use Rattle.scc_bits_kinds.specs.declared.kind.Kind.TheVariants as kind
 use Rattle.scc_semantics.specs.Location.{Location, same}
 use Rattle.scc_semantics.specs.Store.{changed}
-use Rattle.scc_semantics.specs.Scene.{Names}
-use Rattle.scc_semantics.specs.Body.{End}
 use Rattle.scc_semantics.specs.Design.{Process, Design}
-use Rattle.scc_semantics.specs.Value.{Held, with_targets}
-use Rattle.scc_semantics.specs.Machine.{Mark, Inner, Frames, Stop, Go, Outcome, Ended, Unfinished, run}
+use Rattle.scc_semantics.specs.Value.{with_targets}
+use Rattle.scc_semantics.specs.Machine.{Stop, Outcome, Ended, Unfinished}
 use Rattle.scc_semantics.specs.Process.{Went, Well, Failed, first_frames}
 use Rattle.scc_semantics.specs.Run.{Step, Shown, shown}
-use Rattle.scc_semantics.specs.Start.{IsProper, IsStart}
-use Rattle.scc_semantics_laws.specs.Old.{Turn, Seen, Middle, seen_of, left_in, resumed, Plays, AllProper, at_first, MeansTheSame, AllTheSame, SameDesign}
+use Rattle.scc_semantics.specs.Start.{IsStart}
+use Rattle.scc_semantics_laws.specs.Old.{Turn, Seen, Middle, seen_of, left_in, resumed, Plays, at_first, MeansTheSame, SameDesign}
 use Rattle.scc_semantics_laws.specs.Refuted.{OldLaw, member, aims, rests, copies, direct, of_two, moving, resolved, start_of}
 use Rattle.scc_semantics_laws.proofs.Two.{on, standing, go, at_stop, at_end, case-of, is-steady}
 

@@ -1,24 +1,24 @@
 -- Designs that mean the same run alike, where one of them is steady.
-use Rattle.std.proofs.Common.{◌≡◌, ◌⊎◌, inl, inr, ⊎_elim, ℕ, ◌+◌, ◌*◌, ◌≤◌, List, [], ◌∷◌, append-nil, Bool, true, false, not, ◌||◌, Option, Some, None, ap, refl, sym, ◌∙◌, subst, arith, if◌then◌else◌, max}
+use Rattle.std.proofs.Common.{◌≡◌, ◌⊎◌, inl, inr, ℕ, ◌+◌, ◌*◌, ◌≤◌, List, [], ◌∷◌, append-nil, Bool, true, false, not, ◌||◌, Option, Some, None, ap, refl, sym, ◌∙◌, subst, arith, if◌then◌else◌}
 use Rattle.std.specs.Prelude.{filter}
 use Rattle.std.specs.List.{list_any}
 use Rattle.scc_semantics.specs.Location.{Location, same}
 use Rattle.scc_semantics.specs.Store.{Request}
-use Rattle.scc_semantics.specs.Design.{Process, Design, TopPort, has_clock, is_input, locations, inputs, outputs}
+use Rattle.scc_semantics.specs.Design.{Process, Design, has_clock, is_input, locations, inputs, outputs}
 use Rattle.scc_semantics.specs.Machine.{Frames, Outcome, run}
 use Rattle.scc_semantics.specs.Process.{State, Phase, Went, Well, Failed, first_frames, resumed_frames, left_by, resume}
 use Rattle.scc_semantics.specs.Run.{Step, Shown, Shows, shown, FitsThing, AllFit, FitSteps, set_inputs}
 use Rattle.scc_semantics.specs.Start.{IsProper, HoldsConstant, AllFirst, IsStart}
 use Rattle.scc_semantics.specs.Schedule.{starting}
-use Rattle.scc_semantics.specs.Same.{Turn, Seen, Middle, is_others, seen_of, leading, left_in, resumed, Plays, MeansTheSame, AllProper, at_first, AllTheSame, SameDesign}
+use Rattle.scc_semantics.specs.Same.{Turn, Seen, is_others, seen_of, leading, left_in, resumed, MeansTheSame, at_first, AllTheSame, SameDesign}
 use Rattle.scc_semantics.specs.Steady.{plain_body, IsProperAt, AllProperRequests, AllProperSeen, IsSteadyProcess, AllSteady, IsSteady}
 use Rattle.scc_semantics_laws.specs.Alike.{SameHeld}
-use Rattle.scc_semantics_laws.specs.Words.{PlainFrames, aimed, all_aimed, behind, all_behind}
+use Rattle.scc_semantics_laws.specs.Words.{PlainFrames, aimed, all_aimed, all_behind}
 use Rattle.scc_semantics_laws.proofs.Before.{run-behind}
 use Rattle.scc_semantics_laws.proofs.Blind.{run-blind}
 use Rattle.scc_semantics_laws.proofs.Order.{all-proper-too}
 use Rattle.scc_semantics_laws.proofs.Places.{same-self, proper-at, proper-by, AllFree, inputs-proper}
-use Rattle.scc_semantics_laws.proofs.Sim.{Own, Resumed, Lets, Ties, AlikeStates, Goes, AllFits, middle, well-same, shown-goes}
+use Rattle.scc_semantics_laws.proofs.Sim.{Own, Resumed, Lets, Ties, AllFits, middle, well-same, shown-goes}
 use Rattle.scc_semantics_laws.proofs.Step.{AlikeIn, starts_over, starts, finds, starts-from, later-left, behind-over, aimed-over, over-seen, well-seen, well-seen-aimed, Tie, tie-stays, goes-slow, goes-fast, steady-now, steady-next, Both, joins}
 
 pub flipped : (d : Design) (sx sy : Phase) → SameHeld d sx sy → SameHeld d sy sx

@@ -1,17 +1,15 @@
 -- Runs of a whole design follow from resumes of its processes. One design runs, X, with the bounds b; the other, Y, then runs too.
 use Rattle.std.proofs.Common.{◌≡◌, ℕ, zero, suc, ◌+◌, ◌<◌, ◌≤◌, max, length, List, [], ◌∷◌, Bool, true, false, nat_eq, Option, Some, None, ap, refl, sym, ◌∙◌, subst, arith, if◌then◌else◌}
 use Rattle.std.specs.Prelude.{filter, map}
-use Rattle.scc_semantics.specs.Location.{Location, Root}
+use Rattle.scc_semantics.specs.Location.{Location}
 use Rattle.scc_semantics.specs.Store.{updated}
 use Rattle.scc_semantics.specs.Places.{Sort}
 use Rattle.scc_semantics.specs.Design.{Process, Design, inputs, outputs}
-use Rattle.scc_semantics.specs.Machine.{Frames}
 use Rattle.scc_semantics.specs.Process.{State, Phase, Went, Well, Failed, and_then, is_levels, is_combinational, resume, resume_all, update, phase, rounds, settle}
-use Rattle.scc_semantics.specs.Run.{Step, Observation, Shown, word_at, observed, set_inputs, with_inputs, restarts_by, restarts, has_edge, resumes_at, begun, edged, finished, step, shown}
+use Rattle.scc_semantics.specs.Run.{Step, Shown, word_at, observed, set_inputs, with_inputs, restarts_by, restarts, has_edge, resumes_at, begun, edged, finished, step, shown}
 use Rattle.scc_semantics.specs.Start.{IsProper}
 use Rattle.scc_semantics.specs.Schedule.{starting}
 use Rattle.scc_semantics.specs.Same.{Middle, is_own, is_others}
-use Rattle.scc_semantics.specs.Steady.{AllProperRequests}
 use Rattle.scc_semantics_laws.specs.Alike.{SameHeld}
 use Rattle.scc_semantics_laws.proofs.Places.{Below, below-not-own, below-next, seen-below, seen-not-own, updated-proper}
 

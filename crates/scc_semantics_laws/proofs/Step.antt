@@ -1,11 +1,11 @@
 -- One resume of a process on both sides of designs that mean the same.
-use Rattle.std.proofs.Common.{◌≡◌, ◌⊎◌, inl, inr, ℕ, zero, suc, ◌+◌, ◌*◌, ◌≤◌, List, [], ◌∷◌, ◌++◌, append-nil, map, Bool, true, false, not, nat_eq, Option, Some, None, ap, refl, sym, ◌∙◌, subst, arith, if◌then◌else◌}
+use Rattle.std.proofs.Common.{◌≡◌, ◌⊎◌, inl, inr, ℕ, ◌*◌, ◌≤◌, List, [], ◌∷◌, ◌++◌, map, Bool, true, false, not, nat_eq, Option, Some, ap, refl, sym, ◌∙◌, subst, arith, if◌then◌else◌}
 use Rattle.scc_semantics.specs.Location.{Location}
 use Rattle.scc_semantics.specs.Store.{Request}
 use Rattle.scc_semantics.specs.Places.{Sort, Combinational, Clocked, Thread}
 use Rattle.scc_semantics.specs.Design.{Process, Design}
 use Rattle.scc_semantics.specs.Value.{Held}
-use Rattle.scc_semantics.specs.Machine.{Frames, Stop, Go, Outcome, Suspended, Ended, Stuck, Unfinished, run}
+use Rattle.scc_semantics.specs.Machine.{Frames, Stop, Outcome, Suspended, Ended, Stuck, Unfinished, run}
 use Rattle.scc_semantics.specs.Process.{Phase, Went, Well, Failed, first_frames, is_reset, resumed_frames, framed, is_thread, suspended, left_by}
 use Rattle.scc_semantics.specs.Start.{IsProper}
 use Rattle.scc_semantics.specs.Same.{Turn, Ending, Waits, Ends, Sticks, Seen, Middle, is_own, is_others, same_target, moved, seen_as, seen_of, leading, left_in, resumed, Plays, AllProper}
@@ -13,8 +13,6 @@ use Rattle.scc_semantics.specs.Steady.{plain_body, AllProperRequests, AllProperS
 use Rattle.scc_semantics_laws.specs.Alike.{SameHeld}
 use Rattle.scc_semantics_laws.specs.Words.{IsOver, PlainFrames, PlainLeft, aimed, all_aimed, behind, all_behind}
 use Rattle.scc_semantics_laws.proofs.Bound.{run-later, run-one}
-use Rattle.scc_semantics_laws.proofs.Before.{run-behind}
-use Rattle.scc_semantics_laws.proofs.Blind.{run-blind}
 use Rattle.scc_semantics_laws.proofs.Places.{target-is, target-self, append-proper}
 use Rattle.scc_semantics_laws.proofs.Sim.{Own, middle}
 

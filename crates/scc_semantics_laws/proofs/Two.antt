@@ -1,23 +1,21 @@
 -- What two small processes come to.
-use Rattle.std.proofs.Common.{◌≡◌, ◌⊎◌, inl, inr, ◌*◌, ℕ, zero, suc, ◌<◌, ◌^◌, List, [], ◌∷◌, map, Bool, true, false, not, Option, Some, None, refl, sym, ap, ◌∙◌, subst, one-mul, arith, if◌then◌else◌}
+use Rattle.std.proofs.Common.{◌≡◌, ◌⊎◌, inl, inr, ◌*◌, ℕ, zero, suc, List, [], ◌∷◌, map, Bool, true, false, Option, Some, None, refl, sym, ap, ◌∙◌, subst, one-mul, if◌then◌else◌}
 use Rattle.std.specs.Prelude.{option_map}
-use Rattle.std.specs.List.{list_any}
-use Rattle.scc_bits_kinds.specs.declared.kind.Kind.TheVariants as kind
-use Rattle.scc_semantics.specs.Location.{Location, same}
+use Rattle.scc_semantics.specs.Location.{Location}
 use Rattle.scc_semantics.specs.Store.{changed}
-use Rattle.scc_semantics.specs.Scene.{Names, loaded, pointed, followed}
+use Rattle.scc_semantics.specs.Scene.{Names, pointed, followed}
 use Rattle.scc_semantics.specs.Body.{End}
-use Rattle.scc_semantics.specs.Design.{Process, Design, inputs}
-use Rattle.scc_semantics.specs.Value.{Held, with_words, put_at}
-use Rattle.scc_semantics.specs.Machine.{Inner, Frames, Stop, Go, Outcome, Suspended, Ended, Stuck, Unfinished, unless_stuck, run}
+use Rattle.scc_semantics.specs.Design.{Process}
+use Rattle.scc_semantics.specs.Value.{Held}
+use Rattle.scc_semantics.specs.Machine.{Inner, Frames, Stop, Go, Outcome, Ended, Unfinished, unless_stuck, run}
 use Rattle.scc_semantics.specs.Process.{first_frames}
 use Rattle.scc_semantics.specs.Start.{IsProper}
 use Rattle.scc_semantics.specs.Same.{Turn, Seen, Middle, Ends, seen_as, seen_of, leading, left_in, resumed, Plays, AllProper, at_first, SameDesign}
-use Rattle.scc_semantics.specs.Steady.{AllProperRequests, AllProperSeen, IsProperAt, IsSteadyProcess, IsSteady}
-use Rattle.scc_semantics.specs.Same.{is_others, MeansTheSame}
-use Rattle.scc_semantics_laws.proofs.Places.{proper-at, changed-proper}
+use Rattle.scc_semantics.specs.Steady.{AllProperRequests, AllProperSeen, IsSteady}
+use Rattle.scc_semantics.specs.Same.{is_others}
+use Rattle.scc_semantics_laws.proofs.Places.{changed-proper}
 use Rattle.scc_semantics_laws.proofs.Means.{Similar, means-by}
-use Rattle.scc_semantics_laws.specs.Refuted.{member, aims, rests, copies, direct, of_two, staying, resolved}
+use Rattle.scc_semantics_laws.specs.Refuted.{member, rests, copies, direct, staying, resolved}
 
 abbrev pub on : (Location → ℕ) → (Location → Option Location) → Held
 on w t = record { store = record { words = w; targets = t }; requests = [] }

@@ -1,5 +1,5 @@
 -- The numbers of waits don't show: a design with every wait numbered 0 means the same.
-use Rattle.std.proofs.Common.{◌≡◌, ℕ, zero, suc, ◌+◌, ◌*◌, List, [], ◌∷◌, Bool, true, false, map, Option, Some, None, refl, sym, ap, ◌∙◌, subst, one-mul, if◌then◌else◌}
+use Rattle.std.proofs.Common.{◌≡◌, ℕ, zero, suc, ◌+◌, List, [], ◌∷◌, Bool, true, false, map, Option, Some, None, refl, sym, ap, ◌∙◌, subst, one-mul, if◌then◌else◌}
 use Rattle.scc_semantics.specs.Location.{Location}
 use Rattle.scc_semantics.specs.Places.{Places}
 use Rattle.scc_semantics.specs.Expressions.{Expr, Argument, Value, Place}
@@ -8,9 +8,9 @@ use Rattle.scc_semantics.specs.Scene.{Names, Scene, followed}
 use Rattle.scc_semantics.specs.Body.{Body, End, Assign, Point, Clear, If, Block, Loop, Exit, Call, Begin, Pass, Return, Wait}
 use Rattle.scc_semantics.specs.Design.{Process, Design}
 use Rattle.scc_semantics.specs.Value.{Held, locate, value, target_of, with_words, with_targets, put_at, local, answer, called, object_of}
-use Rattle.scc_semantics.specs.Machine.{Mark, Inner, BehindBlock, BehindCall, Frames, Stop, Go, Outcome, Suspended, Ended, Stuck, Unfinished, Next, leave, return, caller, pick, one_less, waiting, unless_stuck, pointed_at, cleared, scene, passed, returned, act, idle, run}
+use Rattle.scc_semantics.specs.Machine.{Inner, BehindBlock, BehindCall, Frames, Stop, Go, Outcome, Suspended, Ended, Stuck, Unfinished, Next, leave, return, caller, pick, one_less, waiting, unless_stuck, pointed_at, cleared, scene, passed, returned, act, idle, run}
 use Rattle.scc_semantics.specs.Process.{first_frames}
-use Rattle.scc_semantics.specs.Same.{Turn, Seen, Middle, seen_of, leading, left_in, resumed, Plays, at_first, MeansTheSame, AllTheSame, SameDesign}
+use Rattle.scc_semantics.specs.Same.{Turn, Seen, Middle, seen_of, leading, left_in, resumed, AllTheSame, SameDesign}
 use Rattle.scc_semantics_laws.specs.Words.{unnumbered, unnumbered_frames, unnumbered_left, unnumbered_process, unnumbered_design}
 use Rattle.scc_semantics_laws.proofs.Means.{Similar, means-by}
 

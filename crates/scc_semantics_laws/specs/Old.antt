@@ -1,4 +1,4 @@
--- The definition of meaning the same as it was before this trial, to show that it is too weak.
+-- A definition of meaning the same that says nothing of what other processes leave in pointers, to show that it is too weak.
 use Rattle.std.specs.Prelude.{◌≡◌, ℕ, ◌+◌, ◌*◌, Bool, List, [], ◌∷◌, map, Option, Some, None, if◌then◌else◌}
 use Rattle.scc_semantics.specs.Location.{Location}
 use Rattle.scc_semantics.specs.Store.{Request}

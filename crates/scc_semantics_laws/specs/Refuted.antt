@@ -1,5 +1,5 @@
 -- The law on runs, by the old definition; and two designs of which it doesn't hold.
-use Rattle.std.specs.Prelude.{◌≡◌, ℕ, ◌*◌, nat_eq, Bool, true, false, List, [], ◌∷◌, Option, Some, None, if◌then◌else◌}
+use Rattle.std.specs.Prelude.{◌≡◌, ℕ, ◌*◌, nat_eq, true, false, List, [], ◌∷◌, Some, None, if◌then◌else◌}
 use Rattle.scc_bits_kinds.specs.declared.kind.Kind.TheVariants as kind
 use Rattle.scc_semantics.specs.Location.{Location, Top, Member, same}
 use Rattle.scc_semantics.specs.Places.{Number, Combinational}

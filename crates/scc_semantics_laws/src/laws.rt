@@ -11,6 +11,7 @@ ghost use Rattle.scc_semantics.specs.Process.{State, Well};
 ghost use Rattle.scc_semantics.specs.Run.{Step, Shown, Shows, FitSteps, shown};
 ghost use Rattle.scc_semantics.specs.Start.{IsStart};
 ghost use Rattle.scc_semantics.specs.Statement.{AllSame, ShowsTheSame};
+ghost use Rattle.scc_semantics.specs.Rounds.{EndsSoon};
 ghost use Rattle.scc_semantics.specs.Schedule.{AnyOrder};
 ghost use Rattle.scc_semantics.specs.Same.{SameDesign};
 ghost use Rattle.scc_semantics.specs.Steady.{IsSteady};
@@ -56,9 +57,10 @@ pub fn numbers_of_waits_do_not_show()
     ensures { (d : Design) → SameDesign 1 d (unnumbered_design d) }
 {}
 
-/// What means the same as a steady design shows the same in any order, where that design does.
+/// What means the same as a steady design shows the same in any order, where that design does, and its settling ends as soon.
 pub fn what_means_the_same_runs_in_any_order()
-    ensures { (k : ℕ) (d e : Design) → SameDesign k d e → IsSteady e → (registers : Location → Bool) → AnyOrder registers e → AnyOrder registers d }
+    ensures shows { (k : ℕ) (d e : Design) → SameDesign k d e → IsSteady e → (registers : Location → Bool) → AnyOrder registers e → AnyOrder registers d }
+    ensures ends { (k : ℕ) (d e : Design) → SameDesign k d e → IsSteady e → EndsSoon e → EndsSoon d }
 {}
 
 /// Where what a process makes of pointers isn't seen, and those of others aren't found, designs that mean the same don't run alike.

@@ -25,7 +25,8 @@ use Rattle.scc_states_path_laws.specs.Moved as moved
 use Rattle.scc_states_laws.specs.Same.{SameDone, SameRan}
 use Rattle.scc_blocks_spec.specs.Acting.{Acting, word_in, steps_in, cell_named, picked, put_in, with_word, with_asked}
 use Rattle.scc_states_path_laws.specs.Moved.{World, around, put_on, word_of, Done, Halted, then_done, shut_done, or_sticks, either_done, then_run, either_halted, effect_on, run_on}
-use Rattle.scc_states_laws.specs.Alike.{Names, TellsApart, Alike, is_number, IsFit, IsFitLeft, IsFitPick, IsFitCode, IsFitSegment, last_to, or_before}
+use Rattle.scc_states_laws.specs.Alike.{Names, TellsApart, Alike, IsFit, IsFitLeft, IsFitPick, IsFitCode, IsFitSegment, last_to, or_before}
+use Rattle.scc_core_spec.specs.Program.{is_number}
 use Rattle.scc_states_laws.proofs.Values.{some_same, map_is, then_is, cell_of, w, E, F, kind_is, thing_at, nothing_at, root_is, port_names, located, valued}
 
 push_if : (b : Bool) (v : ℕ) (o x : Option ℕ) → or_before (if b then Some v else o) x ≡ (if b then Some v else or_before o x)

@@ -9,7 +9,7 @@ use Rattle.scc_core_spec.specs.Static.{Cells, goes}
 use Rattle.scc_core_spec.specs.Live.{Alive, alive, live, then_alive, by_test, looped, shut}
 use Rattle.scc_core_spec.specs.Segments.{opens}
 use Rattle.scc_core_spec.specs.Rules.{waits, wait_in_method}
-use Rattle.scc_states_path_laws.specs.Exits.{exits_within}
+use Rattle.scc_core_spec.specs.Exits.{exits_within}
 use Rattle.scc_states_path_laws.proofs.Codes.{or_parts}
 use Rattle.scc_states_path_laws.proofs.Exits.{and_both}
 use Rattle.scc_states_laws.proofs.Standing.{none_at, no_first}

@@ -13,7 +13,7 @@ use Rattle.scc_blocks_spec.specs.Acting.{Acting}
 use Rattle.scc_blocks_spec.specs.Comes.{Keeps}
 use Rattle.scc_blocks_spec.specs.Effect.{Place}
 use Rattle.scc_states_laws.specs.Alike.{acting_of, IsFitCode, TellsApart}
-use Rattle.scc_states_path_laws.specs.Exits.{exits_within}
+use Rattle.scc_core_spec.specs.Exits.{exits_within}
 use Rattle.scc_states_laws.specs.Processes.{Reached, running_of, world_of}
 use Rattle.scc_states_path_laws.specs.Tracks.{Tracks, MayEnd, frames_of}
 use Rattle.scc_states_laws.specs.Turned.{StandsAt, LeftSo, IsPlace, ComesToWaits}

@@ -20,7 +20,9 @@ use Rattle.scc_core_spec.specs.Source.{Home, location_of, cell_location, cell_le
 use Rattle.scc_blocks_spec.specs.Acting.{Acting, word_in, steps_in, cell_named, word_or_zero}
 use Rattle.scc_states_path_laws.specs.Moved.{World, around}
 use Rattle.scc_states_laws.specs.Processes.{world_of}
-use Rattle.scc_states_laws.specs.Alike.{Names, base, member, element, TellsApart, Alike, is_number, is_read, IsFit, IsFitLeft, IsCellName}
+use Rattle.scc_states_laws.specs.Alike.{Names, base, member, element, TellsApart, Alike, IsFit, IsFitLeft, IsCellName}
+use Rattle.scc_core_spec.specs.Fit.{is_read}
+use Rattle.scc_core_spec.specs.Program.{is_number}
 
 pub some_same : {A : Type 0} {x y : A} → Some x ≡ Some y → x ≡ y
 some_same {A} {x} {y} e = ap (λ o. unwrap_or o x) e

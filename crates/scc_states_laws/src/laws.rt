@@ -19,7 +19,7 @@ ghost use Rattle.scc_core_spec.specs.Static.{Cells};
 ghost use Rattle.scc_blocks_spec.specs.Comes.{Comes, Keeps, fresh};
 ghost use Rattle.scc_states_laws.specs.Alike.{acting_of, Alike, IsFitCode, TellsApart};
 ghost use Rattle.scc_states_path_laws.specs.Aside.{aside, behind};
-ghost use Rattle.scc_states_path_laws.specs.Exits.{exits_within};
+ghost use Rattle.scc_core_spec.specs.Exits.{exits_within};
 ghost use Rattle.scc_states_laws.specs.InTime.{CoreInTime, DesignInTime, NeverStuck};
 ghost use Rattle.scc_states_path_laws.specs.Moved.{World, effect_on, Fell};
 ghost use Rattle.scc_states_laws.specs.Processes.{HoldsFixed, Reached, running_of, world_of};

@@ -8,7 +8,7 @@ use Rattle.scc_core_spec.specs.Term.{Term}
 use Rattle.scc_core_spec.specs.Code.{Code, Count, End, Put, Aim, If, Block, Loop, Exit, Wait}
 use Rattle.scc_core_spec.specs.Static.{Cells, goes}
 use Rattle.scc_core_spec.specs.Live.{Alive, alive, then_alive, by_test, looped, shut}
-use Rattle.scc_states_path_laws.specs.Exits.{exits_within}
+use Rattle.scc_core_spec.specs.Exits.{exits_within}
 use Rattle.scc_states_path_laws.specs.Tracks.{MayEnd}
 use Rattle.scc_states_path_laws.proofs.Alive.{or_true}
 

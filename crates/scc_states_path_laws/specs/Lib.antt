@@ -1,5 +1,4 @@
 pub mod Moved
 pub mod Within
 pub mod Tracks
-pub mod Exits
 pub mod Aside

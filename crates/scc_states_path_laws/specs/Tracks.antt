@@ -19,7 +19,7 @@ steps_of c = (loops_deep c + 1) * size c
 
 -- some path comes to the end, or leaves more blocks than stand around
 abbrev pub MayEnd : Cells → Code → Type 0
-pub MayEnd cs c = ((alive cs c).ends ≡ true) ⊎ ((j : ℕ) × ((alive cs c).leaves j ≡ true))
+MayEnd cs c = ((alive cs c).ends ≡ true) ⊎ ((j : ℕ) × ((alive cs c).leaves j ≡ true))
 
 module _ (w : World) (c : Code) where
   abbrev pub frames_of : Place → Option Frames

@@ -23,7 +23,7 @@ pub record Along (w : World) : Type 1 where
 
 -- a condition that is static is what it is
 abbrev pub Chooses : World → (Held → Type 0) → Term → Type 0
-pub Chooses w Holds t = (h : Held) → Holds h → (y : Bool) → goes w.cells t ≡ Some y → (v : ℕ) × (word_of w t h ≡ Some v) × (is_true v ≡ y)
+Chooses w Holds t = (h : Held) → Holds h → (y : Bool) → goes w.cells t ≡ Some y → (v : ℕ) × (word_of w t h ≡ Some v) × (is_true v ≡ y)
 
 abbrev pub Tests : World → (Held → Type 0) → Code → Type 0
 Tests w Holds End = Unit {0}

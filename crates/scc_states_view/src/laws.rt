@@ -1,5 +1,5 @@
 //! Laws on what passes answer.
-ghost use Rattle.std.specs.Prelude.{◌≡◌, ℕ, ◌+◌, true, false, List, [], ◌∷◌, map, unwrap_or, slice_get, Result, Ok, Err, Some, None};
+ghost use Rattle.std.specs.Prelude.{◌≡◌, ℕ, ◌+◌, List, [], ◌∷◌, map, unwrap_or, slice_get, Result, Ok, Err, Some};
 ghost use Rattle.scc_base.specs.declared.refusal.Place.{Place};
 ghost use Rattle.scc_base.specs.declared.refusal.Refusal.{Refusal};
 ghost use Rattle.scc_base.specs.declared.refusal.Stop.TheVariants as stop;
@@ -7,27 +7,16 @@ ghost use Rattle.scc_core.specs.declared.stmt.CoreStmt.{CoreStmt};
 ghost use Rattle.scc_core.specs.declared.expr.CoreExpr.{CoreExpr};
 ghost use Rattle.scc_states.specs.declared.types.SegStmt.{SegStmt};
 ghost use Rattle.scc_states.specs.declared.types.SegNode.TheVariants as node;
-ghost use Rattle.scc_core_spec.specs.Resolved.{Made, Stopped, made_map};
+ghost use Rattle.scc_core_spec.specs.Resolved.{Made, Stopped};
 ghost use Rattle.scc_core_spec.specs.Segments.{Segment, Plain, Test, Halt};
 ghost use Rattle.scc_core_spec.specs.Static.{Cells};
-ghost use Rattle.scc_core_spec.specs.Unpointed.{unpointed};
-ghost use Rattle.scc_core_spec.specs.Worked.{pointer_cells, through};
-ghost use Rattle.scc_core_spec.specs.WorkedRun.{counting};
 ghost use Rattle.scc_core_view.specs.Codes.{code_of};
 ghost use Rattle.scc_core_view.specs.Kinded.{kinded, kinded_code};
 ghost use Rattle.scc_core_view.specs.Terms.{term_of};
 ghost use Rattle.scc_states_view.specs.Answers.{Answers, said_by, unless};
-ghost use Rattle.scc_states_view.specs.IsResolved.{IsResolved, is_resolved_code};
 ghost use Rattle.scc_states_view.specs.IsSplit.{IsSplit};
 ghost use Rattle.scc_states_view.specs.Segments.{before, stmt_segment};
 ghost use Rattle.scc_states_view.specs.Worked.{waiting, waiting_split};
-
-/// The counting thread is resolved. What lies behind a pointer isn't, and its object is.
-pub fn the_counting_thread_is_resolved()
-    ensures counting { IsResolved counting }
-    ensures behind { is_resolved_code (through 0) ≡ false }
-    ensures object { made_map is_resolved_code (unpointed (record { cells = pointer_cells; vectors = []; local = λ n. None }) (through 0)) ≡ Made true }
-{}
 
 /// A statement of a segment stands before what follows it, a test with that behind each branch; a wait ends the segment.
 pub fn statements_are_segments()

@@ -1,9 +1,6 @@
-//! What passes over cores answer: resolved programs, and the segments that trees stand for; no code.
+//! What passes over cores answer: the segments that trees stand for; no code.
 #![tactic(auto)]
 
 mod laws;
 
-pub use laws::{
-    a_call_answers_its_definition, a_waiting_thread_is_split, statements_are_segments,
-    the_counting_thread_is_resolved,
-};
+pub use laws::{a_call_answers_its_definition, a_waiting_thread_is_split, statements_are_segments};

@@ -28,6 +28,7 @@ same_owner File File = true
 same_owner (In c xs) (In d ys) = nat_eq c d && same_args xs ys
 same_owner _ _ = false
 
+-- Two defaults are never one key: a chain of defaults ends by its bound alone.
 abbrev pub same_key : Key → Key → Bool
 same_key (Constant o i e) (Constant p j f) = same_owner o p && (nat_eq i j && nat_eq e f)
 same_key (Alias o i) (Alias p j) = same_owner o p && nat_eq i j

@@ -1,0 +1,15 @@
+pub mod One
+pub mod Taken
+pub mod Once
+pub mod Listed
+pub mod Rounds
+pub mod Asked
+pub mod Settled
+pub mod Steps
+pub mod Anyhow
+pub mod Soon
+pub mod Within
+pub mod Function
+pub mod Passing
+pub mod Exists
+pub mod Resolved

@@ -1,0 +1,10 @@
+pub mod Standing
+pub mod Pointless
+pub mod Resolve
+pub mod Placed
+pub mod Clean
+pub mod Renumber
+pub mod Resumed
+pub mod Whole
+pub mod Still
+pub mod Back

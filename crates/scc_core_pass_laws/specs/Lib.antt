@@ -1,0 +1,3 @@
+pub mod Pointing
+pub mod Resolving
+pub mod Renumbering

@@ -1,0 +1,5 @@
+pub mod Spared
+pub mod Waiting
+pub mod Turning
+pub mod Done
+pub mod Unbroken

@@ -1,0 +1,13 @@
+pub mod Counters
+pub mod Untouched
+pub mod Steps
+pub mod Keeping
+pub mod Frames
+pub mod Forms
+pub mod Follow
+pub mod Coming
+pub mod Knowing
+pub mod Designs
+pub mod Unroll
+pub mod Near
+pub mod Back

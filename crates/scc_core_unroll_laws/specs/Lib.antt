@@ -1,0 +1,3 @@
+pub mod Unrolling
+pub mod Named
+pub mod Kinds

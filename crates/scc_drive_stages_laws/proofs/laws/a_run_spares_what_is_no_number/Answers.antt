@@ -1,5 +1,0 @@
-use Rattle.scc_drive_stages_laws.proofs.Spared.{run-spares}
-use Rattle.scc_drive_stages_laws.proofs.laws.a_run_spares_what_is_no_number.Goals as goal
-
-pub returns : goal.returns
-returns c = λ places lead functions signals n f h plain. run-spares places lead functions signals n f h plain

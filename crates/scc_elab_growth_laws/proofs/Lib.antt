@@ -1,0 +1,15 @@
+pub mod Growth
+pub mod Sites
+pub mod Paths
+pub mod Homes
+pub mod Keeping
+pub mod Placing
+pub mod Newly
+pub mod Looping
+pub mod Parts
+pub mod Running
+pub mod Given
+pub mod Building
+pub mod Objects
+pub mod Leaving
+pub mod Reaching

@@ -1,0 +1,5 @@
+pub mod Sites
+pub mod Changes
+pub mod Reached
+pub mod Apart
+pub mod Leaves
