@@ -118,7 +118,7 @@ module _ (s : Sight) (width : ℕ → ℕ) where
   put-bit m w c index u t number r root few kind = record {
     puts = λ a b x is f g q p. (
         let k = part-change s width number c p.word (OneBit index) a b root p.is in
-        let cell : a.now c < 2 ^ w = (let P : ℕ → Type 0 = λ z. a.now c < 2 ^ z in subst P r.is_wide (f.words c r.is_named)) in
+        let cell : a.now c < 2 ^ w = (let P : ℕ → Type 0 = λ z. a.now c < 2 ^ z in subst P r.is_wide (f.words c r.is_held)) in
         let shown : x (written_variable (s.view c) c) ≡ a.now c = number-shown s width number (s.view c) c a x (has_sort is_root s.cells c) root r.is_written (g.cells c r.is_named) in
         let n = map_is (word_in s.cells a index) (λ j. with_bit (width_at s.cells c) (a.now c) (index_of (kind_of index) j) p.word) k.0 k.1 in
         let same : n.0 ≡ p.number = some_same (sym n.1 ∙ p.is_number) in
@@ -129,7 +129,7 @@ module _ (s : Sight) (width : ℕ → ℕ) where
         let after = bit-runs w (written_variable (s.view c) c) u (index_word (kind_of index) p.number) p.word t x p.fits r.variable (subst S (sym shown) cell) p.holds p.gives in
         let moved : run width (bit_code w (written_variable (s.view c) c) u t) x ≡ updated (written_variable (s.view c) c) k.0 x = after ∙ (λ d. updated (written_variable (s.view c) c) (with_bit w (shown d) (index_word (kind_of index) p.number) p.word) x) ∙ ap (λ z. updated (written_variable (s.view c) c) z x) (sym new) in
         let fits : k.0 < 2 ^ width_at s.cells c = (let Q : ℕ → Type 0 = λ z. k.0 < 2 ^ z in subst Q (sym r.is_wide) (subst S (sym new) (bit-fits w (a.now c) (index_word (kind_of index) p.number) p.word cell p.fits))) in (
-          change-fits s width number c k.0 a b r.is_named k.2 fits f,
+          change-fits s width number c k.0 a b r.is_held k.2 fits f,
           subst (λ y. Shows s b y) (sym moved) (change-shows s width number c k.0 a b x r.is_named r.is_written k.2 g),
         ));
     framed = framed (nat_lt w (2 ^ u.width));

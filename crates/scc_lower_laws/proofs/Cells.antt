@@ -8,7 +8,7 @@ use Rattle.scc_svtree.specs.declared.expr.SvLeft.TheVariants.{Whole, Bit, Range}
 use Rattle.scc_svtree.specs.Running.{run, updated, after_assign, var_of, left_width}
 use Rattle.scc_svtree.specs.Running as running
 use Rattle.scc_svtree.proofs.Agree.{same_of_eq, eq_same}
-use Rattle.scc_core_spec.specs.Program.{is_root}
+use Rattle.scc_core_spec.specs.Program.{is_root, is_held}
 use Rattle.scc_core_spec.specs.Term as core
 use Rattle.scc_core_spec.specs.Term.{Term, Pick, kind_of}
 use Rattle.scc_core_spec.specs.Uses.{has_sort, width_at}
@@ -129,19 +129,19 @@ module _ (s : Sight) (width : ℕ → ℕ) (number : IsNumbered s) where
   ask-none c new a b true r h e = absurd (cc)
   ask-none c new a b false r h e = h.1 ∙ e
 
-  pub change-fits : (c new : ℕ) (a b : Acting) → s.mine c ≡ true → Change c new a b → new < 2 ^ width_at s.cells c → Fits s a → Fits s b
-  change-fits c new a b mine k l f = record {
+  pub change-fits : (c new : ℕ) (a b : Acting) → has_sort is_held s.cells c ≡ true → Change c new a b → new < 2 ^ width_at s.cells c → Fits s a → Fits s b
+  change-fits c new a b held k l f = record {
     words = λ d m. words d m (nat_eq c d) refl;
     asks = λ d w m. asks d w m (nat_eq c d) refl;
     roots = λ d r. roots d r (nat_eq c d) refl;
   }
     where
-      words : (d : ℕ) → s.mine d ≡ true → (t : Bool) → nat_eq c d ≡ t → b.now d < 2 ^ width_at s.cells d
-      words d m true e = let P : ℕ → Type 0 = λ d. b.now d < 2 ^ width_at s.cells d in subst P (same_of_eq c d e) (now-fits c new (width_at s.cells c) a b (has_sort is_root s.cells c) k.here (f.words c mine) l)
+      words : (d : ℕ) → has_sort is_held s.cells d ≡ true → (t : Bool) → nat_eq c d ≡ t → b.now d < 2 ^ width_at s.cells d
+      words d m true e = let P : ℕ → Type 0 = λ d. b.now d < 2 ^ width_at s.cells d in subst P (same_of_eq c d e) (now-fits c new (width_at s.cells c) a b (has_sort is_root s.cells c) k.here (f.words c held) l)
       words d m false e = let P : ℕ → Type 0 = λ z. z < 2 ^ width_at s.cells d in subst P (sym (k.now d e)) (f.words d m)
 
-      asks : (d w : ℕ) → s.mine d ≡ true → (t : Bool) → nat_eq c d ≡ t → b.asked d ≡ Some w → w < 2 ^ width_at s.cells d
-      asks d w m true e = let P : ℕ → Type 0 = λ d. b.asked d ≡ Some w → w < 2 ^ width_at s.cells d in subst P (same_of_eq c d e) (ask-fits c new (width_at s.cells c) w a b (has_sort is_root s.cells c) k.here (λ w. f.asks c w mine) l)
+      asks : (d w : ℕ) → has_sort is_held s.cells d ≡ true → (t : Bool) → nat_eq c d ≡ t → b.asked d ≡ Some w → w < 2 ^ width_at s.cells d
+      asks d w m true e = let P : ℕ → Type 0 = λ d. b.asked d ≡ Some w → w < 2 ^ width_at s.cells d in subst P (same_of_eq c d e) (ask-fits c new (width_at s.cells c) w a b (has_sort is_root s.cells c) k.here (λ w. f.asks c w held) l)
       asks d w m false e = λ h. f.asks d w m (sym (k.asked d e) ∙ h)
 
       roots : (d : ℕ) → has_sort is_root s.cells d ≡ false → (t : Bool) → nat_eq c d ≡ t → b.asked d ≡ None

@@ -98,7 +98,7 @@ module _ (s : Sight) (width : ℕ → ℕ) where
           → (a.now c < 2 ^ w) × Gives false (sized false width x (read_text (s.view c) w c h l)) (h - l + 1) (part h l (a.now c))
       gives a x is f g q =
           let P : ℕ → Type 0 = λ z. a.now c < 2 ^ z in
-          let small : a.now c < 2 ^ w = subst P r.is_wide (f.words c r.is_named) in
+          let small : a.now c < 2 ^ w = subst P r.is_wide (f.words c r.is_held) in
           (small, cell-gives (s.view c) a x c w h l r.is_read (g.cells c r.is_named) r.variable small o b)
 
   -- ---- the elements of a dimension by halves

@@ -48,7 +48,7 @@ module _ (s : Sight) (width : ℕ → ℕ) (number : IsNumbered s) where
         let given : assigned (width (written_variable (s.view c) c)) (sized false width x t) ≡ p.word = ap (λ z. assigned z (sized false width x t)) w ∙ gives-assigned (sized false width x t) (width_of (kind_of e)) p.word p.fits p.gives in
         let P : ℕ → Type 0 = λ z. p.word < 2 ^ z in
         let small : p.word < 2 ^ width_at s.cells c = subst P (same ∙ sym r.is_wide) p.fits in (
-          change-fits s width number c p.word a b r.is_named k small f,
+          change-fits s width number c p.word a b r.is_held k small f,
           subst (λ z. Shows s b (updated (written_variable (s.view c) c) z x)) (sym given) (change-shows s width number c p.word a b x r.is_named r.is_written k g),
         ));
     framed = assign-below m c (whole (written_variable (s.view c) c)) t r.is_named refl;
@@ -78,7 +78,7 @@ module _ (s : Sight) (width : ℕ → ℕ) (number : IsNumbered s) where
   put-part m bits c h l k e t r root some o top same picks = record {
     puts = λ a b x is f g q p. (
         let u = part-change s width number c p.word k a b root p.is in
-        let cell : a.now c < 2 ^ bits = (let P : ℕ → Type 0 = λ z. a.now c < 2 ^ z in subst P r.is_wide (f.words c r.is_named)) in
+        let cell : a.now c < 2 ^ bits = (let P : ℕ → Type 0 = λ z. a.now c < 2 ^ z in subst P r.is_wide (f.words c r.is_held)) in
         let shown : x (written_variable (s.view c) c) ≡ a.now c = number-shown (s.view c) c a x (has_sort is_root s.cells c) root r.is_written (g.cells c r.is_named) in
         let P : ℕ → Type 0 = λ z. p.word < 2 ^ z in
         let small : p.word < 2 ^ (h - l + 1) = subst P same p.fits in
@@ -87,7 +87,7 @@ module _ (s : Sight) (width : ℕ → ℕ) (number : IsNumbered s) where
         let given : assigned (h - l + 1) (sized false width x t) ≡ p.word = ap (λ z. assigned z (sized false width x t)) (sym same) ∙ gives-assigned (sized false width x t) (width_of (kind_of e)) p.word p.fits p.gives in
         let S : ℕ → Type 0 = λ z. z < 2 ^ bits in
         let after = part-after (written_variable (s.view c) c) bits h l p.word t x some (subst S (sym shown) cell) o top r.variable given in (
-          change-fits s width number c u.0 a b r.is_named u.2 fits f,
+          change-fits s width number c u.0 a b r.is_held u.2 fits f,
           subst (λ y. Shows s b y) (sym (after ∙ (λ i. updated (written_variable (s.view c) c) (replaced h l (shown i) p.word) x) ∙ ap (λ z. updated (written_variable (s.view c) c) z x) (sym new))) (change-shows s width number c u.0 a b x r.is_named r.is_written u.2 g),
         ));
     framed = assign-below m c (part_left (record { 0 = written_variable (s.view c) c }) bits h l) t r.is_named (part-var (record { 0 = written_variable (s.view c) c }) bits h l);

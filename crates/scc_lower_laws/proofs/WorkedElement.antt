@@ -25,7 +25,7 @@ flag-found : IsFound some_sight (term.Cell here 0) 0 []
 flag-found a x f g c steps e d = ([], tt, sym d ∙ ap (cell_named some_cells) (sym e))
 
 flag-read : IsReadable some_sight some_widths 1 0
-flag-read = record { is_named = refl; is_read = tt; is_wide = refl; variable = refl }
+flag-read = record { is_named = refl; is_held = refl; is_read = tt; is_wide = refl; variable = refl }
 
 flag-lowers : Lowers some_sight some_widths 0 0 flag End (Made (variable_of 0))
 flag-lowers = taken-whole some_sight some_widths 0 0 flag (term.Cell here 0) End (variable_of 0) are-numbered (omega arith) (λ a. refl) (record {
@@ -63,8 +63,8 @@ found a x f g c steps e d = (index_of kind.Bool (a.now 0) ∷ [], ((a.now 0, ref
 
 element-read : (c : ℕ) → 1 ≤ c → c < 3 → IsReadable some_sight some_widths 8 c
 element-read zero l h = absurd (omega (arith, l))
-element-read (suc zero) l h = record { is_named = refl; is_read = tt; is_wide = refl; variable = refl }
-element-read (suc (suc zero)) l h = record { is_named = refl; is_read = tt; is_wide = refl; variable = refl }
+element-read (suc zero) l h = record { is_named = refl; is_held = refl; is_read = tt; is_wide = refl; variable = refl }
+element-read (suc (suc zero)) l h = record { is_named = refl; is_held = refl; is_read = tt; is_wide = refl; variable = refl }
 element-read (suc (suc (suc c))) l h = absurd (omega (arith, h))
 
 elements : ShowsSpan some_sight some_widths 0 8 a_slot [] a_dimension [] 1 0 2 7 0 chosen_text

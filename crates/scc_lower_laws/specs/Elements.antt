@@ -13,7 +13,8 @@ use Rattle.scc_semantics.specs.Scene.{index_of}
 use Rattle.scc_core_spec.specs.Term.{Term, Left, kind_of}
 use Rattle.scc_core_spec.specs.Static.{Cells}
 use Rattle.scc_core_spec.specs.Named.{Step}
-use Rattle.scc_core_spec.specs.Uses.{width_at}
+use Rattle.scc_core_spec.specs.Program.{is_held}
+use Rattle.scc_core_spec.specs.Uses.{has_sort, width_at}
 use Rattle.scc_blocks_spec.specs.Acting.{Acting, word_in, steps_in, cell_named, word_or_zero}
 use Rattle.scc_blocks_spec.specs.Shown.{Sight, Shows, View, Constant, Driven, Next}
 use Rattle.scc_blocks_spec.specs.Lowered.{Fits}
@@ -112,6 +113,7 @@ IsRead v = Unit {0}
 
 pub record IsReadable (s : Sight) (width : ℕ → ℕ) (bits c : ℕ) : Type 0 where
   pub is_named : s.mine c ≡ true
+  pub is_held : has_sort is_held s.cells c ≡ true
   pub is_read : IsRead (s.view c)
   pub is_wide : width_at s.cells c ≡ bits
   pub variable : width (read_variable (s.view c) c) ≡ bits

@@ -9,7 +9,7 @@ use Rattle.scc_svtree.specs.Code as emitted_code
 use Rattle.scc_svtree.specs.Sizes.{sized}
 use Rattle.scc_svtree.specs.Running.{run}
 use Rattle.scc_svtree.specs.Mentions.{assigns}
-use Rattle.scc_core_spec.specs.Program.{is_root}
+use Rattle.scc_core_spec.specs.Program.{is_root, is_held}
 use Rattle.scc_core_spec.specs.Term.{Term, Left, Pick, OneBit, kind_of}
 use Rattle.scc_core_spec.specs.Uses.{has_sort, width_at}
 use Rattle.scc_blocks_spec.specs.Acting.{Acting, word_in, put_in, picked}
@@ -45,6 +45,7 @@ IsWrittenBy Next root = root ≡ false
 
 pub record IsWritten (s : Sight) (width : ℕ → ℕ) (bits c : ℕ) : Type 0 where
   pub is_named : s.mine c ≡ true
+  pub is_held : has_sort is_held s.cells c ≡ true
   pub is_written : IsWrittenBy (s.view c) (has_sort is_root s.cells c)
   pub is_wide : width_at s.cells c ≡ bits
   pub variable : width (written_variable (s.view c) c) ≡ bits
