@@ -29,7 +29,10 @@ class Maker:
             if pick == 0:
                 return f"{text}.{self.chance.choice(REDUCTIONS)}()"
             low = self.chance.randrange(width)
-            return f"{text}[{low}]" if pick == 1 else f"{text}.range({self.chance.randrange(low, width)}, {low}).to_uint64()"
+            if pick == 1:
+                # the complement of a bit is a bit
+                return f"{self.chance.choice(('', '~'))}{text}[{low}]"
+            return f"{text}.range({self.chance.randrange(low, width)}, {low}).to_uint64()"
         return str(self.chance.choice((0, 1, 2, 3, 7, 100, 255, 65535)))
 
     def expression(self, depth):

@@ -4,3 +4,4 @@ pub mod Loops
 pub mod Names
 pub mod Numbers
 pub mod Chains
+pub mod Trees

@@ -1,5 +1,6 @@
 pub mod Passes
 pub mod Copies
+pub mod Counters
 pub mod Known
 pub mod Names
 pub mod Numbers
@@ -7,3 +8,5 @@ pub mod Operands
 pub mod Rests
 pub mod Elements
 pub mod Statics
+pub mod Located
+pub mod Tables

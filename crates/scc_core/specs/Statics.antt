@@ -63,8 +63,8 @@ part_node (tree.Member n) = Member n
 part_node (tree.Index size at) = Element size at
 
 abbrev pub pick_node : CorePick-F Base Node Part Pick Expr Left → Pick
-pick_node (tree.Bit at) v k = option_and_then (λ i. valued k (bit v i)) at
-pick_node (tree.Range h l) v k = option_and_then (valued k) (selected h l v)
+pick_node (tree.Bit of at) v k = option_and_then (λ i. valued k (bit v i)) at
+pick_node (tree.Range of h l) v k = option_and_then (valued k) (selected h l v)
 
 abbrev pub expr_step : CoreExpr-F Base Node Part Pick Expr Left → Expr
 expr_step e = e.node e.kind

@@ -1,27 +1,36 @@
 //! Copies, in which counters may stand as literals. First operands and pointers in one another are as many as a source is
 //! long, so they are copied by loops.
-ghost use Rattle.std.specs.Prelude.{◌≡◌, ◌+◌, ◌<◌, IfOk, IfSome, map};
+ghost use Rattle.std.specs.Prelude.{◌≡◌, ◌+◌, ◌<◌, IfOk, IfSome, None, Some, [], map, option_map};
 ghost use Rattle.std.specs.Option.{option_copied};
 ghost use Rattle.scc_core.specs.declared.expr.CoreLeft.{size-CoreLeft};
 ghost use Rattle.scc_core.specs.Operands.{first_of};
 ghost use Rattle.scc_core.specs.Copies.{IsPlain, IsChain, loaded, pointer_in_left};
+ghost use Rattle.scc_core.specs.Counters as with;
 
 use crate::{
     CellName, CoreBase, CoreExpr, CoreExprNode, CoreLeft, CoreNode, CorePart, CorePick, CoreStmt,
-    Count, Counters, NameStep, Pointed, first_operand,
+    Count, NameStep, Pointed, first_operand,
 };
 use scc_base::{Boxed, List, NoMemory, Path, PathPart, lost, push};
+use scc_bits::{Kind, Value};
 use std::alloc::Global;
 
 /// How deep expressions may stand in one another beside their first operands: 128 levels of brackets with a dozen
 /// operators each, twice over.
 pub const LEVELS: u32 = 4_096;
 
+/// A counter's cell, and its number.
+#[derive(Clone, Copy)]
+pub struct Counter {
+    pub cell: u32,
+    pub now: Value,
+}
+
 /// Makes copies.
 #[derive(Clone, Copy)]
 pub struct Copies<'a> {
     alloc: Global,
-    counters: Option<&'a Counters>,
+    counters: Option<&'a [Counter]>,
     numbers: Option<&'a [u32]>,
 }
 
@@ -72,6 +81,45 @@ pub fn pointers(alloc: Global, left: &CoreLeft) -> Result<Vec<&CoreLeft>, NoMemo
     }
 }
 
+// The number of the counter that a cell is.
+fn number_of(counters: &[Counter], cell: u32) -> Option<Value>
+    ensures { result ≡ with.number_of counters.now cell }
+{
+    for counter in counters {
+        if cell == counter.cell {
+            return Some(counter.now);
+        }
+    }
+    None
+}
+
+// The literal of a counter in place of a location, or bits of it.
+fn literal(
+    alloc: Global,
+    left: CoreLeft,
+    counter: Value,
+    e: &CoreExpr,
+) -> Result<CoreExpr, NoMemory>
+    ensures { IfOk result (λ x. x ≡ with.literal e.now.place e.now.kind counter.word left.pick) }
+{
+    let literal = CoreExprNode::Lit(counter.word());
+    let Some(pick) = left.into_pick() else {
+        return CoreExpr::new(alloc, e.place, e.kind, literal);
+    };
+    let of = CoreExpr::new(alloc, e.place, kind_of(&pick), literal)?;
+    CoreExpr::new(alloc, e.place, e.kind, CoreExprNode::Pick { of, pick })
+}
+
+// The kind that bits are taken of.
+fn kind_of(pick: &CorePick) -> Kind
+    ensures { result ≡ with.kind_of pick.now }
+{
+    match pick {
+        CorePick::Bit { of, .. } => *of,
+        CorePick::Range { of, .. } => *of,
+    }
+}
+
 // The pointer by which a location is reached.
 fn pointer_of(left: &CoreLeft) -> Option<&CoreLeft>
     ensures smaller { IfSome result (λ x. size-CoreLeft x.now < size-CoreLeft left.now) }
@@ -97,8 +145,11 @@ impl Copies<'static> {
 }
 
 impl<'a> Copies<'a> {
-    /// Copies in which these counters stand as literals.
-    pub fn with(alloc: Global, counters: &'a Counters) -> Copies<'a> {
+    /// Copies in which these counters stand as literals; of two of one cell, the first.
+    pub fn with(alloc: Global, counters: &'a [Counter]) -> Copies<'a>
+        ensures counters { with.counters_of result ≡ counters.now }
+        ensures numbers { result.numbers ≡ None }
+    {
         Copies {
             alloc,
             counters: Some(counters),
@@ -117,7 +168,8 @@ impl<'a> Copies<'a> {
 
     // The number of a cell in the copy.
     fn number(&self, cell: u32) -> Result<u32, NoMemory>
-        ensures { IsPlain self.now → IfOk result (λ n. n ≡ cell) }
+        ensures plain { IsPlain self.now → IfOk result (λ n. n ≡ cell) }
+        ensures counted { self.now.numbers ≡ None → IfOk result (λ n. n ≡ cell) }
     {
         let Some(numbers) = self.numbers else {
             return Ok(cell);
@@ -130,21 +182,24 @@ impl<'a> Copies<'a> {
 
     /// A copy of an expression.
     pub fn expr(&self, e: &CoreExpr) -> Result<CoreExpr, NoMemory>
-        ensures { IsPlain self.now → IfOk result (λ x. x ≡ e.now) }
+        ensures plain { IsPlain self.now → IfOk result (λ x. x ≡ e.now) }
+        ensures counted { self.now.numbers ≡ None → IfOk result (λ x. x ≡ with.counted (with.counters_of self.now) e.now) }
     {
         self.expr_in(e, LEVELS)
     }
 
     /// A copy of a location.
     pub fn left(&self, left: &CoreLeft) -> Result<CoreLeft, NoMemory>
-        ensures { IsPlain self.now → IfOk result (λ x. x ≡ left.now) }
+        ensures plain { IsPlain self.now → IfOk result (λ x. x ≡ left.now) }
+        ensures counted { self.now.numbers ≡ None → IfOk result (λ x. x ≡ with.counted_left (with.counters_of self.now) left.now) }
     {
         self.left_in(left, LEVELS)
     }
 
     #[cycle(copied)]
     fn expr_in(&self, e: &CoreExpr, levels: u32) -> Result<CoreExpr, NoMemory>
-        ensures { IsPlain self.now → IfOk result (λ x. x ≡ e.now) }
+        ensures plain { IsPlain self.now → IfOk result (λ x. x ≡ e.now) }
+        ensures counted { self.now.numbers ≡ None → IfOk result (λ x. x ≡ with.counted (with.counters_of self.now) e.now) }
     {
         let levels = deeper(levels)?;
         let list = spine(self.alloc, e)?;
@@ -160,7 +215,8 @@ impl<'a> Copies<'a> {
     // A copy of an expression whose first operand is copied, if it has one.
     #[cycle(copied)]
     fn over(&self, e: &CoreExpr, first: Option<CoreExpr>, levels: u32) -> Result<CoreExpr, NoMemory>
-        ensures { IsPlain self.now → first ≡ first_of e.now → IfOk result (λ x. x ≡ e.now) }
+        ensures plain { IsPlain self.now → first ≡ first_of e.now → IfOk result (λ x. x ≡ e.now) }
+        ensures counted { self.now.numbers ≡ None → first ≡ option_map (with.counted (with.counters_of self.now)) (first_of e.now) → IfOk result (λ x. x ≡ with.counted (with.counters_of self.now) e.now) }
     {
         let node = match (e.node.get(), first) {
             (CoreExprNode::Lit(word), _) => CoreExprNode::Lit(*word),
@@ -199,31 +255,40 @@ impl<'a> Copies<'a> {
     // A copy of a read of a location; a counter's is its literal, or bits of it.
     #[cycle(copied)]
     fn load(&self, left: &CoreLeft, e: &CoreExpr, levels: u32) -> Result<CoreExpr, NoMemory>
-        ensures { IsPlain self.now → IfOk result (λ x. x ≡ loaded e.now left.now) }
+        ensures plain { IsPlain self.now → IfOk result (λ x. x ≡ loaded e.now left.now) }
+        ensures counted { self.now.numbers ≡ None → IfOk result (λ x. x ≡ with.counted (with.counters_of self.now) (loaded e.now left.now)) }
     {
-        let alloc = self.alloc;
-        let counter = match (&left.base, self.counters) {
-            (CoreBase::Cell(cell), Some(counters)) if left.parts.is_empty() => counters
-                .get(cell)
-                .copied(),
-            _ => None,
+        let left = self.left_in(left, levels)?;
+        match self.counter(&left) {
+            Some(counter) => literal(self.alloc, left, counter, e),
+            None => {
+                let node = CoreExprNode::Load(left);
+                CoreExpr::new(self.alloc, e.place, e.kind, node)
+            }
+        }
+    }
+
+    // The number of the counter that a location is, or is bits of.
+    fn counter(&self, left: &CoreLeft) -> Option<Value>
+        ensures plain { IsPlain self.now → result ≡ None }
+        ensures counted { result ≡ with.number_at (with.counters_of self.now) left.now }
+    {
+        let CoreBase::Cell(cell) = left.base else {
+            return None;
         };
-        let Some(counter) = counter else {
-            let node = CoreExprNode::Load(self.left_in(left, levels)?);
-            return CoreExpr::new(alloc, e.place, e.kind, node);
-        };
-        let literal = CoreExprNode::Lit(counter.word());
-        let of = CoreExpr::new(alloc, e.place, counter.kind(), literal)?;
-        let Some(pick) = &left.pick else {
-            return Ok(of);
-        };
-        let pick = self.pick(pick, levels)?;
-        CoreExpr::new(alloc, e.place, e.kind, CoreExprNode::Pick { of, pick })
+        if !left.parts.is_empty() {
+            return None;
+        }
+        match self.counters {
+            Some(counters) => number_of(counters, cell),
+            None => None,
+        }
     }
 
     #[cycle(copied)]
     fn list(&self, list: &[CoreExpr], levels: u32) -> Result<List<CoreExpr>, NoMemory>
-        ensures { IsPlain self.now → IfOk result (λ x. x ≡ list.now) }
+        ensures plain { IsPlain self.now → IfOk result (λ x. x ≡ list.now) }
+        ensures counted { self.now.numbers ≡ None → IfOk result (λ x. x ≡ map (with.counted (with.counters_of self.now)) list.now) }
     {
         let mut made = List::new(self.alloc);
         for e in list {
@@ -234,17 +299,26 @@ impl<'a> Copies<'a> {
 
     #[cycle(copied)]
     fn pick(&self, pick: &CorePick, levels: u32) -> Result<CorePick, NoMemory>
-        ensures { IsPlain self.now → IfOk result (λ x. x ≡ pick.now) }
+        ensures plain { IsPlain self.now → IfOk result (λ x. x ≡ pick.now) }
+        ensures counted { self.now.numbers ≡ None → IfOk result (λ x. x ≡ with.counted_pick (with.counters_of self.now) pick.now) }
     {
         match pick {
-            CorePick::Bit(at) => Ok(CorePick::Bit(self.expr_in(at, levels)?)),
-            CorePick::Range { h, l } => Ok(CorePick::Range { h: *h, l: *l }),
+            CorePick::Bit { of, at } => {
+                let at = self.expr_in(at, levels)?;
+                Ok(CorePick::Bit { of: *of, at })
+            }
+            CorePick::Range { of, h, l } => Ok(CorePick::Range {
+                of: *of,
+                h: *h,
+                l: *l,
+            }),
         }
     }
 
     #[cycle(copied)]
     fn parts(&self, list: &[CorePart], levels: u32) -> Result<List<CorePart>, NoMemory>
-        ensures { IsPlain self.now → IfOk result (λ x. x ≡ list.now) }
+        ensures plain { IsPlain self.now → IfOk result (λ x. x ≡ list.now) }
+        ensures counted { self.now.numbers ≡ None → IfOk result (λ x. x ≡ map (with.counted_part (with.counters_of self.now)) list.now) }
     {
         let mut made = List::new(self.alloc);
         for part in list {
@@ -262,7 +336,8 @@ impl<'a> Copies<'a> {
 
     #[cycle(copied)]
     fn left_in(&self, left: &CoreLeft, levels: u32) -> Result<CoreLeft, NoMemory>
-        ensures { IsPlain self.now → IfOk result (λ x. x ≡ left.now) }
+        ensures plain { IsPlain self.now → IfOk result (λ x. x ≡ left.now) }
+        ensures counted { self.now.numbers ≡ None → IfOk result (λ x. x ≡ with.counted_left (with.counters_of self.now) left.now) }
     {
         let levels = deeper(levels)?;
         let list = pointers(self.alloc, left)?;
@@ -283,7 +358,8 @@ impl<'a> Copies<'a> {
         pointer: Option<CoreLeft>,
         levels: u32,
     ) -> Result<CoreLeft, NoMemory>
-        ensures { IsPlain self.now → pointer ≡ pointer_in_left left.now → IfOk result (λ x. x ≡ left.now) }
+        ensures plain { IsPlain self.now → pointer ≡ pointer_in_left left.now → IfOk result (λ x. x ≡ left.now) }
+        ensures counted { self.now.numbers ≡ None → pointer ≡ option_map (with.counted_left (with.counters_of self.now)) (pointer_in_left left.now) → IfOk result (λ x. x ≡ with.counted_left (with.counters_of self.now) left.now) }
     {
         let base = match (&left.base, pointer) {
             (CoreBase::Cell(cell), _) => CoreBase::Cell(self.number(*cell)?),
@@ -362,7 +438,8 @@ impl<'a> Copies<'a> {
 
     /// A copy of how a loop counts.
     pub fn count(&self, c: &Count) -> Result<Count, NoMemory>
-        ensures { IsPlain self.now → IfOk result (λ x. x ≡ c.now) }
+        ensures plain { IsPlain self.now → IfOk result (λ x. x ≡ c.now) }
+        ensures counted { self.now.numbers ≡ None → IfOk result (λ x. x ≡ with.counted_count (with.counters_of self.now) c.now) }
     {
         Ok(Count {
             cell: self.number(c.cell)?,
@@ -376,7 +453,8 @@ impl<'a> Copies<'a> {
 
     /// A copy of what an `Alias` sets.
     pub fn pointed(&self, to: &Pointed) -> Result<Pointed, NoMemory>
-        ensures { IsPlain self.now → IfOk result (λ x. x ≡ to.now) }
+        ensures plain { IsPlain self.now → IfOk result (λ x. x ≡ to.now) }
+        ensures counted { self.now.numbers ≡ None → IfOk result (λ x. x ≡ with.counted_pointed (with.counters_of self.now) to.now) }
     {
         match to {
             Pointed::Declared(cell) => Ok(Pointed::Declared(*cell)),

@@ -81,10 +81,10 @@ pub enum CorePart {
 #[cycle(core)]
 #[derive(Drop)]
 pub enum CorePick {
-    /// The bit of that number, counted from 0 at the low end.
-    Bit(CoreExpr),
-    /// Bits h down to l; l is at most h, and h is below the width.
-    Range { h: u32, l: u32 },
+    /// The bit of that number of a value of kind `of`, counted from 0 at the low end.
+    Bit { of: Kind, at: CoreExpr },
+    /// Bits h down to l of a value of kind `of`; l is at most h, and h is below the width.
+    Range { of: Kind, h: u32, l: u32 },
 }
 
 impl CoreExpr {
@@ -114,6 +114,19 @@ impl CoreLeft {
             parts: List::new(alloc),
             pick: None,
         }
+    }
+
+    /// The part of a number that is taken of it.
+    pub fn into_pick(self) -> Option<CorePick>
+        ensures { result ≡ self.pick }
+    {
+        let CoreLeft {
+            place: _,
+            base: _base,
+            parts: _parts,
+            pick,
+        } = self;
+        pick
     }
 }
 

@@ -10,7 +10,7 @@ mod program;
 mod statics;
 mod stmt;
 
-pub use copy::{Copies, LEVELS, deeper, pointers, spine};
+pub use copy::{Copies, Counter, LEVELS, deeper, pointers, spine};
 pub use expr::{CoreBase, CoreExpr, CoreExprNode, CoreLeft, CorePart, CorePick};
 pub use named::{Dim, Named};
 pub use pass::{Chain, Pass};

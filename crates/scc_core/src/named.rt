@@ -1,5 +1,11 @@
 //! The cells that a location may name.
-use crate::{CellName, CoreBase, CoreLeft, CorePart, CorePick, Known, NameStep};
+ghost use Rattle.std.specs.Prelude.{◌≡◌, IfOk, Some, [], map};
+ghost use Rattle.scc_core.specs.Known.{facts_in};
+ghost use Rattle.scc_core.specs.Located.{alone, array_from, array_in, between, named_in, row_from, single};
+ghost use Rattle.scc_core.specs.Statics.{part_in};
+
+use crate::statics::small;
+use crate::{CellName, CoreBase, CoreLeft, CorePart, CorePick, Known, NameStep, Places, Spot};
 use scc_base::{List, NoMemory};
 use scc_bits::{Kind, width};
 use std::alloc::Global;
@@ -57,23 +63,37 @@ impl Named {
 impl Known<'_> {
     /// The cells that a location without pointers may name; None where it names none, as past the end of an array. Bits of
     /// it aren't looked at.
-    pub fn named(&self, alloc: Global, left: &CoreLeft) -> Result<Option<Named>, NoMemory> {
+    #[tactic(auto, unfolding(crate::specs::Located::named_in))]
+    pub fn named(&self, alloc: Global, left: &CoreLeft) -> Result<Option<Named>, NoMemory>
+        ensures { IfOk result (λ o. o ≡ named_in self.now left.now) }
+    {
         let parts = left.parts.as_slice();
         match &left.base {
-            CoreBase::Cell(cell) if parts.is_empty() => Ok(single(alloc, Some(*cell))),
+            CoreBase::Cell(cell) => Ok(alone(alloc, *cell, parts)),
             CoreBase::Prefix(name) => match self.array(parts, name) {
                 Some((first, count)) => self.row(alloc, parts, first, count),
                 None => Ok(single(alloc, self.find(parts, name, false))),
             },
-            _ => Ok(None),
+            CoreBase::Follow { .. } => Ok(None),
+            CoreBase::Null => Ok(None),
         }
     }
 
     // The first cell of an array of numbers, signals or ports, and how many there are.
-    fn array(&self, parts: &[CorePart], name: &CellName) -> Option<(u32, u32)> {
+    fn array(&self, parts: &[CorePart], name: &CellName) -> Option<(u32, u32)>
+        ensures { result ≡ array_in self.now.places (map (part_in (facts_in self.now)) parts.now) name.now }
+    {
         let places = self.places()?;
-        let mut first = places.name(name)?;
-        let mut last = first;
+        let at = places.name(name)?;
+        self.array_at(parts, places, at)
+    }
+
+    // The same behind a front part of names.
+    fn array_at(&self, parts: &[CorePart], places: &Places, at: Spot) -> Option<(u32, u32)>
+        ensures { result ≡ array_from places.now (map (part_in (facts_in self.now)) parts.now) at at 1 }
+    {
+        let mut first = at;
+        let mut last = at;
         let mut count = 1u32;
         for part in parts {
             let CorePart::Index { size, .. } = part else {
@@ -83,9 +103,7 @@ impl Known<'_> {
             first = places.step(first, NameStep::Index(0))?;
             last = places.step(last, NameStep::Index(size.checked_sub(1)?))?;
         }
-        let first = places.cell(first)?;
-        let between = places.cell(last)?.checked_sub(first)?;
-        (between.checked_add(1)? == count).then_some((first, count))
+        between(places.cell(first)?, places.cell(last)?, count)
     }
 
     // The cells of an array under some indices.
@@ -95,7 +113,9 @@ impl Known<'_> {
         parts: &[CorePart],
         first: u32,
         count: u32,
-    ) -> Result<Option<Named>, NoMemory> {
+    ) -> Result<Option<Named>, NoMemory>
+        ensures { IfOk result (λ o. o ≡ row_from (map (part_in (facts_in self.now)) parts.now) first count 0 []) }
+    {
         let mut base = first;
         let mut stride = count;
         let mut dims = List::new(alloc);
@@ -106,7 +126,7 @@ impl Known<'_> {
             };
             stride /= (*size).max(1);
             match self.value(at) {
-                Some(v) => match v.small() {
+                Some(v) => match small(v) {
                     Some(i) if i < *size => base = base.saturating_add(i.saturating_mul(stride)),
                     _ => return Ok(None),
                 },
@@ -125,17 +145,45 @@ impl Known<'_> {
     pub fn is_whole(&self, pick: Option<&CorePick>, kind: Kind) -> bool {
         match pick {
             None => true,
-            Some(CorePick::Range { h, l }) => *l == 0 && h.saturating_add(1) == width(kind),
-            Some(CorePick::Bit(at)) => {
+            Some(CorePick::Range { h, l, .. }) => *l == 0 && h.saturating_add(1) == width(kind),
+            Some(CorePick::Bit { at, .. }) => {
                 width(kind) == 1 && self.value(at).is_some_and(|i| !i.is_true())
             }
         }
     }
 }
 
-fn single(alloc: Global, cell: Option<u32>) -> Option<Named> {
-    cell.map(|base| Named {
-        base,
-        dims: List::new(alloc),
-    })
+fn single(alloc: Global, cell: Option<u32>) -> Option<Named>
+    ensures { result ≡ single cell }
+{
+    match cell {
+        Some(base) => Some(Named {
+            base,
+            dims: List::new(alloc),
+        }),
+        None => None,
+    }
+}
+
+// A cell by its number has no parts.
+fn alone(alloc: Global, cell: u32, parts: &[CorePart]) -> Option<Named>
+    ensures { result ≡ alone cell parts.now }
+{
+    match parts {
+        [] => single(alloc, Some(cell)),
+        [_, ..] => None,
+    }
+}
+
+// The first of so many cells, where they stand one after the other.
+fn between(first: u32, last: u32, count: u32) -> Option<(u32, u32)>
+    ensures { result ≡ between count (Some first) (Some last) }
+{
+    if last < first {
+        None
+    } else if u64::from(last - first) + 1 == u64::from(count) {
+        Some((first, count))
+    } else {
+        None
+    }
 }

@@ -129,7 +129,9 @@ impl<'a> Known<'a> {
     }
 
     /// Where they stand by their names.
-    pub fn places(&self) -> Option<&'a Places> {
+    pub fn places(&self) -> Option<&'a Places>
+        ensures { result ≡ self.now.places }
+    {
         self.places
     }
 
@@ -264,11 +266,11 @@ impl<'a> Known<'a> {
         ensures { result ≡ pick_in (facts_in self.now) pick.now of kind }
     {
         match pick {
-            CorePick::Bit(at) => {
+            CorePick::Bit { at, .. } => {
                 let at = self.number(at)?;
                 numbered(kind, bit(of, at))
             }
-            CorePick::Range { h, l } => numbered(kind, selected(*h, *l, of)?),
+            CorePick::Range { h, l, .. } => numbered(kind, selected(*h, *l, of)?),
         }
     }
 
@@ -453,7 +455,7 @@ fn joined(high: Value, low: Value) -> Option<Value>
     }
 }
 
-fn small(v: Value) -> Option<u32>
+pub(crate) fn small(v: Value) -> Option<u32>
     ensures { result ≡ small v }
 {
     v.small()

@@ -133,7 +133,7 @@ impl Walk<'_, '_> {
     #[cycle(read)]
     fn pick(&mut self, pick: &CorePick, statement: Place, levels: u32) -> Result<(), NoMemory> {
         match pick {
-            CorePick::Bit(at) => self.expr(at, statement, levels),
+            CorePick::Bit { at, .. } => self.expr(at, statement, levels),
             CorePick::Range { .. } => Ok(()),
         }
     }

@@ -18,7 +18,7 @@ ghost use Rattle.scc_blocks_spec.specs.Tied.{Tied};
 ghost use Rattle.scc_blocks_spec.specs.Turns.{Regs, settled};
 ghost use Rattle.scc_core_effect_laws.specs.Follows.{design_of};
 ghost use Rattle.scc_core_laws.specs.Bounded.{KeepBounds};
-ghost use Rattle.scc_core_order_laws.specs.Inputs.{KeepsInputs, SameStored};
+ghost use Rattle.scc_core_order_laws.specs.Inputs.{SameStored};
 ghost use Rattle.scc_core_order_laws.specs.Worked.{chained};
 
 /// However many statements are allowed in each resume, what goes well shows the same.
@@ -28,14 +28,14 @@ pub fn what_goes_well_comes_to_one_end()
 
 /// Of a resolved core whose rules aren't broken, whatever a schedule of steps shows of outputs and registers is what the standard steps show.
 pub fn any_order_shows_the_same()
-    ensures { (home : Home) (p : Program) → IsHome home → IsResolved p → first_rule p ≡ None → KeepsInputs p → AnyOrder (is_kept_at home p) (design_of home p) }
+    ensures { (home : Home) (p : Program) → IsHome home → IsResolved p → first_rule p ≡ None → AnyOrder (is_kept_at home p) (design_of home p) }
 {}
 
 /// Of a resolved core whose rules aren't broken, from all that a scheduler comes to at most as many rounds change a signal as there are methods; and whatever lists it takes that cover the
 /// methods that must run, within the bounds of its bodies a settling ends after one round more.
 pub fn settling_ends_soon()
-    ensures soon { (home : Home) (p : Program) → IsHome home → IsResolved p → first_rule p ≡ None → KeepsInputs p → EndsSoon (design_of home p) }
-    ensures ends { (home : Home) (p : Program) → IsHome home → IsResolved p → first_rule p ≡ None → KeepsInputs p → (bounds : ℕ → ℕ) → KeepBounds p bounds
+    ensures soon { (home : Home) (p : Program) → IsHome home → IsResolved p → first_rule p ≡ None → EndsSoon (design_of home p) }
+    ensures ends { (home : Home) (p : Program) → IsHome home → IsResolved p → first_rule p ≡ None → (bounds : ℕ → ℕ) → KeepBounds p bounds
         → (choose : Running → List ℕ) → ((r : Running) → Covers (design_of home p) r (choose r)) → (r : Running) → Reached bounds (design_of home p) r
         → (n : ℕ) × (t : Running) × Settles bounds (design_of home p) n r t × (n ≤ suc (length (filter is_combinational (design_of home p).processes))) }
 {}
@@ -43,13 +43,13 @@ pub fn settling_ends_soon()
 /// Methods that are all named cover those that must run; and of a resolved core whose rules aren't broken there is a schedule of all steps that fit, from each start.
 pub fn there_is_a_schedule()
     ensures all { (d : Design) (r : Running) (runs : List ℕ) → ((i : ℕ) → among i runs ≡ true → is_method d i ≡ true) → ((i : ℕ) → is_method d i ≡ true → among i runs ≡ true) → Covers d r runs }
-    ensures some { (home : Home) (p : Program) → IsHome home → IsResolved p → first_rule p ≡ None → KeepsInputs p → (bounds : ℕ → ℕ) → KeepBounds p bounds
+    ensures some { (home : Home) (p : Program) → IsHome home → IsResolved p → first_rule p ≡ None → (bounds : ℕ → ℕ) → KeepBounds p bounds
         → (s : State) → IsStart (design_of home p) s → (xs : List Step) → FitSteps (design_of home p) xs → (ps : List Shown) × Scheduled bounds (design_of home p) (fresh s) xs ps }
 {}
 
 /// What means the same as a resolved core whose rules aren't broken shows the same in any order, and its settling ends as soon.
 pub fn what_means_a_core_runs_in_any_order()
-    ensures { (home : Home) (p : Program) → IsHome home → IsResolved p → first_rule p ≡ None → KeepsInputs p → (k : ℕ) (d : Design) → SameDesign k d (design_of home p) → AnyOrder (is_kept_at home p) d × EndsSoon d }
+    ensures { (home : Home) (p : Program) → IsHome home → IsResolved p → first_rule p ≡ None → (k : ℕ) (d : Design) → SameDesign k d (design_of home p) → AnyOrder (is_kept_at home p) d × EndsSoon d }
 {}
 
 /// Of a resolved core whose rules aren't broken, the settled words of signals, ports and registers are a function of inputs, registers and constants: from tied states that agree at inputs

@@ -42,7 +42,7 @@ abbrev pointer_one : (program.Cell → Bool) → Cells → Option program.Cell
 pointer_one test cs = find (λ c. test c && is_pointer c.sort) cs
 
 -- cells that aren't looked for are gone
-find-kept : (test : program.Cell → Bool) (cs : Cells) → find (λ c. test c && not (is_pointer c.sort)) (filter is_kept_cell cs) ≡ find (λ c. test c && not (is_pointer c.sort)) cs
+pub find-kept : (test : program.Cell → Bool) (cs : Cells) → find (λ c. test c && not (is_pointer c.sort)) (filter is_kept_cell cs) ≡ find (λ c. test c && not (is_pointer c.sort)) cs
 find-kept test [] = refl
 find-kept test (c ∷ cs) = by (is_pointer c.sort) refl (test c) refl (find-kept test cs)
   where

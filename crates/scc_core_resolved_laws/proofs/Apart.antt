@@ -31,11 +31,11 @@ pub joined-behind : {A : Type 0} (xs ys zs : List A) → (xs ++ ys) ++ zs ≡ xs
 joined-behind [] ys zs = refl
 joined-behind (x ∷ xs) ys zs = ap (λ l. x ∷ l) (joined-behind xs ys zs)
 
-map-append : (xs : List Part) (y : Part) → map part_step (xs ++ y ∷ []) ≡ map part_step xs ++ part_step y ∷ []
+pub map-append : (xs : List Part) (y : Part) → map part_step (xs ++ y ∷ []) ≡ map part_step xs ++ part_step y ∷ []
 map-append [] y = refl
 map-append (x ∷ xs) y = ap (λ ys. part_step x ∷ ys) (map-append xs y)
 
-indices-are : (ns : List ℕ) → map part_step (map Element ns) ≡ map At ns
+pub indices-are : (ns : List ℕ) → map part_step (map Element ns) ≡ map At ns
 indices-are [] = refl
 indices-are (n ∷ ns) = ap (λ ys. At n ∷ ys) (indices-are ns)
 
@@ -56,7 +56,7 @@ part-is (Element n) (Element m) e = ap Element (ap indexed e)
 part-is (location.Member n) (Element m) e = absurd cc
 part-is (Element n) (location.Member m) e = absurd cc
 
-steps-is : (a b : List Part) → map part_step a ≡ map part_step b → a ≡ b
+pub steps-is : (a b : List Part) → map part_step a ≡ map part_step b → a ≡ b
 steps-is [] [] e = refl
 steps-is (x ∷ a) (y ∷ b) e =
     let t = tail-is (part_step x) (part_step y) (map part_step a) (map part_step b) e in
@@ -111,7 +111,7 @@ named-first (x ∷ ps) m (suc k) q path h g e =
         let u : same_path x.name.path q.name.path ≡ true = subst (λ z. same_path x.name.path z ≡ true) s (path-self x.name.path) in
         absurd cc
 
-both-or-none : (a b : Bool) → (a ≡ true → b ≡ true) → (b ≡ true → a ≡ true) → a ≡ b
+pub both-or-none : (a b : Bool) → (a ≡ true → b ≡ true) → (b ≡ true → a ≡ true) → a ≡ b
 both-or-none true b f g = sym (f refl)
 both-or-none false true f g = g refl
 both-or-none false false f g = refl
@@ -123,7 +123,7 @@ and-false false true c e = sym e
 and-false false false c e = refl
 
 -- what is found by tests that agree is the same
-find-same : {A : Type 0} (f g : A → Bool) (xs : List A) → ((k : ℕ) (x : A) → slice_get xs k ≡ Some x → f x ≡ g x) → find f xs ≡ find g xs
+pub find-same : {A : Type 0} (f g : A → Bool) (xs : List A) → ((k : ℕ) (x : A) → slice_get xs k ≡ Some x → f x ≡ g x) → find f xs ≡ find g xs
 find-same f g [] h = refl
 find-same f g (x ∷ xs) h = by (f x) (g x) (h 0 x refl) (find-same f g xs (λ k y e. h (suc k) y e))
   where

@@ -6,28 +6,31 @@ use Rattle.scc_core_spec.specs.Program.{Program, Process, Cell}
 use Rattle.scc_states_laws.specs.Alike.{IsFitCode}
 use Rattle.scc_core_spec.specs.Exits.{exits_within}
 use Rattle.scc_core_spec.specs.Fit.{fit_code}
-use Rattle.scc_core_spec.specs.IsResolved.{IsResolved, processes_apart, cells_apart, fit_cell, fit_edge, fit_reset, fit_process}
+use Rattle.scc_core_spec.specs.IsResolved.{IsResolved, processes_apart, cells_apart, fit_cell, fit_edge, fit_reset, fit_process, keeps_inputs}
 use Rattle.scc_core_resolved_laws.proofs.Bools.{and-first, and-second, all-at}
 use Rattle.scc_core_resolved_laws.proofs.Fitting.{code-fits}
 
 module _ (p : Program) (r : IsResolved p) where
   pub processes-apart : processes_apart p.processes ≡ true
-  processes-apart = and-first (processes_apart p.processes) (cells_apart p.cells && (list_all (fit_cell p.processes p.cells) p.cells && list_all (fit_process p.cells) p.processes)) r
+  processes-apart = and-first (processes_apart p.processes) (cells_apart p.cells && (list_all (fit_cell p.processes p.cells) p.cells && (list_all (fit_process p.cells) p.processes && keeps_inputs p))) r
 
-  more : (cells_apart p.cells && (list_all (fit_cell p.processes p.cells) p.cells && list_all (fit_process p.cells) p.processes)) ≡ true
-  more = and-second (processes_apart p.processes) (cells_apart p.cells && (list_all (fit_cell p.processes p.cells) p.cells && list_all (fit_process p.cells) p.processes)) r
+  more : (cells_apart p.cells && (list_all (fit_cell p.processes p.cells) p.cells && (list_all (fit_process p.cells) p.processes && keeps_inputs p))) ≡ true
+  more = and-second (processes_apart p.processes) (cells_apart p.cells && (list_all (fit_cell p.processes p.cells) p.cells && (list_all (fit_process p.cells) p.processes && keeps_inputs p))) r
 
   pub cells-apart : cells_apart p.cells ≡ true
-  cells-apart = and-first (cells_apart p.cells) (list_all (fit_cell p.processes p.cells) p.cells && list_all (fit_process p.cells) p.processes) more
+  cells-apart = and-first (cells_apart p.cells) (list_all (fit_cell p.processes p.cells) p.cells && (list_all (fit_process p.cells) p.processes && keeps_inputs p)) more
 
-  rest : (list_all (fit_cell p.processes p.cells) p.cells && list_all (fit_process p.cells) p.processes) ≡ true
-  rest = and-second (cells_apart p.cells) (list_all (fit_cell p.processes p.cells) p.cells && list_all (fit_process p.cells) p.processes) more
+  rest : (list_all (fit_cell p.processes p.cells) p.cells && (list_all (fit_process p.cells) p.processes && keeps_inputs p)) ≡ true
+  rest = and-second (cells_apart p.cells) (list_all (fit_cell p.processes p.cells) p.cells && (list_all (fit_process p.cells) p.processes && keeps_inputs p)) more
 
   pub cell-fits : (n : ℕ) (x : Cell) → slice_get p.cells n ≡ Some x → fit_cell p.processes p.cells x ≡ true
-  cell-fits n x g = all-at (fit_cell p.processes p.cells) p.cells n x (and-first (list_all (fit_cell p.processes p.cells) p.cells) (list_all (fit_process p.cells) p.processes) rest) g
+  cell-fits n x g = all-at (fit_cell p.processes p.cells) p.cells n x (and-first (list_all (fit_cell p.processes p.cells) p.cells) (list_all (fit_process p.cells) p.processes && keeps_inputs p) rest) g
 
   pub process-fits : (i : ℕ) (q : Process) → slice_get p.processes i ≡ Some q → fit_process p.cells q ≡ true
-  process-fits i q g = all-at (fit_process p.cells) p.processes i q (and-second (list_all (fit_cell p.processes p.cells) p.cells) (list_all (fit_process p.cells) p.processes) rest) g
+  process-fits i q g = all-at (fit_process p.cells) p.processes i q (and-first (list_all (fit_process p.cells) p.processes) (keeps_inputs p) (and-second (list_all (fit_cell p.processes p.cells) p.cells) (list_all (fit_process p.cells) p.processes && keeps_inputs p) rest)) g
+
+  pub inputs-kept : keeps_inputs p ≡ true
+  inputs-kept = and-second (list_all (fit_process p.cells) p.processes) (keeps_inputs p) (and-second (list_all (fit_cell p.processes p.cells) p.cells) (list_all (fit_process p.cells) p.processes && keeps_inputs p) rest)
 
   module _ (i : ℕ) (q : Process) (g : slice_get p.processes i ≡ Some q) where
     abbrev Clocked : Bool

@@ -1,14 +1,15 @@
 -- Resolved cores: names tell cells and processes apart, and each body fits. This project's own.
 use Rattle.std.specs.Prelude.{◌≡◌, ◌^◌, Bool, true, false, not, ◌&&◌, ◌||◌, nat_lt, List, [], ◌∷◌, Option, Some, None, option_and_then, slice_get, is_some}
-use Rattle.std.specs.List.{list_all}
+use Rattle.std.specs.List.{list_all, list_any}
 use Rattle.scc_bits_kinds.specs.declared.kind.Kind.{Kind}
 use Rattle.scc_bits_kinds.specs.Kinds.{width_of}
 use Rattle.scc_semantics.specs.Location.{Part, same_path}
 use Rattle.scc_core_spec.specs.Term.{CellName, Own}
-use Rattle.scc_core_spec.specs.Program.{Program, Process, Cell, Edge, Reset, Sort, Variable, Local, Port, is_pointer, is_root, is_local}
+use Rattle.scc_core_spec.specs.Program.{Program, Process, Cell, Edge, Reset, Sort, Variable, Local, Port, is_pointer, is_root, is_input, is_local}
 use Rattle.scc_core_spec.specs.Named.{steps_of, path_steps, fits, cell_at}
 use Rattle.scc_core_spec.specs.Static.{Cells}
 use Rattle.scc_core_spec.specs.Uses.{has_sort}
+use Rattle.scc_core_spec.specs.Constants.{written}
 use Rattle.scc_core_spec.specs.Exits.{exits_within}
 use Rattle.scc_core_spec.specs.Fit.{same_kind, is_nil, fit_code}
 
@@ -65,8 +66,12 @@ fit_reset cs thread (Some r) = thread && has_sort is_root cs r.cell
 abbrev pub fit_process : Cells → Process → Bool
 fit_process cs q = (not q.is_thread || is_some q.edge) && (fit_edge cs q.edge && (fit_reset cs q.is_thread q.reset && (exits_within 0 q.body && fit_code cs q q.body)))
 
+-- no process writes an input of the top, nor a port that stands for one
+abbrev pub keeps_inputs : Program → Bool
+keeps_inputs p = not (list_any (has_sort is_input p.cells) (written p))
+
 abbrev pub is_resolved : Program → Bool
-is_resolved p = processes_apart p.processes && (cells_apart p.cells && (list_all (fit_cell p.processes p.cells) p.cells && list_all (fit_process p.cells) p.processes))
+is_resolved p = processes_apart p.processes && (cells_apart p.cells && (list_all (fit_cell p.processes p.cells) p.cells && (list_all (fit_process p.cells) p.processes && keeps_inputs p)))
 
 abbrev pub IsResolved : Program → Type 0
 IsResolved p = is_resolved p ≡ true

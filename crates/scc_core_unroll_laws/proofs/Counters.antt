@@ -112,7 +112,7 @@ module _ (w : Around) (counters : Counters w) (signals : Location → ℕ) (ns :
 
 -- counters as literals have the kinds of what they stand for
 module _ (ns : List Counter) where
-  kind-kept : (e : Term) → own_kind (counting ns e) ≡ own_kind e
+  pub kind-kept : (e : Term) → own_kind (counting ns e) ≡ own_kind e
   kind-kept (Literal p k x) = refl
   kind-kept (Load p k l) = by (counter_at ns l)
     where

@@ -1,8 +1,8 @@
 pub mod Statements
-mod KindedSizes
-mod StaticNumbers
+pub mod StaticNumbers
 mod StaticNames
 mod StaticElements
 mod StaticTerms
 mod StaticWorked
 pub mod Layers
+pub mod Tables

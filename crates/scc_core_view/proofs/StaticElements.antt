@@ -24,7 +24,6 @@ use Rattle.scc_core_spec.specs.Term as term
 use Rattle.scc_core_spec.specs.Named.{Step, Named, At, Ours, Open, is_open, own_steps, part_step, steps_of}
 use Rattle.scc_core_spec.specs.Static.{first_of, fixed_word, found, grown, held, held_at, index_step, pattern, static}
 use Rattle.scc_core_view.specs.Terms.{extended, name_of}
-use Rattle.scc_core_view.specs.Kinded.{kind_at, kinded, kinded_left}
 use Rattle.scc_core_view.specs.Programs.{cell_of, sort_of}
 use Rattle.scc_core_view.specs.Whole.{AreWholeCells, HoldsFixed, IsName}
 use Rattle.scc_core_view.proofs.StaticNumbers.{Says, nothing, number, num, literal_says, index_told}
@@ -265,7 +264,7 @@ module _ (cells : List Cell) (h : AreWholeCells cells) where
   -- a part of a location: a member, or an index with its size, its kind, its value and its term
   pub data Piece : Type 0 where
     named : (n : Name) → Piece
-    indexed : (size : ℕ) (k : Kind) (v : Option Number) (t : Term) → Says k (kind_of (kinded (map cell_of cells) t)) v (static (map cell_of cells) (kinded (map cell_of cells) t)) → Piece
+    indexed : (size : ℕ) (k : Kind) (v : Option Number) (t : Term) → Says k (kind_of t) v (static (map cell_of cells) t) → Piece
 
   abbrev pub part_of : Piece → Part
   part_of (named n) = Member n
@@ -277,7 +276,7 @@ module _ (cells : List Cell) (h : AreWholeCells cells) where
 
   abbrev step_by : Piece → Step
   step_by (named n) = Named n.0
-  step_by (indexed size k v t s) = index_step size (kind_of (kinded (map cell_of cells) t)) (static (map cell_of cells) (kinded (map cell_of cells) t))
+  step_by (indexed size k v t s) = index_step size (kind_of t) (static (map cell_of cells) t)
 
   abbrev first_by : Piece → Step
   first_by (named n) = Named n.0
@@ -302,16 +301,16 @@ module _ (cells : List Cell) (h : AreWholeCells cells) where
   piece_steps (named n ∷ ps) = member_steps n (map part_of ps) (map step_by ps) (piece_steps ps)
   piece_steps (indexed size k v t s ∷ ps) = index_steps size s (map part_of ps) (map step_by ps) (piece_steps ps)
 
-  pattern_on : (ps : List Piece) (l : Left) (b : List Step) → pattern (map cell_of cells) (kinded_left (map cell_of cells) l) ≡ Some b
-      → pattern (map cell_of cells) (kinded_left (map cell_of cells) (extended l (map left_by ps))) ≡ Some (b ++ map step_by ps)
+  pattern_on : (ps : List Piece) (l : Left) (b : List Step) → pattern (map cell_of cells) l ≡ Some b
+      → pattern (map cell_of cells) (extended l (map left_by ps)) ≡ Some (b ++ map step_by ps)
   pattern_on [] l b e = e ∙ ap Some (sym (append-nil b))
   pattern_on (named n ∷ ps) l b e = pattern_on ps (term.Member l n.0) (b ++ Named n.0 ∷ []) (ap (λ z. grown z (Named n.0)) e) ∙ ap Some (append_assoc b (Named n.0 ∷ []) (map step_by ps))
   pattern_on (indexed size k v t s ∷ ps) l b e =
-      let x = index_step size (kind_of (kinded (map cell_of cells) t)) (static (map cell_of cells) (kinded (map cell_of cells) t)) in
+      let x = index_step size (kind_of t) (static (map cell_of cells) t) in
       pattern_on ps (term.Index l size t) (b ++ x ∷ []) (ap (λ z. grown z x) e) ∙ ap Some (append_assoc b (x ∷ []) (map step_by ps))
 
-  first_on : (ps : List Piece) (l : Left) (b : List Step) → first_of (map cell_of cells) (kinded_left (map cell_of cells) l) ≡ Some b
-      → first_of (map cell_of cells) (kinded_left (map cell_of cells) (extended l (map left_by ps))) ≡ Some (b ++ map first_by ps)
+  first_on : (ps : List Piece) (l : Left) (b : List Step) → first_of (map cell_of cells) l ≡ Some b
+      → first_of (map cell_of cells) (extended l (map left_by ps)) ≡ Some (b ++ map first_by ps)
   first_on [] l b e = e ∙ ap Some (sym (append-nil b))
   first_on (named n ∷ ps) l b e = first_on ps (term.Member l n.0) (b ++ Named n.0 ∷ []) (ap (λ z. grown z (Named n.0)) e) ∙ ap Some (append_assoc b (Named n.0 ∷ []) (map first_by ps))
   first_on (indexed size k v t s ∷ ps) l b e = first_on ps (term.Index l size t) (b ++ At 0 ∷ []) (ap (λ z. grown z (At 0)) e) ∙ ap Some (append_assoc b (At 0 ∷ []) (map first_by ps))
@@ -326,37 +325,45 @@ module _ (cells : List Cell) (h : AreWholeCells cells) where
   word_by which first = option_and_then (λ s. option_and_then (λ f. held_at (map cell_of cells) s f) first) which
 
   abbrev pub front_at : Place → CellName → List Piece → Left
-  front_at p name ps = kinded_left (map cell_of cells) (extended (term.Prefix p (name_of name)) (map left_by ps))
+  front_at p name ps = extended (term.Prefix p (name_of name)) (map left_by ps)
+
+  -- the first element's kind, where that is the kind of all
+  kind_told : (k : Kind) (o : Option program.Cell) → ((c : program.Cell) → o ≡ Some c → c.kind ≡ k) → unwrap_or (option_map (λ c. c.kind) o) k ≡ k
+  kind_told k None f = refl
+  kind_told k (Some c) f = f c refl
 
   pub front_says : (k : Kind) (p : Place) (name : CellName) (ps : List Piece) → IsName name
-      → ((steps : List Step) (c : program.Cell) → pattern (map cell_of cells) (front_at p name ps) ≡ Some steps → found (map cell_of cells) steps ≡ Some c → c.kind ≡ kind_at (map cell_of cells) k (front_at p name ps))
+      → ((steps : List Step) (c : program.Cell) → pattern (map cell_of cells) (front_at p name ps) ≡ Some steps → found (map cell_of cells) steps ≡ Some c → c.kind ≡ k)
+      → ((c : program.Cell) → option_and_then (found (map cell_of cells)) (first_of (map cell_of cells) (front_at p name ps)) ≡ Some c → c.kind ≡ k)
       → ((steps : List Step) → pattern (map cell_of cells) (front_at p name ps) ≡ Some steps → inside (map part_of ps) ≡ Some false → found (map cell_of cells) steps ≡ None)
-      → Says (kind_at (map cell_of cells) k (front_at p name ps)) (kind_at (map cell_of cells) k (front_at p name ps)) (element (facts_of cells) (map part_of ps) name)
+      → Says k k (element (facts_of cells) (map part_of ps) name)
       (word_by (pattern (map cell_of cells) (front_at p name ps)) (first_of (map cell_of cells) (front_at p name ps)))
-  front_says k p name ps n kinds ends =
+  front_says k p name ps n kinds first ends =
       let steps = steps_of (name_of name) in
       let value = element (facts_of cells) (map part_of ps) name in
       let x = pattern_on ps (term.Prefix p (name_of name)) (steps_of (name_of name)) refl in
       let y = first_on ps (term.Prefix p (name_of name)) (steps_of (name_of name)) refl ∙ ap (λ z. Some (steps_of (name_of name) ++ z)) (first_steps ps) in
-      subst (λ o. Says (kind_by k (first_of (map cell_of cells) (front_at p name ps))) (kind_by k (first_of (map cell_of cells) (front_at p name ps))) value (word_by o (first_of (map cell_of cells) (front_at p name ps)))) (sym x)
+      let told : kind_by k (first_of (map cell_of cells) (front_at p name ps)) ≡ k = kind_told k (option_and_then (found (map cell_of cells)) (first_of (map cell_of cells) (front_at p name ps))) first in
+      subst (λ j. Says j j value (word_by (pattern (map cell_of cells) (front_at p name ps)) (first_of (map cell_of cells) (front_at p name ps)))) told
+      (subst (λ o. Says (kind_by k (first_of (map cell_of cells) (front_at p name ps))) (kind_by k (first_of (map cell_of cells) (front_at p name ps))) value (word_by o (first_of (map cell_of cells) (front_at p name ps)))) (sym x)
       (subst (λ o. Says (kind_by k o) (kind_by k o) value (word_by (Some (steps ++ map step_by ps)) o)) (sym y)
       (array_says k name (map part_of ps) (map step_by ps) (map zeroed ps) (piece_steps ps)
       (record {
         is_name = n;
-        kinds = λ c e. kinds (steps ++ map step_by ps) c x e ∙ ap (kind_by k) y;
+        kinds = λ c e. kinds (steps ++ map step_by ps) c x e ∙ sym told ∙ ap (kind_by k) y;
         ends = λ e. ends (steps ++ map step_by ps) x e;
       })
-      (first_codes ps)))
+      (first_codes ps))))
 
   get_mapped : {A B : Type 0} (f : A → B) (xs : List A) (n : ℕ) (x : A) → slice_get xs n ≡ Some x → slice_get (map f xs) n ≡ Some (f x)
   get_mapped f [] n x e = cc e
   get_mapped f (y ∷ xs) zero x e = ap (option_map f) e
   get_mapped f (y ∷ xs) (suc n) x e = get_mapped f xs n x e
 
-  pub whole_cell_says : (k : Kind) (p : Place) (n : ℕ) (c : Cell) → slice_get cells n ≡ Some c → found (map cell_of cells) (steps_of (name_of c.name)) ≡ Some (cell_of c)
-      → Says c.kind (kind_at (map cell_of cells) k (term.Cell p n)) (fixed cells n) (word_by (pattern (map cell_of cells) (term.Cell p n)) (first_of (map cell_of cells) (term.Cell p n)))
-  whole_cell_says k p n c e f =
+  pub whole_cell_says : (p : Place) (n : ℕ) (c : Cell) → slice_get cells n ≡ Some c → found (map cell_of cells) (steps_of (name_of c.name)) ≡ Some (cell_of c)
+      → Says c.kind c.kind (fixed cells n) (word_by (pattern (map cell_of cells) (term.Cell p n)) (first_of (map cell_of cells) (term.Cell p n)))
+  whole_cell_says p n c e f =
       let x : pattern (map cell_of cells) (term.Cell p n) ≡ Some (steps_of (name_of c.name)) = ap (option_map (λ c. steps_of c.name)) (get_mapped cell_of cells n c e) in
-      subst (λ o. Says c.kind (kind_by k o) (fixed cells n) (word_by o o)) (sym x)
-      (subst (λ o. Says c.kind (unwrap_or (option_map (λ c. c.kind) o) k) (fixed cells n) (if is_open (steps_of (name_of c.name)) then None else held o o)) (sym f)
+      subst (λ o. Says c.kind c.kind (fixed cells n) (word_by o o)) (sym x)
+      (subst (λ o. Says c.kind c.kind (fixed cells n) (if is_open (steps_of (name_of c.name)) then None else held o o)) (sym f)
       (subst (λ b. Says c.kind c.kind (fixed cells n) (if b then None else held (Some (cell_of c)) (Some (cell_of c)))) (sym (closed_name (name_of c.name))) (cell_says n c e)))

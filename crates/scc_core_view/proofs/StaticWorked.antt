@@ -13,9 +13,8 @@ use Rattle.scc_core_spec.specs.Term.{Left}
 use Rattle.scc_core_spec.specs.Term as term
 use Rattle.scc_core_spec.specs.Program as program
 use Rattle.scc_core_spec.specs.Named.{Step, Named, At}
-use Rattle.scc_core_spec.specs.Static.{Cells, found, pattern}
+use Rattle.scc_core_spec.specs.Static.{Cells, first_of, found, pattern}
 use Rattle.scc_core_view.specs.Terms.{name_of, extended}
-use Rattle.scc_core_view.specs.Kinded.{kind_at, kinded, kinded_left}
 use Rattle.scc_core_view.specs.Programs.{cell_of}
 use Rattle.scc_core_view.specs.Whole as whole
 use Rattle.scc_core_view.specs.Whole.{IsArray, IsNamed, IsWhole, behind, location}
@@ -27,9 +26,9 @@ literal_is n = value_made fixed_cells here int (tree.Lit (record { bits = n }))
 
 pub bit_is : (i : ℕ) → value_in (facts_of fixed_cells) (bit_of i) ≡ option_and_then (λ v. option_and_then (λ x. valued kind.Bool (bit v x)) (valued int i)) (fixed fixed_cells 0)
 bit_is i =
-    value_made fixed_cells here kind.Bool (tree.Load (location here (roll-CoreBase (tree.Cell 0)) [] (Some (roll-CorePick (tree.Bit (literal_of i))))))
-    ∙ left_some fixed_cells here (roll-CoreBase (tree.Cell 0)) [] (roll-CorePick (tree.Bit (literal_of i))) kind.Bool
-    ∙ ap (λ f. option_and_then (λ v. f v kind.Bool) (value_base fixed_cells (roll-CoreBase (tree.Cell 0)) [])) (bit_value fixed_cells (literal_of i))
+    value_made fixed_cells here kind.Bool (tree.Load (location here (roll-CoreBase (tree.Cell 0)) [] (Some (roll-CorePick (tree.Bit byte (literal_of i))))))
+    ∙ left_some fixed_cells here (roll-CoreBase (tree.Cell 0)) [] (roll-CorePick (tree.Bit byte (literal_of i))) kind.Bool
+    ∙ ap (λ f. option_and_then (λ v. f v kind.Bool) (value_base fixed_cells (roll-CoreBase (tree.Cell 0)) [])) (bit_value fixed_cells byte (literal_of i))
     ∙ ap (λ f. option_and_then (λ v. option_and_then (λ x. valued kind.Bool (bit v x)) (value_in (facts_of fixed_cells) (literal_of i))) (f [])) (base_value fixed_cells (tree.Cell 0))
     ∙ ap (λ o. option_and_then (λ v. option_and_then (λ x. valued kind.Bool (bit v x)) o) (fixed fixed_cells 0)) (literal_is i)
 
@@ -55,16 +54,13 @@ m_at i = term.Index (term.Prefix here (name_of (path (named 1 ∷ [])))) 2 (term
 
 there : (i : ℕ) → behind fixed_cells here (path (named 1 ∷ [])) (indices i) ≡ m_at i
 there i =
-    ap (λ t. kinded_left cs t.left) (taken_whole here (roll-CoreBase (tree.Prefix (path (named 1 ∷ [])))) (indices i))
-    ∙ ap (λ f. kinded_left cs (extended (f here) (map term_part (indices i)))) (front_term (path (named 1 ∷ [])))
-    ∙ ap (λ f. kinded_left cs (f (term.Prefix here (name_of (path (named 1 ∷ [])))))) (index_term 2 (literal_of i))
-    ∙ ap (λ t. term.Index (term.Prefix here (name_of (path (named 1 ∷ [])))) 2 (kinded cs t)) (term_made here int (tree.Lit (record { bits = i })))
+    ap (λ t. t.left) (taken_whole here (roll-CoreBase (tree.Prefix (path (named 1 ∷ [])))) (indices i))
+    ∙ ap (λ f. extended (f here) (map term_part (indices i))) (front_term (path (named 1 ∷ [])))
+    ∙ ap (λ f. f (term.Prefix here (name_of (path (named 1 ∷ []))))) (index_term 2 (literal_of i))
+    ∙ ap (λ t. term.Index (term.Prefix here (name_of (path (named 1 ∷ [])))) 2 t) (term_made here int (tree.Lit (record { bits = i })))
 
 inside_is : (i : ℕ) → inside (map (part_in (facts_of fixed_cells)) (indices i)) ≡ inside (Element 2 (valued int i) ∷ [])
 inside_is i = ap (λ p. inside (p ∷ [])) (index_value fixed_cells 2 (literal_of i) ∙ ap (Element 2) (literal_is i))
-
-kind_is : (i : ℕ) → kind_at cs byte (behind fixed_cells here (path (named 1 ∷ [])) (indices i)) ≡ byte
-kind_is i = ap (kind_at cs byte) (there i)
 
 steps_one : (steps : List Step) → pattern cs (behind fixed_cells here (path (named 1 ∷ [])) (indices 1)) ≡ Some steps → Named 1 ∷ At 1 ∷ [] ≡ steps
 steps_one steps e = let p : Some (Named 1 ∷ At 1 ∷ []) ≡ Some steps = ap (pattern cs) (sym (there 1)) ∙ e in cc p
@@ -75,11 +71,15 @@ steps_two steps e = let p : Some (Named 1 ∷ At 2 ∷ []) ≡ Some steps = ap (
 same_kind : (a c : program.Cell) → Some a ≡ Some c → c.kind ≡ a.kind
 same_kind a c e = let p : a ≡ c = cc e in ap (λ c. c.kind) (sym p)
 
+first_kind : (i : ℕ) (c : program.Cell) → option_and_then (found cs) (first_of cs (behind fixed_cells here (path (named 1 ∷ [])) (indices i))) ≡ Some c → c.kind ≡ byte
+first_kind i c e = same_kind _ c (sym (ap (λ l. option_and_then (found cs) (first_of cs l)) (there i)) ∙ e)
+
 array_one : IsArray fixed_cells byte here (path (named 1 ∷ [])) (indices 1)
 unfolding valued small
 array_one = record {
   is_name = λ e. refl;
-  kinds = λ steps c e f. same_kind _ c (ap (found cs) (steps_one steps e) ∙ f) ∙ sym (kind_is 1);
+  kinds = λ steps c e f. same_kind _ c (ap (found cs) (steps_one steps e) ∙ f);
+  first = first_kind 1;
   ends = λ steps e h. let p : Some true ≡ Some false = sym (inside_is 1) ∙ h in cc p;
 }
 
@@ -87,6 +87,7 @@ array_two : IsArray fixed_cells byte here (path (named 1 ∷ [])) (indices 2)
 array_two = record {
   is_name = λ e. refl;
   kinds = λ steps c e f. let p : None ≡ Some c = ap (found cs) (steps_two steps e) ∙ f in cc p;
+  first = first_kind 2;
   ends = λ steps e h. ap (found cs) (sym (steps_two steps e));
 }
 
@@ -94,7 +95,7 @@ whole_literal : (n : ℕ) → n < 2 ^ 32 → IsWhole fixed_cells (literal_of n)
 whole_literal n h = whole.literal (record { bits = n }) (inr (inr (inl refl))) h
 
 whole_element : (i : ℕ) → i < 2 ^ 32 → IsArray fixed_cells byte here (path (named 1 ∷ [])) (indices i) → IsWhole fixed_cells (element_of i)
-whole_element i h a = whole.load (whole.all (subst (λ k. IsNamed fixed_cells byte here (roll-CoreBase (tree.Prefix (path (named 1 ∷ [])))) (indices i) k) (kind_is i) (whole.front (whole.index 2 (whole_literal i h) whole.none) a)))
+whole_element i h a = whole.load (whole.all (whole.front (whole.index 2 (whole_literal i h) whole.none) a))
 
 whole_sum : (i : ℕ) → i < 2 ^ 32 → IsArray fixed_cells byte here (path (named 1 ∷ [])) (indices i) → IsWhole fixed_cells (sum_of i)
 whole_sum i h a = whole.binary (record { has_rule = refl; is_narrow = refl }) (λ n e. tt) (whole_element i h a) (whole_literal 2 (lit< tt))

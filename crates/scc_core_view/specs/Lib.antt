@@ -1,8 +1,7 @@
 pub mod Terms
 pub mod Codes
 pub mod Programs
-pub mod Kinded
 pub mod WorkedBit
 pub mod Whole
 pub mod WorkedStatic
-pub mod Bodies
+pub mod Steps

@@ -16,7 +16,6 @@ use Rattle.scc_core_spec.specs.Program.{Program, Process, Cell, Sort, Edge, Rese
 use Rattle.scc_core_spec.specs.Program as program
 use Rattle.scc_core_view.specs.Terms.{name_of, part_of}
 use Rattle.scc_core_view.specs.Codes.{code_of}
-use Rattle.scc_core_view.specs.Kinded.{kinded_code}
 use Rattle.scc_core_spec.specs.Static.{Cells}
 
 abbrev pub path_of : List PathPart → List Part
@@ -44,8 +43,8 @@ edge_of e = record { cell = e.cell; rising = e.rising }
 abbrev pub reset_of : Reset2 → Reset
 reset_of r = record { cell = r.cell; level = r.level; asynchronous = r.asynchronous }
 
-abbrev pub process_of : Cells → CoreProcess → Process
-process_of cs p = record { is_thread = is_thread p.sort; name = name_of p.name; place = p.place; senses = p.senses; edge = option_map edge_of p.edge; reset = option_map reset_of p.reset; body = kinded_code cs (code_of p.body) }
+abbrev pub process_of : CoreProcess → Process
+process_of p = record { is_thread = is_thread p.sort; name = name_of p.name; place = p.place; senses = p.senses; edge = option_map edge_of p.edge; reset = option_map reset_of p.reset; body = code_of p.body }
 
 abbrev pub vector_of : VectorSize2 → Vector
 vector_of v = record { path = path_of v.path; size = v.size }
@@ -54,4 +53,4 @@ abbrev pub cells_of : Core → Cells
 cells_of c = map cell_of c.cells
 
 abbrev pub program_of : Core → Program
-program_of c = record { top = c.top.0; cells = cells_of c; vectors = map vector_of c.vectors; processes = map (process_of (cells_of c)) c.processes }
+program_of c = record { top = c.top.0; cells = cells_of c; vectors = map vector_of c.vectors; processes = map process_of c.processes }

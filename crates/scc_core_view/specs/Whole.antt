@@ -1,6 +1,6 @@
 -- Whole expressions of a core, by rules: kinds are as the tables of operators and bits have them (IEEE 1666-2011, 7.2), words fit their kinds, no divisor
 -- that is known is 0, and a location names cells of one kind. This project's own.
-use Rattle.std.specs.Prelude.{◌≡◌, ℕ, ◌+◌, ◌-◌, ◌^◌, ◌<◌, ◌≤◌, Bool, true, false, List, [], ◌∷◌, map, length, slice_get, Option, Some, None}
+use Rattle.std.specs.Prelude.{◌≡◌, ℕ, ◌+◌, ◌-◌, ◌^◌, ◌<◌, ◌≤◌, Bool, true, false, List, [], ◌∷◌, map, length, slice_get, Option, Some, None, option_and_then}
 use Rattle.scc_base.specs.declared.refusal.Place.{Place}
 use Rattle.scc_base.specs.declared.names.Name.{Name}
 use Rattle.scc_bits_kinds.specs.declared.kind.Kind.{Kind}
@@ -29,9 +29,8 @@ use Rattle.scc_core.specs.Statics.{static_of, facts_of, part_in}
 use Rattle.scc_core_spec.specs.Program as program
 use Rattle.scc_core_spec.specs.Term.{Left}
 use Rattle.scc_core_spec.specs.Named.{Step, steps_of}
-use Rattle.scc_core_spec.specs.Static.{Cells, found, pattern}
+use Rattle.scc_core_spec.specs.Static.{Cells, first_of, found, pattern}
 use Rattle.scc_core_view.specs.Terms.{name_of, taken_of}
-use Rattle.scc_core_view.specs.Kinded.{kind_at, kinded_left}
 use Rattle.scc_core_view.specs.Programs.{cell_of}
 
 -- an expression by its node, and a location by its parts
@@ -65,14 +64,15 @@ module _ (cells : List Cell) where
   abbrev pub here : Cells
   here = map cell_of cells
 
-  -- the location of a front part of a name and its parts, with the kinds of what its indices load
+  -- the location of a front part of a name and its parts
   abbrev pub behind : Place → CellName → List CorePart → Left
-  behind p name ps = kinded_left here (taken_of (location p (roll-CoreBase (tree.Prefix name)) ps None)).left
+  behind p name ps = (taken_of (location p (roll-CoreBase (tree.Prefix name)) ps None)).left
 
-  -- What a name and its parts name has the kind of the first elements there, and behind an index past its end they name nothing.
+  -- What a name and its parts name, and the first elements there, have one kind, and behind an index past its end they name nothing.
   pub record IsArray (k : Kind) (p : Place) (name : CellName) (ps : List CorePart) : Type 0 where
     pub is_name : IsName name
-    pub kinds : (steps : List Step) (c : program.Cell) → pattern here (behind p name ps) ≡ Some steps → found here steps ≡ Some c → c.kind ≡ kind_at here k (behind p name ps)
+    pub kinds : (steps : List Step) (c : program.Cell) → pattern here (behind p name ps) ≡ Some steps → found here steps ≡ Some c → c.kind ≡ k
+    pub first : (c : program.Cell) → option_and_then (found here) (first_of here (behind p name ps)) ≡ Some c → c.kind ≡ k
     pub ends : (steps : List Step) → pattern here (behind p name ps) ≡ Some steps → inside (map (part_in (facts_of cells)) ps) ≡ Some false → found here steps ≡ None
 
   mutual
@@ -92,8 +92,8 @@ module _ (cells : List Cell) where
 
     -- bits of what has the first kind, with the second
     pub data IsPicked : Kind → CorePick → Kind → Type 0 where
-      bit : {j : Kind} {e : CoreExpr} → IsWhole e → IsPicked j (roll-CorePick (tree.Bit e)) kind.Bool
-      range : {j k : Kind} (h l : ℕ) → l ≤ h → h < width_of j → range_of j (h - l + 1) ≡ Some k → IsPicked j (roll-CorePick (tree.Range h l)) k
+      bit : {j : Kind} {e : CoreExpr} → IsWhole e → IsPicked j (roll-CorePick (tree.Bit j e)) kind.Bool
+      range : {j k : Kind} (h l : ℕ) → l ≤ h → h < width_of j → range_of j (h - l + 1) ≡ Some k → IsPicked j (roll-CorePick (tree.Range j h l)) k
 
     -- further parts of a concatenation behind what has the first kind, with the second in all
     pub data AreJoined : Kind → List CoreExpr → Kind → Type 0 where
@@ -101,19 +101,19 @@ module _ (cells : List Cell) where
       next : {j i k : Kind} {e : CoreExpr} {es : List CoreExpr} → IsWhole e → concat_of j e.kind ≡ Some i → width_of j + width_of e.kind ≤ 128
           → AreJoined i es k → AreJoined j (e ∷ es) k
 
-    -- what is loaded, whole or a part of it; the tree says the kind of what is taken
+    -- what is loaded, whole or a part of it
     pub data IsLoaded : Kind → CoreLeft → Type 0 where
-      all : {p : Place} {b : CoreBase} {ps : List CorePart} {k : Kind} → IsNamed k p b ps k → IsLoaded k (location p b ps None)
-      some : {p : Place} {b : CoreBase} {ps : List CorePart} {q : CorePick} {j k : Kind} → IsNamed k p b ps j → IsPicked j q k → IsLoaded k (location p b ps (Some q))
+      all : {p : Place} {b : CoreBase} {ps : List CorePart} {k : Kind} → IsNamed p b ps k → IsLoaded k (location p b ps None)
+      some : {p : Place} {b : CoreBase} {ps : List CorePart} {q : CorePick} {j k : Kind} → IsNamed p b ps j → IsPicked j q k → IsLoaded k (location p b ps (Some q))
 
-    -- what a base and parts name, of the second kind
-    pub data IsNamed : Kind → Place → CoreBase → List CorePart → Kind → Type 0 where
+    -- what a base and parts name, of a kind
+    pub data IsNamed : Place → CoreBase → List CorePart → Kind → Type 0 where
       -- a cell that has its name for itself
-      cell : {k : Kind} {p : Place} (n : ℕ) (c : Cell) → slice_get cells n ≡ Some c → found here (steps_of (name_of c.name)) ≡ Some (cell_of c) → IsNamed k p (roll-CoreBase (tree.Cell n)) [] c.kind
-      front : {k : Kind} {p : Place} {name : CellName} {ps : List CorePart} → AreParts ps → IsArray k p name ps → IsNamed k p (roll-CoreBase (tree.Prefix name)) ps (kind_at here k (behind p name ps))
+      cell : {p : Place} (n : ℕ) (c : Cell) → slice_get cells n ≡ Some c → found here (steps_of (name_of c.name)) ≡ Some (cell_of c) → IsNamed p (roll-CoreBase (tree.Cell n)) [] c.kind
+      front : {k : Kind} {p : Place} {name : CellName} {ps : List CorePart} → AreParts ps → IsArray k p name ps → IsNamed p (roll-CoreBase (tree.Prefix name)) ps k
       -- what stands behind a pointer has no static value
-      follow : {k : Kind} {p : Place} (l : CoreLeft) (soft : Bool) {ps : List CorePart} → IsNamed k p (roll-CoreBase (tree.Follow l soft)) ps k
-      null : {k : Kind} {p : Place} {ps : List CorePart} → IsNamed k p (roll-CoreBase tree.Null) ps k
+      follow : {k : Kind} {p : Place} (l : CoreLeft) (soft : Bool) {ps : List CorePart} → IsNamed p (roll-CoreBase (tree.Follow l soft)) ps k
+      null : {k : Kind} {p : Place} {ps : List CorePart} → IsNamed p (roll-CoreBase tree.Null) ps k
 
     pub data AreParts : List CorePart → Type 0 where
       none : AreParts []

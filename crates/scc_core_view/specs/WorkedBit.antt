@@ -9,6 +9,5 @@ use Rattle.scc_core_spec.specs.Worked.{byte, cell, here}
 abbrev pub cells : List Cell
 cells = cell 0 (kind.Uint 8) (Variable 8 true) ∷ []
 
--- as the tree says it: the load has the kind of the bit
 abbrev pub bit_three : Term
-bit_three = Bit here (Load here kind.Bool (term.Cell here 0)) (byte 3)
+bit_three = Bit here (Load here (kind.Uint 8) (term.Cell here 0)) (byte 3)

@@ -43,7 +43,7 @@ literal_of n = made here int (tree.Lit (record { bits = n }))
 
 -- `x[i]`
 abbrev pub bit_of : ℕ → CoreExpr
-bit_of i = made here kind.Bool (tree.Load (location here (roll-CoreBase (tree.Cell 0)) [] (Some (roll-CorePick (tree.Bit (literal_of i))))))
+bit_of i = made here kind.Bool (tree.Load (location here (roll-CoreBase (tree.Cell 0)) [] (Some (roll-CorePick (tree.Bit byte (literal_of i))))))
 
 abbrev pub indices : ℕ → List CorePart
 indices i = roll-CorePart (tree.Index 2 (literal_of i)) ∷ []

@@ -18,9 +18,10 @@ use Rattle.scc_tree.specs.declared.item.FileTree.{FileTree}
 use Rattle.scc_core_spec.specs.Resolved.{Tried, Made, Stopped}
 use Rattle.scc_plain_first.specs.Stages.{refusal_in}
 use Rattle.scc_plain_spec.specs.Designs.{Compiled, compiled, design_in}
+use Rattle.scc_plain_laws.proofs.Topped.{stages-answer}
 use Rattle.scc_drive_spec.specs.Comes.{Request, Verdict, Refuses, Absent, Accepts, Decided, IsReadAs, stopped_by, name_in, stimulus_refusal, Comes, in_joining, in_the_grammar, in_a_stage, without_stimulus, in_the_stimulus, accepted, on_a_stimulus}
 
-module _ (q : Request) (shelf : Shelf) (decided : Decided q.many) where
+module _ (q : Request) (shelf : Shelf) (decided : Decided) where
   abbrev Some_verdict : Type 0
   Some_verdict = (x : Verdict) × Comes q shelf x
 
@@ -40,13 +41,13 @@ module _ (q : Request) (shelf : Shelf) (decided : Decided q.many) where
       by_stimulus (Some name) asked = by_held name asked (first_part shelf name) refl
 
     by_stage : (tree : FileTree) → IsReadAs q.roots shelf names sources tree → (o : Option (Tried Compiled)) → compiled q.many tree (number_in names q.top) ≡ o → Some_verdict
-    by_stage tree a None e = absurd (decided.stages tree (number_in names q.top) e)
+    by_stage tree a None e = absurd (stages-answer q.many tree (number_in names q.top) e)
     by_stage tree a (Some (Stopped r)) e = (_, in_a_stage names sources tree r a (ap (option_and_then refusal_in) e))
     by_stage tree a (Some (Made c)) e = by_stimulus tree a c e q.stimulus refl
 
     by_joining : (r : Result Joined join.Stopped) → join_of (first_part shelf) fixed_names q.roots ≡ (names, sources, r) → Some_verdict
     by_joining (Err s) e = (_, in_joining names sources s (only_stops (first_part shelf) fixed_names q.roots names sources s e))
-    by_joining (Ok j) e = by_tokens (decided.tokens j)
+    by_joining (Ok j) e = by_tokens (decided j)
       where
         joins : JoinsTo (first_part shelf) fixed_names q.roots names sources j
         joins = only_joins (first_part shelf) fixed_names q.roots names sources j e

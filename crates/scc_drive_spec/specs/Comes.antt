@@ -107,7 +107,6 @@ pub data Comes (q : Request) (shelf : Shelf) : Verdict → Type 0 where
       → stimulus_refusal q.many (name_in names c) (design_in c) (length sources) bytes ≡ None
       → Comes q shelf (Accepts (record { names = names; compiled = c; stimulus = Some (record { file = length sources; bytes = bytes }) }))
 
--- What decides: each joined text is a file of the grammar or has a first fault, and the stages give an answer for each source.
-pub record Decided (many : Bool) : Type 0 where
-  pub tokens : (j : Joined) → ((tree : FileTree) × IsReadFile j tree) ⊎ ((code : Code) × (place : Place) × IsFault j code place)
-  pub stages : (tree : FileTree) (top : ℕ) → compiled many tree top ≡ None → ⊥
+-- each joined text is a file of the grammar or has a first fault
+abbrev pub Decided : Type 0
+Decided = (j : Joined) → ((tree : FileTree) × IsReadFile j tree) ⊎ ((code : Code) × (place : Place) × IsFault j code place)

@@ -32,11 +32,10 @@ pub fn what_joining_refuses_stops_first()
         → StopsAt (first_part shelf) fixed_names q.roots names sources (join.Absent name) → Comes q shelf (Absent name) }
 {}
 
-/// Whatever the files hold, a request comes to at most one thing; and to one, where each joined text is a file of the grammar or has a first fault, and the
-/// stages give an answer.
+/// Whatever the files hold, a request comes to at most one thing; and to one, where each joined text is a file of the grammar or has a first fault.
 pub fn what_a_request_comes_to_is_one()
     ensures one { (q : Request) (shelf : Shelf) (x y : Verdict) → Comes q shelf x → Comes q shelf y → x ≡ y }
-    ensures some { (q : Request) (shelf : Shelf) → Decided q.many → (x : Verdict) × Comes q shelf x }
+    ensures some { (q : Request) (shelf : Shelf) → Decided → (x : Verdict) × Comes q shelf x }
 {}
 
 /// A source that some stage refuses has no design, and one with a design is refused by none.

@@ -242,7 +242,7 @@ fn test_of(body: &[PlainStmt]) -> Option<(&PlainStmt, &[PlainStmt])> {
 fn assign(left: &PlainLeft, value: &PlainExpr, p: &Plain, g: &mut Grown) -> Result<(), Stop> {
     let located = location_of(left, FIRM, p, g)?;
     let index = match &left.pick {
-        Some(PlainPick::Bit(index)) => Some(value_of(index, p, g)?),
+        Some(PlainPick::Bit { at: index, .. }) => Some(value_of(index, p, g)?),
         Some(PlainPick::Range { .. }) | None => None,
     };
     let new = value_of(value, p, g)?;
@@ -264,8 +264,8 @@ fn picked(
 ) -> Result<Value, NoMemory> {
     match pick {
         None => stored(new, old.kind()),
-        Some(PlainPick::Range { h, l }) => replaced(old, *h, *l, new.word().bits),
-        Some(PlainPick::Bit(_)) => match index.and_then(|i| bit_number(old, i)) {
+        Some(PlainPick::Range { h, l, .. }) => replaced(old, *h, *l, new.word().bits),
+        Some(PlainPick::Bit { .. }) => match index.and_then(|i| bit_number(old, i)) {
             Some(bit) => replaced(old, bit, bit, u128::from(new.is_true())),
             None => Ok(old),
         },

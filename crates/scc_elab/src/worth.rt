@@ -93,7 +93,7 @@ fn enter_load<'t>(e: &'t PlainExpr, left: &'t PlainLeft, w: &mut Walk<'t>) -> Re
 
 fn enter_pick<'t>(pick: &'t PlainPick, w: &mut Walk<'t>) -> Result<(), NoMemory> {
     match pick {
-        PlainPick::Bit(index) => w.then(Task::Value(index)),
+        PlainPick::Bit { at: index, .. } => w.then(Task::Value(index)),
         PlainPick::Range { .. } => Ok(()),
     }
 }
@@ -142,7 +142,7 @@ fn load(
     g: &Grown,
 ) -> Result<Value, NoMemory> {
     let bit = match &left.pick {
-        Some(PlainPick::Bit(_)) => Some(w.take()?),
+        Some(PlainPick::Bit { .. }) => Some(w.take()?),
         _ => None,
     };
     let Some(at) = w.take_located()?.at else {
@@ -153,19 +153,19 @@ fn load(
     };
     match (&left.pick, bit) {
         (None, _) => exactly(kind, value.word()),
-        (Some(PlainPick::Range { h, l }), _) => range_of(kind, value, *h, *l),
-        (Some(PlainPick::Bit(_)), Some(index)) => bit_of(kind, value, index),
-        (Some(PlainPick::Bit(_)), None) => Err(lost()),
+        (Some(PlainPick::Range { h, l, .. }), _) => range_of(kind, value, *h, *l),
+        (Some(PlainPick::Bit { .. }), Some(index)) => bit_of(kind, value, index),
+        (Some(PlainPick::Bit { .. }), None) => Err(lost()),
     }
 }
 
 fn picked(kind: Kind, pick: &PlainPick, w: &mut Walk<'_>) -> Result<Value, NoMemory> {
     match pick {
-        PlainPick::Range { h, l } => {
+        PlainPick::Range { h, l, .. } => {
             let value = w.take()?;
             range_of(kind, value, *h, *l)
         }
-        PlainPick::Bit(_) => {
+        PlainPick::Bit { .. } => {
             let index = w.take()?;
             let value = w.take()?;
             bit_of(kind, value, index)

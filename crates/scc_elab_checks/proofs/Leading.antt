@@ -12,7 +12,6 @@ use Rattle.scc_elab_spec.specs.Term.{Term}
 use Rattle.scc_elab_spec.specs.Program.{Code, End, Declare, Assign, Point, Write, Call, If, Loop, Block, Exit, Return, Wait, Make, Bind, Process, Sensitive, Quiet, Reset, Count, Function, Plain}
 use Rattle.scc_elab_spec.specs.After.{constructing}
 use Rattle.scc_plain_view.specs.Codes.{Node, stmt_node, stmt_step, stmt_code, code_of, before}
-use Rattle.scc_plain_view.specs.Kinded.{kinded_code}
 use Rattle.scc_elab_checks.specs.Open.{waiting}
 
 -- what stands before is looked at first
@@ -119,25 +118,3 @@ entered_behind ls new r s list a e = ap (λ z. or_else (constructing (stmt_code 
 pub next_ok : (r : Result (Option Place) NoMemory) (w x y : Option Place) → x ≡ y → IfOk r (λ found. or_else found w ≡ x) → IfOk r (λ found. or_else found w ≡ y)
 next_ok (Ok f) w x y e a = a ∙ e
 next_ok (Err z) w x y e a = tt
-
--- kinds of loads change nothing
-module _ (p : Plain) (f : Function) where
-  pub same_first : (c : Code) → constructing (kinded_code p f c) ≡ constructing c
-  same_first End = refl
-  same_first (Declare q n r) = same_first r
-  same_first (Assign q l k e r) = same_first r
-  same_first (Point q l t r) = same_first r
-  same_first (Write q l e r) = same_first r
-  same_first (Call q n g o args r) = same_first r
-  same_first (If q t a b r) = λ i. first_some (same_first a i ∷ same_first b i ∷ same_first r i ∷ [])
-  same_first (Loop q n b r) = λ i. or_else (same_first b i) (same_first r i)
-  same_first (Block q b r) = λ i. or_else (same_first b i) (same_first r i)
-  same_first (Exit q n r) = same_first r
-  same_first (Return q e r) = same_first r
-  same_first (Wait q n r) = same_first r
-  same_first (Make q l b args r) = refl
-  same_first (Bind q l to r) = refl
-  same_first (Process q t g e r) = refl
-  same_first (Sensitive q items r) = refl
-  same_first (Quiet q r) = refl
-  same_first (Reset q s e a r) = refl

@@ -25,17 +25,17 @@ numbered_at f xs i x e = ap (first_numbered f i) (drop-at xs i x e) ∙ ap (λ n
     next i = omega arith
 
 module _ (t : Tree) (n : ℕ) (f : PlainFunction) (there : slice_get t.functions n ≡ Some f) where
-  entry : slice_get (plain_of t).functions n ≡ Some (function_of t f)
-  entry = slice_get-map (function_of t) t.functions n ∙ ap (option_map (function_of t)) there
+  entry : slice_get (plain_of t).functions n ≡ Some (function_of f)
+  entry = slice_get-map function_of t.functions n ∙ ap (option_map function_of) there
 
   abbrev rest : ℕ → Option Refusal
   rest m = first_numbered (misplaced_in (plain_of t)) m (drop m (plain_of t).functions)
 
   -- the function is not refused
-  pub passed : misplaced_in (plain_of t) n (function_of t f) ≡ None → rest n ≡ rest (n + 1)
-  passed e = numbered_at (misplaced_in (plain_of t)) (plain_of t).functions n (function_of t f) entry ∙ ap (λ o. or_else o (rest (n + 1))) e
+  pub passed : misplaced_in (plain_of t) n (function_of f) ≡ None → rest n ≡ rest (n + 1)
+  passed e = numbered_at (misplaced_in (plain_of t)) (plain_of t).functions n (function_of f) entry ∙ ap (λ o. or_else o (rest (n + 1))) e
 
   -- the function is refused, and no other before it
-  pub says_first : (z : Stop) → misplaced (plain_of t) ≡ rest n → Says {A = Unit {0}} (misplaced_in (plain_of t) n (function_of t f)) (Err z) → Says {A = Unit {0}} (misplaced (plain_of t)) (Err z)
-  says_first (stop.Refused r) e a = e ∙ numbered_at (misplaced_in (plain_of t)) (plain_of t).functions n (function_of t f) entry ∙ ap (λ o. or_else o (rest (n + 1))) a
+  pub says_first : (z : Stop) → misplaced (plain_of t) ≡ rest n → Says {A = Unit {0}} (misplaced_in (plain_of t) n (function_of f)) (Err z) → Says {A = Unit {0}} (misplaced (plain_of t)) (Err z)
+  says_first (stop.Refused r) e a = e ∙ numbered_at (misplaced_in (plain_of t)) (plain_of t).functions n (function_of f) entry ∙ ap (λ o. or_else o (rest (n + 1))) a
   says_first stop.NoMemory e a = tt

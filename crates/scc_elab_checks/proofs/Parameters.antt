@@ -40,7 +40,7 @@ other_first (suc n) m ms a f = λ i. if f i && true then other_param n true ms e
 -- what the top's constructor has among its parameters
 pub top_says : (t : Tree) (k : PlainClass) (f : PlainFunction) (number : ℕ) → slice_get t.classes t.top ≡ Some k → k.constructor ≡ Some number → slice_get t.functions number ≡ Some f
     → option_and_then (bad_top (plain_of t)) (slice_get (plain_of t).classes t.top) ≡ option_map (refused reason.Constructor) (other_param f.params false (map member_of f.locals))
-top_says t k f number a b d = ap (option_and_then (bad_top (plain_of t))) (slice_get-map class_of t.classes t.top ∙ ap (option_map class_of) a) ∙ ap of (ap (option_and_then (slice_get (plain_of t).functions)) b ∙ slice_get-map (function_of t) t.functions number ∙ ap (option_map (function_of t)) d)
+top_says t k f number a b d = ap (option_and_then (bad_top (plain_of t))) (slice_get-map class_of t.classes t.top ∙ ap (option_map class_of) a) ∙ ap of (ap (option_and_then (slice_get (plain_of t).functions)) b ∙ slice_get-map function_of t.functions number ∙ ap (option_map function_of) d)
   where
     of : Option Function → Option Refusal
     of o = option_map (refused reason.Constructor) (other_param (unwrap_or o nowhere).params false (unwrap_or o nowhere).locals)

@@ -19,6 +19,12 @@ Says r (Ok a) = r ≡ None
 Says r (Err (stop.Refused x)) = r ≡ Some x
 Says r (Err stop.NoMemory) = Unit {0}
 
+-- no refusal, or just this one, and no memory is wanted
+abbrev pub Tells : {A : Type 0} → Option Refusal → Result A Stop → Type 0
+Tells r (Ok a) = r ≡ None
+Tells r (Err (stop.Refused x)) = r ≡ Some x
+Tells r (Err stop.NoMemory) = ⊥
+
 -- the first statement of construction in lists of which the last comes first, or else another
 abbrev pub waiting : List (Bor (List PlainStmt)) → Option Place → Option Place
 waiting [] other = other

@@ -12,7 +12,7 @@ use std::alloc::Global;
 
 // Whether the function of that number is its class's constructor.
 fn is_constructor(p: &Plain, function: &PlainFunction, number: usize) -> bool
-    ensures { result ≡ is_constructor_in (plain_of p.now) (function_of p.now function.now) number }
+    ensures { result ≡ is_constructor_in (plain_of p.now) (function_of function.now) number }
 {
     let Some(class) = function.class else {
         return false;
@@ -27,14 +27,13 @@ fn is_constructor(p: &Plain, function: &PlainFunction, number: usize) -> bool
 }
 
 // Refuses statements of construction in the function of that number, unless it is a constructor.
-#[tactic(auto, using(crate::proofs::Leading::same_first))]
 fn check_function(
     alloc: Global,
     p: &Plain,
     function: &PlainFunction,
     number: usize,
 ) -> Result<(), Stop>
-    ensures { Says (misplaced_in (plain_of p.now) number (function_of p.now function.now)) result }
+    ensures { Says (misplaced_in (plain_of p.now) number (function_of function.now)) result }
 {
     if is_constructor(p, function, number) {
         return Ok(());

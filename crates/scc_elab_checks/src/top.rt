@@ -2,9 +2,9 @@
 ghost use Rattle.std.specs.Prelude.{◌≡◌, false, map, option_and_then, slice_get};
 ghost use Rattle.scc_elab_spec.specs.Elaborated.{other_param, bad_top};
 ghost use Rattle.scc_plain_view.specs.Plains.{member_of, plain_of};
-ghost use Rattle.scc_elab_checks.specs.Open.{Says};
+ghost use Rattle.scc_elab_checks.specs.Open.{Tells};
 
-use scc_base::{Code, Place, Stop, lost};
+use scc_base::{Code, Place, Stop};
 use scc_plain_tree::{Base, Plain, PlainMember};
 
 // Where the first of so many parameters stands that is no name, or a second name.
@@ -34,18 +34,18 @@ fn first_other(params: u32, locals: &[PlainMember]) -> Option<Place>
     }
 }
 
-/// Refuses a top whose constructor has a parameter but its name, as E404.
+/// Refuses a top whose constructor has a parameter but its name, as E404. No memory is wanted.
 pub fn check_top(p: &Plain) -> Result<(), Stop>
-    ensures { Says (option_and_then (bad_top (plain_of p.now)) (slice_get (plain_of p.now).classes p.now.top)) result }
+    ensures { Tells (option_and_then (bad_top (plain_of p.now)) (slice_get (plain_of p.now).classes p.now.top)) result }
 {
     let Some(class) = p.classes.get(p.top as usize) else {
-        return Err(Stop::from(lost()));
+        return Ok(());
     };
     let Some(number) = class.constructor else {
         return Ok(());
     };
     let Some(function) = p.functions.get(number as usize) else {
-        return Err(Stop::from(lost()));
+        return Ok(());
     };
     match first_other(function.params, function.locals.as_slice()) {
         Some(place) => Err(Stop::refused(Code::Constructor, place)),

@@ -7,6 +7,7 @@ use Rattle.scc_hier_text.specs.declared.tree.Hier.{Hier}
 use Rattle.scc_hier_text.specs.declared.tree.HierModule.{HierModule}
 use Rattle.scc_blocks_spec.specs.Renamed.{BlockCode, block_code, block_as}
 use Rattle.scc_hier_spec.specs.Flattened.{IsWhole, IsFlattening, is_inner, of_top}
+use Rattle.scc_hier_spec.specs.LaidOut.{IsLaidOut}
 
 -- the numbers below n, each once
 pub record IsOrderOf (n : ℕ) (order : List ℕ) : Type 0 where
@@ -49,7 +50,7 @@ NoneTwice h = (i j : ℕ) (m n : HierModule) → slice_get h.modules i ≡ Some 
     → m.vars ≡ n.vars → m.instances ≡ n.instances → m.blocks ≡ n.blocks → ⊥
 
 -- Modules for a module's module objects, by the objects' paths and the home of each block: their flattening is the module in another order, each block comes from
--- the instance at its home's path, each object but the top is one instance, and no text stands twice.
+-- the instance at its home's path, each object but the top is one instance, they are laid out by the rules, and no text stands twice.
 pub record IsSplitUp (m : SvModule) (paths : List (List ℕ)) (homes : List ℕ) (h : Hier) : Type 0 where
   pub whole : IsWhole h
   pub top : HierModule
@@ -60,4 +61,5 @@ pub record IsSplitUp (m : SvModule) (paths : List (List ℕ)) (homes : List ℕ)
   pub homed : (of_top h top).homes ≡ map (home_of paths homes) reordered.order
   pub as_many : length (of_top h top).instances ≡ length (drop 1 paths)
   pub instances : (k : ℕ) (path : List ℕ) → slice_get (drop 1 paths) k ≡ Some path → list_any (bytes_eq (closed path)) (of_top h top).instances ≡ true
+  pub laid_out : IsLaidOut m.name h
   pub none_twice : NoneTwice h

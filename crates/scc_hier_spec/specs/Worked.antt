@@ -54,6 +54,16 @@ outer = record {
 abbrev pub two : Hier
 two = record { modules = outer ∷ inverter ∷ [] }
 
+-- wrong ones: the inverter's output is an input; the inverter has another name
+abbrev pub with_inverter : HierModule → Hier
+with_inverter m = record { modules = outer ∷ m ∷ [] }
+
+abbrev pub turned : Hier
+turned = with_inverter (record inverter { vars = bit (codes "x") dir.Input ∷ bit (codes "y") dir.Input ∷ [] })
+
+abbrev pub misnamed : Hier
+misnamed = with_inverter (record inverter { name = codes "Two$q" })
+
 -- what each inverter is in the flattening
 abbrev pub inverts : ℕ → ℕ → BlockCode
 inverts x y = Comb (Assign (Whole (record { 0 = y })) (term.Literal 1 0) (Assign (Whole (record { 0 = y })) (term.Unary LogNot (term.Part (Whole (record { 0 = x })))) End))

@@ -9,13 +9,14 @@ ghost use Rattle.scc_hier_spec.specs.Flattened.{HierShows, of_top};
 ghost use Rattle.scc_hier_spec.specs.Sound.{AreModulesNamed};
 ghost use Rattle.scc_hier_spec.specs.Text.{HierReads, hier_text};
 ghost use Rattle.scc_hier_spec.specs.Homes.{IsSplitUp};
+ghost use Rattle.scc_hier_spec.specs.LaidOut.{IsLaidOut};
 ghost use Rattle.scc_core_spec.specs.Program as core;
 ghost use Rattle.scc_core_spec.specs.WorkedRun.{counting};
 ghost use Rattle.scc_elab_spec.specs.Program.{Plain};
 ghost use Rattle.scc_elab_spec.specs.Design as plain;
 ghost use Rattle.scc_hier_spec.specs.Homed.{AreHomesOf, IsSplitByObjects, home_in, paths_of, processes_of};
 ghost use Rattle.scc_hier_spec.specs.WorkedHomes.{program, loose, design};
-ghost use Rattle.scc_hier_spec.specs.Worked.{two, outer, inverts, written};
+ghost use Rattle.scc_hier_spec.specs.Worked.{inverts, misnamed, outer, turned, two, written};
 
 /// Two inverters in a row: the variables are those of the top, and each instance has its block.
 pub fn two_inverters_are_flattened()
@@ -23,6 +24,13 @@ pub fn two_inverters_are_flattened()
     ensures blocks { (of_top two outer).blocks ≡ inverts 0 2 ∷ inverts 2 1 ∷ [] }
     ensures homes { (of_top two outer).homes ≡ codes "p$" ∷ codes "q$" ∷ [] }
     ensures text { hier_text two ≡ written }
+{}
+
+/// The two inverters are laid out by the rules. With the port of the second to the output of the top turned round, or with a module of another name, they aren't.
+pub fn two_inverters_are_laid_out()
+    ensures right { IsLaidOut (codes "Two") two }
+    ensures turned { IsLaidOut (codes "Two") turned → ⊥ }
+    ensures named { IsLaidOut (codes "Two") misnamed → ⊥ }
 {}
 
 /// The text of modules is read as one list of modules that can be flattened, and what they show is what their flattening shows.

@@ -399,8 +399,15 @@ impl Growing {
         levels: u32,
     ) -> Result<CorePick, NoMemory> {
         match pick {
-            PlainPick::Bit(at) => Ok(CorePick::Bit(self.expr_in(at, scope, here, levels)?)),
-            PlainPick::Range { h, l } => Ok(CorePick::Range { h: *h, l: *l }),
+            PlainPick::Bit { of, at } => {
+                let at = self.expr_in(at, scope, here, levels)?;
+                Ok(CorePick::Bit { of: *of, at })
+            }
+            PlainPick::Range { of, h, l } => Ok(CorePick::Range {
+                of: *of,
+                h: *h,
+                l: *l,
+            }),
         }
     }
 }

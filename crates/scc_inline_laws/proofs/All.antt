@@ -1,18 +1,18 @@
 -- A design and its copy mean the same.
-use Rattle.std.proofs.Common.{◌≡◌, ℕ, zero, suc, ◌+◌, Bool, true, false, List, [], ◌∷◌, map, Option, Some, None, option_map, option_and_then, unwrap_or, slice_get, refl, sym, ap, ◌∙◌, subst, arith}
+use Rattle.std.proofs.Common.{◌≡◌, ℕ, zero, suc, ◌+◌, true, List, [], ◌∷◌, map, Option, Some, None, option_map, unwrap_or, slice_get, refl, sym, ap, ◌∙◌, subst, arith}
 use Rattle.scc_base.specs.declared.refusal.Refusal.{Refusal}
-use Rattle.scc_semantics.specs.Location.{Location, Root}
+use Rattle.scc_semantics.specs.Location.{Location}
 use Rattle.scc_semantics.specs.Design as running
 use Rattle.scc_semantics.specs.Run.{FitsThing}
 use Rattle.scc_semantics.specs.Start.{IsProper, HoldsConstant}
 use Rattle.scc_semantics.specs.Same.{Turn, AllProper, AllTheSame, SameDesign, at_first}
 use Rattle.scc_core_spec.specs.Program as prog
-use Rattle.scc_core_spec.specs.First.{or_else, first_of, first_numbered}
-use Rattle.scc_core_spec.specs.Resolved.{Tried, Made, Stopped}
+use Rattle.scc_core_spec.specs.First.{or_else, first_numbered}
+use Rattle.scc_core_spec.specs.Resolved.{Made, Stopped}
 use Rattle.scc_core_spec.specs.Source as source
 use Rattle.scc_core_spec.specs.Source.{at_top, source_of, processes_from}
 use Rattle.scc_blocks_spec.specs.Comes.{Keeps}
-use Rattle.scc_elab_spec.specs.Program.{Plain, Function}
+use Rattle.scc_elab_spec.specs.Program.{Plain}
 use Rattle.scc_elab_spec.specs.Design as design
 use Rattle.scc_elab_spec.specs.Design.{Design}
 use Rattle.scc_elab_spec.specs.Meant as meant
@@ -23,16 +23,29 @@ use Rattle.scc_inline_spec.specs.Static.{inlined, first_copied}
 use Rattle.scc_inline_laws.specs.OrderlyDesign.{IsOrderly, IsOrderlyProcess}
 use Rattle.scc_elab_spec.specs.Cells.{path_of}
 use Rattle.scc_elab_spec.specs.Spoken.{function_body}
-use Rattle.scc_inline_process_laws.specs.Standing.{KeepsOver, KeepsAlways}
-use Rattle.scc_inline_process_laws.specs.Whole.{IsReady, own_names, spoken_design, copied_design, spoken_process, copied_as_process}
+use Rattle.scc_inline_process_laws.specs.Standing.{KeepsOver}
+use Rattle.scc_inline_process_laws.specs.Whole.{IsReady, own_names, spoken_design, copied_design, copied_as_process}
 use Rattle.scc_inline_process_laws.proofs.Kept.{kept_always}
+use Rattle.scc_semantics.specs.Location.{Top}
+use Rattle.scc_semantics.specs.Machine.{Frames, Go, Inner, Stop}
+use Rattle.scc_semantics.specs.Value.{Held}
+use Rattle.scc_core_spec.specs.Code as stmt
+use Rattle.scc_blocks_spec.specs.Comes.{Comes}
+use Rattle.scc_core_unroll_laws.specs.Unrolling.{Counters, LeadsWell}
+use Rattle.scc_core_unroll_laws.specs.Unrolling as unrolling
+use Rattle.scc_core_unroll_laws.proofs.Knowing.{counters}
+use Rattle.scc_inline_spec.specs.Inlined.{body_of, call_of}
+use Rattle.scc_inline_process_laws.specs.Relation.{around}
+use Rattle.scc_inline_process_laws.proofs.Leading.{comes-well, top-well}
+use Rattle.scc_inline_laws.proofs.Homes.{is-home}
+use Rattle.scc_inline_laws.proofs.Naming.{is-named}
 use Rattle.scc_inline_laws.proofs.Owned.{own-home}
 use Rattle.scc_inline_laws.proofs.Ordered.{sound-body}
 use Rattle.scc_inline_laws.proofs.Chained.{first-stands}
 use Rattle.scc_inline_laws.proofs.PlacesSame.{places-same, targets-same, fixed-same}
 use Rattle.scc_inline_laws.proofs.Headings.{ports-same, sort-same, core-moves}
 use Rattle.scc_inline_process_laws.proofs.Whole.{process-same}
-use Rattle.scc_inline_laws.proofs.Objects.{objects-chosen}
+use Rattle.scc_inline_counter_laws.proofs.Objects.{objects-chosen}
 
 -- a walk that finds nothing
 none-numbered : {A B : Type 0} (f : ℕ → A → Option B) (n : ℕ) (xs : List A) → first_numbered f n xs ≡ None → (a : ℕ) (x : A) → slice_get xs a ≡ Some x → f (n + a) x ≡ None
@@ -90,18 +103,56 @@ module _ (p : Plain) (d : Design) (constant : Location → Option ℕ) (ord : Is
   all-proper [] x = tt
   all-proper (t ∷ ts) x = (proper t.words x.0, proper t.signals x.1, all-proper ts x.2)
 
+  copied-there : (k : ℕ) (qs : List design.Process) (a : ℕ) (q : design.Process) → slice_get qs a ≡ Some q → slice_get (copied_from p d k qs) a ≡ Some (copied_process p d (k + a) q)
+  copied-there k [] a q e = cc
+  copied-there k (x ∷ qs) zero q e = let z : x ≡ q = cc in let w : k ≡ k + 0 = omega arith in ap (λ k. Some (copied_process p d k x)) w ∙ ap (λ x. Some (copied_process p d (k + 0) x)) z
+  copied-there k (x ∷ qs) (suc a) q e = let w : suc k + a ≡ k + suc a = omega arith in copied-there (suc k) qs a q e ∙ ap (λ k. Some (copied_process p d k q)) w
+
+  -- the counters of a process's copy
+  copy-counters : (i : ℕ) (q : design.Process) (there : slice_get d.processes i ≡ Some q) → Counters (around (home_of p d) E.places (own_names p d constant i q) (here_of p d i q (ord.processes i q there).function))
+  copy-counters i q there =
+      let c = counters (home_of p d) (is-home p d ord) (copied_program p d) constant i (copied_process p d i q) (is-named p d ord) (let w : 0 + i ≡ i = omega arith in copied-there 0 d.processes i q there ∙ ap (λ k. Some (copied_process p d k q)) w) in
+      record { home = c.home; numbers = c.numbers }
+
+  -- no pointer leads to them
+  copy-well : (i : ℕ) (q : design.Process) (there : slice_get d.processes i ≡ Some q) (signals : Location → ℕ) (f : Frames) (a : Held) → Comes E i (copied_as_process p d constant i q) signals f a
+      → LeadsWell (around (home_of p d) E.places (own_names p d constant i q) (here_of p d i q (ord.processes i q there).function)) a.store.targets
+  copy-well i q there signals f a x =
+      let w = around (home_of p d) E.places (own_names p d constant i q) (here_of p d i q (ord.processes i q there).function) in
+      (comes-well w (copy-counters i q there) E refl refl (copied_as_process p d constant i q)
+      (ap (λ o. Go Inner (unrolling.own w) (source.body_of (home_of p d) (copied_program p d).cells i (unwrap_or (option_map (λ f. let h = here_of p d i q f in stmt.Block q.place (body_of (call_of h levels) h 0 [] f.body) stmt.End) o) stmt.End)) Stop) (ord.processes i q there).stands)
+      (top-well w (copy-counters i q there) E.targets (λ l m e. top (source.cell_there (home_of p d) (copied_program p d) true l) m e)) x).1
+    where
+      sorts : (c : prog.Cell) (u : prog.Sort) (m : Location) → source.target_there (home_of p d) (copied_program p d) (Some (record c { sort = u })) ≡ Some m → m.root ≡ Top
+      sorts c (prog.Pointer (Some path)) m e = let z : at_top path ≡ m = cc in ap (λ l. l.root) (sym z)
+      sorts c (prog.Pointer None) m e = cc
+      sorts c prog.Input m e = cc
+      sorts c prog.Output m e = cc
+      sorts c prog.Signal m e = cc
+      sorts c (prog.Variable x b) m e = cc
+      sorts c (prog.Local j) m e = cc
+      sorts c (prog.Port r) m e = cc
+
+      top : (c : Option prog.Cell) (m : Location) → source.target_there (home_of p d) (copied_program p d) c ≡ Some m → m.root ≡ Top
+      top None m e = cc
+      top (Some c) m e = sorts c c.sort m e
+
   pub ready : (i : ℕ) (q : design.Process) → slice_get d.processes i ≡ Some q → IsReady p d constant i q
-  ready i q there = let ok = ord.processes i q there in record {
-    function = ok.function;
-    stands = ok.stands;
-    places = places-same p d constant ord small;
-    targets = targets-same p d constant ord small;
-    sound = sound-body p d constant i q there ok levels [] q.function ok.function (first-stands p d constant i q there ok (small i q there)) (here_of p d i q ok.function).this tt refl (objects-chosen p d i q ok (unrefused i q there));
-    keeps = λ ns ts x. subst (λ z. KeepsOver (home_of p d) z (own_names p d constant i q) (here_of p d i q ok.function) E i (copied_as_process p d constant i q) (at_first E i (copied_as_process p d constant i q)) ns ts) (places-same p d constant ord small)
-        (kept_always (home_of p d) (copied_program p d) constant (own-home p d) (core-moves p d) keeps i (copied_as_process p d constant i q)
-        (let w : 0 + i ≡ i = omega arith in process-there 0 d.processes i q there ∙ ap (λ k. Some (copied_as_process p d constant k q)) w)
-        (own_names p d constant i q) (here_of p d i q ok.function) refl refl ns ts (all-proper ts x));
-  }
+  ready i q there = let ok = ord.processes i q there in
+      let c = subst (λ z. Counters (around (home_of p d) z (own_names p d constant i q) (here_of p d i q ok.function))) (places-same p d constant ord small) (copy-counters i q there) in
+      record {
+        function = ok.function;
+        stands = ok.stands;
+        places = places-same p d constant ord small;
+        targets = targets-same p d constant ord small;
+        counters = c;
+        sound = sound-body p d constant i q there ok c levels [] q.function ok.function (first-stands p d constant i q there ok (small i q there)) (here_of p d i q ok.function).this tt refl []
+            (objects-chosen p d i q ok.function ok.stands ord.arrays (unrefused i q there)) (λ o e. cc);
+        keeps = λ ns ts x. subst (λ z. KeepsOver (home_of p d) z (own_names p d constant i q) (here_of p d i q ok.function) E i (copied_as_process p d constant i q) (at_first E i (copied_as_process p d constant i q)) ns ts) (places-same p d constant ord small)
+            (kept_always (home_of p d) (copied_program p d) constant (own-home p d) (core-moves p d) keeps i (copied_as_process p d constant i q)
+            (let w : 0 + i ≡ i = omega arith in process-there 0 d.processes i q there ∙ ap (λ k. Some (copied_as_process p d constant k q)) w)
+            (own_names p d constant i q) (here_of p d i q ok.function) refl refl (copy-well i q there) ns ts (all-proper ts x));
+      }
 
   all-same : (k : ℕ) (qs : List design.Process) → ((a : ℕ) (q : design.Process) → slice_get qs a ≡ Some q → slice_get d.processes (k + a) ≡ Some q)
       → AllTheSame 1 D E k (map (λ q. record { object = meant.at_path p d (path_of d q.object); sort = meant.sort_of p d q q.is_thread q.edge; body = function_body p q.function }) qs) (processes_from (home_of p d) (copied_program p d) k (copied_from p d k qs))

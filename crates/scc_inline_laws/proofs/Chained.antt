@@ -1,17 +1,16 @@
 -- Each chain of calls is numbered.
-use Rattle.std.proofs.Common.{◌≡◌, ℕ, zero, suc, ◌+◌, ◌≤◌, ◌<◌, max, Bool, true, false, ◌||◌, nat_lt, List, [], ◌∷◌, ◌++◌, Option, Some, None, option_map, option_and_then, unwrap_or, slice_get, refl, sym, ap, ◌∙◌, subst, arith}
+use Rattle.std.proofs.Common.{◌≡◌, ℕ, ◌+◌, ◌≤◌, ◌<◌, max, Bool, true, false, ◌||◌, nat_lt, List, [], ◌∷◌, Option, Some, None, option_map, option_and_then, unwrap_or, slice_get, refl, sym, ap, ◌∙◌, subst, arith}
 use Rattle.std.proofs.lemmas.Bool.{lt-ltb, ltb-true, ltb-false}
 use Rattle.std.proofs.Math.Nat.{le-max_left}
 use Rattle.scc_base.specs.declared.refusal.Refusal.{Refusal}
 use Rattle.scc_base.specs.declared.code.Code.TheVariants as reason
-use Rattle.scc_semantics.specs.Location.{Location, Root}
-use Rattle.scc_semantics.specs.Location as location
+use Rattle.scc_semantics.specs.Location.{Location}
 use Rattle.scc_core_spec.specs.Code as stmt
 use Rattle.scc_core_spec.specs.First.{when, refused}
 use Rattle.scc_elab_spec.specs.Program.{Function, Plain}
 use Rattle.scc_elab_spec.specs.Design as design
 use Rattle.scc_elab_spec.specs.Design.{Design}
-use Rattle.scc_elab_spec.specs.Numbering.{body_declares, call_declares, callee, function_at, numbered, once, levels}
+use Rattle.scc_elab_spec.specs.Numbering.{body_declares, call_declares, callee, function_at, numbered, levels}
 use Rattle.scc_inline_spec.specs.Inlined.{here_of, body_of, call_of, copied_body, too_large}
 use Rattle.scc_states_laws.proofs.Values.{some_same, then_is}
 use Rattle.scc_inline_laws.specs.OrderlyDesign.{IsOrderlyProcess}

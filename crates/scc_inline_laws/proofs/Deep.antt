@@ -1,12 +1,12 @@
 -- How deep calls stand in one another: no deeper than the copied body is high.
-use Rattle.std.proofs.Common.{◌≡◌, ℕ, zero, suc, ◌+◌, ◌≤◌, ◌<◌, max, Bool, true, false, List, [], ◌∷◌, ◌++◌, Option, Some, None, option_map, unwrap_or, slice_get, if◌then◌else◌, refl, sym, ap, ◌∙◌, subst, arith}
+use Rattle.std.proofs.Common.{◌≡◌, ℕ, zero, suc, ◌+◌, ◌≤◌, max, Bool, true, false, List, [], ◌∷◌, ◌++◌, Option, Some, None, option_map, unwrap_or, slice_get, if◌then◌else◌, refl, sym, ap, ◌∙◌, subst, arith}
 use Rattle.std.proofs.Math.Nat.{le-max_left, le-max_right, max-le}
 use Rattle.scc_base.specs.declared.refusal.Place.{Place}
 use Rattle.scc_bits_kinds.specs.declared.kind.Kind.{Kind}
 use Rattle.scc_core_spec.specs.Term as core
 use Rattle.scc_core_spec.specs.Code as stmt
 use Rattle.scc_core_spec.specs.Code.{height}
-use Rattle.scc_elab_spec.specs.Term.{Term, Argument, Value, Leads, ModuleName}
+use Rattle.scc_elab_spec.specs.Term.{Argument, Value, Leads, ModuleName}
 use Rattle.scc_elab_spec.specs.Program.{Code, End, Declare, Assign, Point, Write, Call, If, Loop, Block, Exit, Return, Wait, Make, Bind, Process, Sensitive, Quiet, Reset, Function, Plain, Member}
 use Rattle.scc_elab_spec.specs.Types.{is_direct}
 use Rattle.scc_elab_spec.specs.Copied.{Here, local_name}

@@ -1,30 +1,19 @@
 -- The cells of a copied program by their locations: those of objects, and those of locals.
-use Rattle.std.proofs.Common.{◌≡◌, ◌⊎◌, inl, inr, ℕ, zero, suc, ◌+◌, ◌<◌, Bool, true, false, not, ◌&&◌, ◌||◌, nat_eq, List, [], ◌∷◌, ◌++◌, map, Option, Some, None, option_map, option_and_then, unwrap_or, slice_get, if◌then◌else◌, refl, sym, ap, ◌∙◌, subst, arith}
+use Rattle.std.proofs.Common.{◌≡◌, ◌⊎◌, inl, inr, ℕ, suc, ◌+◌, Bool, true, false, not, ◌&&◌, List, [], ◌∷◌, Some, None, slice_get, if◌then◌else◌, refl, sym, ap, ◌∙◌, subst, arith}
 use Rattle.std.specs.Prelude.{find}
-use Rattle.std.specs.Option.{option_or}
-use Rattle.std.specs.List.{list_any}
 use Rattle.std.proofs.lemmas.Bool.{eqb-true, eq-eqb}
-use Rattle.std.proofs.lemmas.List.Folds.{find-append}
 use Rattle.scc_bits_kinds.specs.declared.kind.Kind.TheVariants as kind
 use Rattle.scc_semantics.specs.Location.{Location, Root, Part, Element, same, same_root, same_path, same_part}
 use Rattle.scc_semantics.specs.Location as location
 use Rattle.scc_semantics.specs.Same.{is_own}
 use Rattle.scc_core_spec.specs.Program as prog
-use Rattle.scc_core_spec.specs.Source.{Home, at_top, cell_location, process_named, cell_there, location_of}
-use Rattle.scc_elab_spec.specs.Program.{Function, Plain, Member}
-use Rattle.scc_elab_spec.specs.Design as design
+use Rattle.scc_core_spec.specs.Source.{Home, at_top, cell_location, process_named, location_of}
+use Rattle.scc_elab_spec.specs.Program.{Plain}
 use Rattle.scc_elab_spec.specs.Design.{Design, Object, Node, Module, Port, Signal, Variable, Pointer}
-use Rattle.scc_elab_spec.specs.Types.{is_direct}
-use Rattle.scc_elab_spec.specs.Cells.{object_cell, cells_from, object_cells, path_of, is_top, parent, port_sort, target_of, is_fixed, cell_of}
+use Rattle.scc_elab_spec.specs.Cells.{object_cell, cells_from, path_of, is_top, parent, port_sort, target_of, is_fixed, cell_of}
 use Rattle.scc_elab_spec.specs.Meant as meant
-use Rattle.scc_elab_spec.specs.Worth.{is_inside}
-use Rattle.scc_elab_spec.specs.Numbering.{numbered}
-use Rattle.scc_elab_spec.specs.Bodies.{elements, number_kind}
-use Rattle.scc_inline_spec.specs.Inlined.{home_of, copied_program, copied_from, process_path, member_of_root, own_cell, own_cells, all_cells, core_cells}
+use Rattle.scc_inline_spec.specs.Inlined.{home_of, copied_program}
 use Rattle.scc_inline_laws.proofs.Homed.{same_root-is}
-use Rattle.scc_inline_laws.proofs.Listed.{root-same}
-use Rattle.scc_inline_laws.proofs.Elements.{listed-inside}
-use Rattle.scc_inline_laws.proofs.Owned.{own-home}
 
 pub path-same : (a : List Part) → same_path a a ≡ true
 path-same [] = refl

@@ -1,5 +1,5 @@
 -- The cell that stands at a local of a process, among all cells.
-use Rattle.std.proofs.Common.{◌≡◌, ◌⊎◌, inl, inr, ℕ, zero, suc, ◌+◌, ◌<◌, Bool, true, false, not, ◌&&◌, ◌||◌, nat_eq, List, [], ◌∷◌, ◌++◌, map, Option, Some, None, option_map, option_and_then, unwrap_or, slice_get, if◌then◌else◌, refl, sym, ap, ◌∙◌, subst, arith}
+use Rattle.std.proofs.Common.{◌≡◌, ◌⊎◌, inl, inr, ℕ, zero, suc, ◌+◌, Bool, true, false, List, [], ◌∷◌, Option, Some, None, option_and_then, unwrap_or, slice_get, if◌then◌else◌, refl, sym, ap, ◌∙◌, subst, arith}
 use Rattle.std.specs.Prelude.{find}
 use Rattle.std.specs.Option.{option_or}
 use Rattle.std.specs.List.{list_any}
@@ -14,12 +14,12 @@ use Rattle.scc_elab_spec.specs.Design as design
 use Rattle.scc_elab_spec.specs.Design.{Design}
 use Rattle.scc_elab_spec.specs.Cells.{object_cells}
 use Rattle.scc_elab_spec.specs.Numbering.{numbered}
-use Rattle.scc_inline_spec.specs.Inlined.{home_of, copied_program, copied_from, copied_process, process_path, member_of_root, own_cells, all_cells}
+use Rattle.scc_inline_spec.specs.Inlined.{home_of, copied_from, process_path, member_of_root, own_cells, all_cells}
 use Rattle.scc_inline_laws.specs.OrderlyDesign.{IsOrderly}
-use Rattle.scc_inline_laws.proofs.Owned.{own-home, owned-numbered}
+use Rattle.scc_inline_laws.proofs.Owned.{owned-numbered}
 use Rattle.scc_inline_laws.proofs.Listed.{root-same}
 use Rattle.scc_inline_laws.proofs.Found.{home, core, test, roots-apart, path-same, no-object, is_top_root}
-use Rattle.scc_inline_laws.proofs.FoundOwn.{wants, hits, owned-in, IsOwnCell, own-find}
+use Rattle.scc_inline_laws.proofs.FoundOwn.{hits, owned-in, IsOwnCell, own-find}
 
 module _ (p : Plain) (d : Design) (ord : IsOrderly p d) where
   -- a process is found by its name

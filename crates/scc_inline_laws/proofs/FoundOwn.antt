@@ -1,29 +1,24 @@
 -- The cells of locals by their locations.
-use Rattle.std.proofs.Common.{◌≡◌, ◌⊎◌, inl, inr, ℕ, zero, suc, ◌+◌, ◌<◌, Bool, true, false, not, ◌&&◌, ◌||◌, nat_eq, List, [], ◌∷◌, ◌++◌, map, Option, Some, None, option_map, option_and_then, unwrap_or, slice_get, if◌then◌else◌, refl, sym, ap, ◌∙◌, subst, arith}
+use Rattle.std.proofs.Common.{◌≡◌, ◌⊎◌, inl, inr, ℕ, suc, ◌+◌, Bool, true, false, not, ◌&&◌, ◌||◌, List, [], ◌∷◌, map, Option, Some, None, option_map, unwrap_or, slice_get, if◌then◌else◌, refl, sym, ap, ◌∙◌, subst, arith}
 use Rattle.std.specs.Prelude.{find}
 use Rattle.std.specs.Option.{option_or}
 use Rattle.std.specs.List.{list_any}
 use Rattle.std.proofs.lemmas.List.Folds.{find-append}
-use Rattle.scc_bits_kinds.specs.declared.kind.Kind.{Kind}
 use Rattle.scc_semantics.specs.Location.{Location, Root, Part, Element, same, same_root, same_path}
-use Rattle.scc_semantics.specs.Location as location
 use Rattle.scc_semantics.specs.Same.{is_own}
 use Rattle.scc_core_spec.specs.Program as prog
-use Rattle.scc_core_spec.specs.Source.{at_top, cell_location, process_named}
-use Rattle.scc_elab_spec.specs.Program.{Function, Plain, Member}
-use Rattle.scc_elab_spec.specs.Design as design
+use Rattle.scc_core_spec.specs.Source.{process_named}
+use Rattle.scc_elab_spec.specs.Program.{Plain, Member}
 use Rattle.scc_elab_spec.specs.Design.{Design}
 use Rattle.scc_elab_spec.specs.Types.{is_direct}
 use Rattle.scc_elab_spec.specs.Worth.{is_inside}
-use Rattle.scc_elab_spec.specs.Numbering.{numbered}
 use Rattle.scc_elab_spec.specs.Bodies.{elements, number_kind}
-use Rattle.scc_inline_spec.specs.Inlined.{home_of, copied_program, copied_from, process_path, member_of_root, own_cell, own_cells, all_cells}
-use Rattle.scc_inline_laws.specs.OrderlyDesign.{IsOrderly}
-use Rattle.scc_inline_laws.proofs.Homed.{same_root-is, any-find}
+use Rattle.scc_inline_spec.specs.Inlined.{home_of, member_of_root, own_cell, own_cells}
+use Rattle.scc_inline_laws.proofs.Homed.{same_root-is}
 use Rattle.scc_inline_laws.proofs.Listed.{root-same}
 use Rattle.scc_inline_laws.proofs.Elements.{listed-inside}
-use Rattle.scc_inline_laws.proofs.Owned.{own-home, owned-numbered, Owned}
-use Rattle.scc_inline_laws.proofs.Found.{home, core, test, roots-apart, path-same}
+use Rattle.scc_inline_laws.proofs.Owned.{Owned}
+use Rattle.scc_inline_laws.proofs.Found.{core, test}
 
 -- a local takes part in a look for pointers, or for others
 abbrev pub wants : Bool → Member → Bool

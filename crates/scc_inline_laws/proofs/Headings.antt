@@ -1,9 +1,8 @@
 -- A design and its copy have the same ports, and their processes the same sorts.
-use Rattle.std.proofs.Common.{◌≡◌, ◌⊎◌, inl, inr, ℕ, zero, suc, ◌+◌, Bool, true, false, not, ◌&&◌, cond, List, [], ◌∷◌, ◌++◌, map, length, filter, filter_map, take, Option, Some, None, option_map, option_and_then, unwrap_or, is_some, slice_get, if◌then◌else◌, refl, sym, ap, ◌∙◌, subst, arith}
+use Rattle.std.proofs.Common.{◌≡◌, ◌⊎◌, inl, inr, ℕ, zero, suc, Bool, true, false, not, cond, List, [], ◌∷◌, ◌++◌, map, length, filter, filter_map, take, Option, Some, None, option_map, unwrap_or, is_some, slice_get, if◌then◌else◌, refl, sym, ap, ◌∙◌, subst}
 use Rattle.std.specs.List.{cons_option}
 use Rattle.scc_bits_kinds.specs.declared.kind.Kind.TheVariants as kind
 use Rattle.scc_semantics.specs.Location.{Location, Root, Part}
-use Rattle.scc_semantics.specs.Location as location
 use Rattle.scc_semantics.specs.Places as thing
 use Rattle.scc_semantics.specs.Design as running
 use Rattle.scc_core_spec.specs.Program as prog
@@ -37,7 +36,7 @@ append-none : {A : Type 0} (xs ys : List A) → ys ≡ [] → xs ++ ys ≡ xs
 append-none [] ys e = e
 append-none (x ∷ xs) ys e = ap (λ z. x ∷ z) (append-none xs ys e)
 
-get-append : {A : Type 0} (xs ys : List A) (n : ℕ) (x : A) → slice_get xs n ≡ Some x → slice_get (xs ++ ys) n ≡ Some x
+pub get-append : {A : Type 0} (xs ys : List A) (n : ℕ) (x : A) → slice_get xs n ≡ Some x → slice_get (xs ++ ys) n ≡ Some x
 get-append [] ys n x e = cc
 get-append (y ∷ xs) ys zero x e = e
 get-append (y ∷ xs) ys (suc n) x e = get-append xs ys n x e

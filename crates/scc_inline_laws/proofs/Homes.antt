@@ -1,12 +1,10 @@
 -- The numbers of processes lead each to a root of its own.
-use Rattle.std.proofs.Common.{◌≡◌, ◌⊎◌, inl, inr, ℕ, zero, suc, ◌+◌, ◌≤◌, ◌<◌, Bool, true, false, not, ◌&&◌, ◌||◌, nat_eq, nat_lt, cond, List, [], ◌∷◌, ◌++◌, map, length, filter, Option, Some, None, option_map, option_and_then, unwrap_or, slice_get, if◌then◌else◌, refl, sym, ap, ◌∙◌, subst, arith}
+use Rattle.std.proofs.Common.{◌≡◌, ℕ, zero, suc, ◌+◌, ◌≤◌, ◌<◌, Bool, true, false, not, ◌||◌, cond, List, [], ◌∷◌, ◌++◌, length, filter, Option, Some, None, option_map, option_and_then, unwrap_or, slice_get, if◌then◌else◌, refl, sym, ap, ◌∙◌, subst, arith}
 use Rattle.std.specs.List.{list_any, range_with_len}
-use Rattle.std.proofs.lemmas.Bool.{eq-eqb, eqb-true}
 use Rattle.std.proofs.lemmas.Option.{slice_get_within}
 use Rattle.scc_bits_kinds.specs.declared.kind.Kind.{Kind}
 use Rattle.scc_semantics.specs.Location.{Root, same_root, same_calls}
 use Rattle.scc_semantics.specs.Location as location
-use Rattle.scc_semantics.specs.Same.{is_own}
 use Rattle.scc_blocks_spec.specs.Passed.{IsHome}
 use Rattle.scc_elab_spec.specs.Term.{Left, Local, Answer, This, Follow, Member, Index}
 use Rattle.scc_elab_spec.specs.Program.{Code, End, Declare, Assign, Point, Write, Call, If, Loop, Block, Exit, Return, Wait, Make, Bind, Process, Sensitive, Quiet, Reset, Function, Plain}
@@ -14,8 +12,8 @@ use Rattle.scc_elab_spec.specs.Design as design
 use Rattle.scc_elab_spec.specs.Design.{Design}
 use Rattle.scc_elab_spec.specs.Numbering.{Calling, declares, body_declares, call_declares, first_locals, result_root, whole_local, once, numbered, levels}
 use Rattle.scc_inline_spec.specs.Inlined.{home_of}
-use Rattle.scc_inline_laws.specs.Orderly.{IsOrderlyCode, IsOrderlyLeft, IsOrderlyFunction}
-use Rattle.scc_inline_laws.specs.OrderlyDesign.{IsOrderly, IsOrderlyProcess}
+use Rattle.scc_inline_laws.specs.Orderly.{IsOrderlyCode, IsOrderlyLeft}
+use Rattle.scc_inline_laws.specs.OrderlyDesign.{IsOrderly}
 use Rattle.scc_inline_laws.proofs.Elements.{Each, each-append, each-map, each-range}
 use Rattle.scc_inline_laws.proofs.Homed.{same_root-is}
 use Rattle.scc_inline_laws.proofs.Listed.{IsIn, Lists, root-same, lists-once, lists-back, lists-local}

@@ -14,7 +14,7 @@ pub mod LocalsSame
 pub mod ResultsSame
 pub mod PlacesSame
 pub mod Headings
-pub mod Objects
+pub mod Still
 pub mod All
 pub mod Homes
 pub mod Plain

@@ -1,5 +1,5 @@
 -- A copied core's names tell its processes and locals apart.
-use Rattle.std.proofs.Common.{◌≡◌, ◌⊎◌, inl, inr, ℕ, zero, suc, ◌+◌, Bool, true, false, List, [], ◌∷◌, ◌++◌, map, Option, Some, None, option_map, slice_get, unwrap_or, refl, sym, ap, ◌∙◌, subst, arith}
+use Rattle.std.proofs.Common.{◌≡◌, ℕ, zero, suc, ◌+◌, Bool, true, false, List, [], ◌∷◌, ◌++◌, map, Option, Some, None, option_map, slice_get, unwrap_or, refl, sym, ap, ◌∙◌, subst, arith}
 use Rattle.std.specs.Prelude.{if◌then◌else◌}
 use Rattle.scc_semantics.specs.Location.{Root, Part}
 use Rattle.scc_core_spec.specs.Program as prog
@@ -23,7 +23,7 @@ local-append [] b x y = y
 local-append (c ∷ a) b x y = (x.0, local-append a b x.1 y)
 
 -- a copied process is that of a process
-copied-at : (p : Plain) (d : Design) (i n : ℕ) (qs : List design.Process) (x : prog.Process) → slice_get (copied_from p d i qs) n ≡ Some x → (q : design.Process) × (slice_get qs n ≡ Some q) × (copied_process p d (i + n) q ≡ x)
+pub copied-at : (p : Plain) (d : Design) (i n : ℕ) (qs : List design.Process) (x : prog.Process) → slice_get (copied_from p d i qs) n ≡ Some x → (q : design.Process) × (slice_get qs n ≡ Some q) × (copied_process p d (i + n) q ≡ x)
 copied-at p d i n [] x e = absurd cc
 copied-at p d i zero (q ∷ qs) x e = let z : i + 0 ≡ i = omega arith in let y : copied_process p d i q ≡ x = cc in (q, refl, ap (λ i. copied_process p d i q) z ∙ y)
 copied-at p d i (suc n) (q ∷ qs) x e = let z : i + suc n ≡ suc i + n = omega arith in let u = copied-at p d (suc i) n qs x e in (u.0, u.1, ap (λ i. copied_process p d i u.0) z ∙ u.2)

@@ -1,6 +1,5 @@
 -- The statements of orderly functions are sound, wherever calls lead.
-use Rattle.std.proofs.Common.{◌≡◌, ℕ, zero, suc, ◌+◌, ◌≤◌, ◌<◌, max, Bool, true, false, not, nat_eq, ◌&&◌, List, [], ◌∷◌, ◌++◌, map, length, Option, Some, None, option_map, option_and_then, unwrap_or, slice_get, if◌then◌else◌, refl, sym, ap, ◌∙◌, subst, arith}
-use Rattle.std.specs.List.{range_with_len}
+use Rattle.std.proofs.Common.{◌≡◌, ℕ, zero, suc, ◌+◌, ◌≤◌, ◌<◌, max, Bool, true, false, not, nat_eq, List, [], ◌∷◌, ◌++◌, map, length, Option, Some, None, option_map, option_and_then, unwrap_or, slice_get, if◌then◌else◌, refl, sym, ap, ◌∙◌, subst, arith}
 use Rattle.std.proofs.lemmas.Option.{slice_get_within}
 use Rattle.std.proofs.Math.Nat.{le-max_left, le-max_right}
 use Rattle.scc_base.specs.declared.refusal.Place.{Place}
@@ -23,16 +22,27 @@ use Rattle.scc_elab_spec.specs.Design as design
 use Rattle.scc_elab_spec.specs.Design.{Design}
 use Rattle.scc_elab_spec.specs.Types.{is_direct, is_reference, declared_at, points_at, sizes_at}
 use Rattle.scc_elab_spec.specs.Worth.{is_inside, member_name}
-use Rattle.scc_elab_spec.specs.Meant.{function_of, local_of, number_there, thing_at, pointer_at}
-use Rattle.scc_elab_spec.specs.Numbering.{declares, callee, body_declares, call_declares, first_locals, result_root, whole_local, function_at, numbered, number_of, levels}
+use Rattle.scc_elab_spec.specs.Meant.{function_of, local_of, number_there}
+use Rattle.scc_elab_spec.specs.Numbering.{declares, callee, body_declares, call_declares, first_locals, result_root, function_at, numbered, number_of, levels}
 use Rattle.scc_elab_spec.specs.Copied.{Here, located, copied, refer, size_here, local_root, local_name, answer_name}
 use Rattle.scc_elab_spec.specs.Copied as copied
-use Rattle.scc_elab_spec.specs.Bodies.{elements, inside, object_of, result_name, callee_of, soften}
+use Rattle.scc_elab_spec.specs.Bodies.{elements, inside, object_of, result_name, soften, cell_of, cleared, passed, sizes_of, aimed, pointed, is_first, local_as_whole}
 use Rattle.scc_inline_spec.specs.Inlined.{here_of, home_of}
-use Rattle.scc_inline_process_laws.specs.Sound.{IsKinded, IsKindedLeft, IsHomed, IsObject, IsSoundTerm, IsSoundLeft}
-use Rattle.scc_inline_process_laws.specs.SoundCode.{IsSoundPick, IsSoundTarget, IsNumberAt, IsPointerAt, AllPlaced, IsPlaced, AllSmall, IsSoundObject, AreSoundArguments, IsSoundAnswer, IsSoundReturn, IsSoundCode, IsSoundCall, IsFirm, element_of_local}
-use Rattle.scc_inline_laws.specs.Orderly.{IsOrderlyLocal, Takes, is_object, IsOrderlyTerm, IsOrderlyLeft, IsOrderlyPick, IsOrderlyTarget, IsOrderlyObject, AreOrderlyArguments, IsOrderlyReturn, IsOrderlyCode, IsOrderlyFunction}
-use Rattle.scc_inline_laws.specs.OrderlyDesign.{IsChosenObject, ChoosesCode, ChoosesCall, IsOrderlyProcess}
+use Rattle.scc_core_unroll_laws.specs.Kinds.{IsKindedLeft}
+use Rattle.scc_inline_process_laws.specs.Sound.{IsObject, IsSoundTerm, IsSoundLeft}
+use Rattle.scc_inline_process_laws.specs.SoundCode.{IsSoundPick, IsSoundTarget, IsNumberAt, IsPointerAt, AllPlaced, IsPlaced, AllSmall, IsSoundObject, AreSoundArguments, IsSoundAnswer, IsSoundReturn, IsSoundCode, IsSoundCall, element_of_local}
+use Rattle.scc_inline_laws.specs.Orderly.{is_object, IsOrderlyTerm, IsOrderlyLeft, IsOrderlyPick, IsOrderlyTarget, IsOrderlyObject, AreOrderlyArguments, IsOrderlyReturn, IsOrderlyCode, IsOrderlyFunction}
+use Rattle.scc_inline_laws.specs.OrderlyDesign.{IsOrderlyProcess}
+use Rattle.std.specs.Prelude.{nat_le}
+use Rattle.scc_core_spec.specs.Code as stmt
+use Rattle.scc_core_spec.specs.Code.{holds_wait}
+use Rattle.scc_core_spec.specs.Counted.{Counter, Setting, is_it, own_at, uses}
+use Rattle.scc_core_unroll_laws.specs.Unrolling.{Counters}
+use Rattle.scc_inline_spec.specs.Static.{setting_in}
+use Rattle.scc_inline_spec.specs.Inlined.{body_of, call_of}
+use Rattle.scc_inline_process_laws.specs.Relation.{around, rare, whole}
+use Rattle.scc_inline_counter_laws.specs.Choosing.{call_block, AreCounters, guards, IsStill, IsChosenObject, ChoosesCode, ChoosesCall}
+use Rattle.scc_inline_laws.proofs.Still.{still-put, still-aim, still-if, still-block, still-loop, still-exit, still-wait, cleared-spares, cleared-still, zeroed-spares, zeroed-still, passed-still, guards-few, are-held}
 use Rattle.scc_inline_process_laws.specs.Whole.{spoken_design, own_names}
 use Rattle.scc_inline_laws.proofs.Homed.{homed}
 use Rattle.scc_inline_laws.proofs.Listed.{IsIn, Lists, lists-front, lists-back, lists-local, lists-callee}
@@ -263,7 +273,7 @@ module _ (p : Plain) (d : Design) (constant : Location → Option ℕ) (i : ℕ)
   element-object (core.Member l m) n e k = tt
   element-object (core.Index l m x) n e k = tt
 
-  module _ (left : ℕ) (cs : List ℕ) (f : ℕ) (g : Function) (s : Stands left cs f g) (this : core.Left) (kinded : IsKindedLeft this) (object : IsObject home h this) where
+  module _ (left : ℕ) (cs : List ℕ) (f : ℕ) (g : Function) (s : Stands left cs f g) (this : core.Left) (kinded : IsKindedLeft this) (object : IsObject home h this) (counters : Counters (around home places own h)) where
     abbrev now : Here
     now = at cs g this
 
@@ -326,9 +336,19 @@ module _ (p : Plain) (d : Design) (constant : Location → Option ℕ) (i : ℕ)
     sound-target (Address l) x = sound-left l x
     sound-target (Copy l) x = sound-left l x
 
-    sound-object : (o : Option Left) → IsOrderlyObject p g o → IsChosenObject now o → IsSoundObject home places own now o
-    sound-object None x c = tt
-    sound-object (Some l) x c = (sound-left l x.0, firm home places own now l (chosen-object home now l (sound-left l x.0) c))
+    -- the cells and the body around
+    abbrev S : Setting
+    S = setting_in p d i q
+
+    abbrev Code-of : ℕ → List ℕ → Code → stmt.Code
+    Code-of b before c = body_of (call_of h left) now b before c
+
+    sound-object : (ms : List Counter) → AreCounters S ms → (o : Option Left) → IsOrderlyObject p g o → IsChosenObject S now ms o → IsSoundObject home places own now (guards S ms) o
+    sound-object ms are None x c = tt
+    sound-object ms are (Some l) x c = (
+      sound-left l x.0,
+      firm home places own now (guards S ms) ms l (record { home = counters.home; numbers = counters.numbers }) (are-held S now refl refl ms are) (chosen-object home now ms l (sound-left l x.0) c),
+    )
 
     soft-kinded : (l : core.Left) → IsKindedLeft l → IsKindedLeft (soften l)
     soft-kinded (core.Cell o n) k = k
@@ -354,68 +374,113 @@ module _ (p : Plain) (d : Design) (constant : Location → Option ℕ) (i : ℕ)
     inner-object None x = object
     inner-object (Some l) x = soft-object (copied.left_of now (result_name now) true l) (named-object (points_at p g l) (located now (result_name now) true l) (located-object l x.1))
 
-    sound-arguments : (l n : ℕ) (f' : ℕ) (g' : Function) (to : core.Left) → Stands l (n ∷ cs) f' g' → (j : ℕ) (args : List Argument) → AreOrderlyArguments p g g' j args → AreSoundArguments home places own now (at (n ∷ cs) g' to) j args
-    sound-arguments l n f' g' to z j [] x = tt
-    sound-arguments l n f' g' to z j (Value e ∷ args) x = (
-      sound-term e x.0,
-      is-homed l (n ∷ cs) f' g' z (location.Local i (n ∷ cs) j) (local-listed l (n ∷ cs) f' g' z j x.1.0 x.1.1),
-      number-at l (n ∷ cs) f' g' z to j x.1.0 [] x.1.1 (ap (λ y. is_inside y []) x.1.3) x.1.2,
-      sound-arguments l n f' g' to z (suc j) args x.2,
-    )
-    sound-arguments l n f' g' to z j (Leads t ∷ args) x = (
+    sound-arguments : (l n : ℕ) (f' : ℕ) (g' : Function) (to : core.Left) → Stands l (n ∷ cs) f' g' → (held : ℕ → Bool) (o : Place) (r : stmt.Code) (j : ℕ) (args : List Argument) → AreOrderlyArguments p g g' j args
+        → IsStill S held (passed now (result_name now) (at (n ∷ cs) g' to) o j args r) → AreSoundArguments home places own now (at (n ∷ cs) g' to) held o j args
+    sound-arguments l n f' g' to z held o r j [] x still = tt
+    sound-arguments l n f' g' to z held o r j (Value e ∷ args) x still =
+        let y = still-put S held o (cell_of (at (n ∷ cs) g' to) o false (local_name (at (n ∷ cs) g' to) j [])) core.Whole (copied now (result_name now) e) (passed now (result_name now) (at (n ∷ cs) g' to) o (suc j) args r) still in (
+          sound-term e x.0,
+          is-homed l (n ∷ cs) f' g' z (location.Local i (n ∷ cs) j) (local-listed l (n ∷ cs) f' g' z j x.1.0 x.1.1),
+          number-at l (n ∷ cs) f' g' z to j x.1.0 [] x.1.1 (ap (λ y. is_inside y []) x.1.3) x.1.2,
+          y.0,
+          sound-arguments l n f' g' to z held o r (suc j) args x.2 y.1,
+        )
+    sound-arguments l n f' g' to z held o r j (Leads t ∷ args) x still = (
       sound-target t x.0,
       is-homed l (n ∷ cs) f' g' z (location.Local i (n ∷ cs) j) (local-listed l (n ∷ cs) f' g' z j x.1.0 x.1.1),
       pointer-at l (n ∷ cs) f' g' z to j x.1.0 [] x.1.1 (ap (λ y. is_inside y []) x.1.3) x.1.2,
-      sound-arguments l n f' g' to z (suc j) args x.2,
+      sound-arguments l n f' g' to z held o r (suc j) args x.2 (still-aim S held o (pointed true (cell_of (at (n ∷ cs) g' to) o true (local_name (at (n ∷ cs) g' to) j []))) (copied.target_of now (result_name now) o t) (passed now (result_name now) (at (n ∷ cs) g' to) o (suc j) args r) still),
     )
-    sound-arguments l n f' g' to z j (ModuleName ∷ args) x = sound-arguments l n f' g' to z (suc j) args x
+    sound-arguments l n f' g' to z held o r j (ModuleName ∷ args) x still = sound-arguments l n f' g' to z held o r (suc j) args x still
 
     sound-answer : (l n : ℕ) (f' : ℕ) (g' : Function) (to : core.Left) → Stands l (n ∷ cs) f' g' → (o : Option Kind) → g'.result ≡ o → IsSoundAnswer home places own (at (n ∷ cs) g' to) o
     sound-answer l n f' g' to z None e = tt
     sound-answer l n f' g' to z (Some k) e = (is-homed l (n ∷ cs) f' g' z (location.Answer i (n ∷ cs)) (z.answer k e), answer-at l (n ∷ cs) f' g' z to k e)
 
-    sound-return : (o : Option Term) → IsOrderlyReturn p g o → IsSoundReturn home places own now o
-    sound-return None x = tt
-    sound-return (Some e) x = (sound-term e x.0, is-homed left cs f g s (location.Answer i cs) (s.answer x.1 x.2), answer-at left cs f g s this x.1 x.2)
+    sound-return : (held : ℕ → Bool) (pl : Place) (o : Option Term) → IsOrderlyReturn p g o → ((e : Term) → o ≡ Some e → (m : ℕ) → held m ≡ true → is_it m (own_at S.cells (cell_of now pl false (answer_name now cs g))) ≡ false) → IsSoundReturn home places own now held pl o
+    sound-return held pl None x spares = tt
+    sound-return held pl (Some e) x spares = (sound-term e x.0, is-homed left cs f g s (location.Answer i cs) (s.answer x.1 x.2), answer-at left cs f g s this x.1 x.2, spares e refl)
 
     -- what the walk of a called function gives
     abbrev Inside : Type 0
-    Inside = (l : ℕ) → left ≡ suc l → (n f' : ℕ) (g' : Function) (to : core.Left) → Stands l (n ∷ cs) f' g' → IsKindedLeft to → IsObject home h to → ChoosesCall left (at (n ∷ cs) g' to)
-        → IsSoundCall home places own left (at (n ∷ cs) g' to)
+    Inside = (l : ℕ) → left ≡ suc l → (n f' : ℕ) (g' : Function) (to : core.Left) → slice_get p.functions f' ≡ Some g' → Stands l (n ∷ cs) f' g' → IsKindedLeft to → IsObject home h to → (ms : List Counter) → ChoosesCall S h left (at (n ∷ cs) g' to) ms
+        → IsStill S (guards S ms) (call_of h left (n ∷ cs) f' to) → IsSoundCall home places own (rare home places own h) left (at (n ∷ cs) g' to) (guards S ms)
 
-    sound-code : Inside → (b : ℕ) (c : Code) → IsOrderlyCode p g b c → ChoosesCode (ChoosesCall left) now c → IsSoundCode home places own (IsSoundCall home places own left) now b c
-    sound-code ih b End x z = tt
-    sound-code ih b (Declare o n r) x z = (x.0.0, x.0.1, is-homed left cs f g s (location.Local i cs n) (local-listed left cs f g s n x.0.0 x.0.1), all-placed left cs f g s this n x.0.0 x.0.1, sound-code ih b r x.1 z)
-    sound-code ih b (Assign o l k e r) x z = (sound-left l x.0, sound-pick k x.1, sound-term e x.2, sound-code ih b r x.3 z)
-    sound-code ih b (Point o l t r) x z = (sound-left l x.0, sound-target t x.1, sound-code ih b r x.2 z)
-    sound-code ih b (Write o l e r) x z = (sound-left l x.0, sound-term e x.1, sound-code ih b r x.2 z)
-    sound-code ih b (Call o n f' u args r) x z =
+    sound-code : Inside → (ns : List Counter) (b : ℕ) (before : List ℕ) (c : Code) → IsOrderlyCode p g b c → ChoosesCode S (call_of h left) (ChoosesCall S h left) now ns c → IsStill S (guards S ns) (Code-of b before c)
+        → IsSoundCode home places own (rare home places own h) (IsSoundCall home places own (rare home places own h) left) now (guards S ns) b c
+    sound-code ih ns b before End x z still = tt
+    sound-code ih ns b before (Declare o n r) x z still =
+        let y = subst (λ m. IsStill S (guards S ns) (cleared now o n m (elements (sizes_of m)) (Code-of b before r))) x.0.1 still in (
+          x.0.0,
+          x.0.1,
+          is-homed left cs f g s (location.Local i cs n) (local-listed left cs f g s n x.0.0 x.0.1),
+          all-placed left cs f g s this n x.0.0 x.0.1,
+          cleared-spares home places own now S refl (guards S ns) o n x.0.0 (elements x.0.0.shape.sizes) (Code-of b before r) y,
+          sound-code ih ns b before r x.1 z (cleared-still now S (guards S ns) o n x.0.0 (elements x.0.0.shape.sizes) (Code-of b before r) y),
+        )
+    sound-code ih ns b before (Assign o l k e r) x z still =
+        let y = still-put S (guards S ns) o (copied.left_of now (result_name now) true l) (copied.pick_of now (result_name now) k) (copied now (result_name now) e) (Code-of b before r) still in
+        (sound-left l x.0, sound-pick k x.1, sound-term e x.2, y.0, sound-code ih ns b before r x.3 z y.1)
+    sound-code ih ns b before (Point o l t r) x z still = (
+      sound-left l x.0,
+      sound-target t x.1,
+      sound-code ih ns b (local_as_whole l ++ before) r x.2 z
+          (still-aim S (guards S ns) o (pointed (is_first now before l) (copied.left_of now (result_name now) false l)) (copied.target_of now (result_name now) o t) (Code-of b (local_as_whole l ++ before) r) still),
+    )
+    sound-code ih ns b before (Write o l e r) x z still =
+        let y = still-put S (guards S ns) o (copied.left_of now (result_name now) true l) core.Whole (copied now (result_name now) e) (Code-of b before r) still in
+        (sound-left l x.0, sound-term e x.1, y.0, sound-code ih ns b before r x.2 z y.1)
+    sound-code ih ns b before (Call o n f' u args r) x z still =
         let to = object_of now (result_name now) u in
-        let y = callee-stands left cs f g s n f' x.0 x.1.0 x.1.1 in (
+        let y = callee-stands left cs f g s n f' x.0 x.1.0 x.1.1 in
+        let c = z.0 x.0 x.1.1 in
+        let ms = c.0 in
+        let block = call_block (call_of h left) now o n f' u args x.0 in
+        let rest = passed now (result_name now) (at (n ∷ cs) x.0 to) o 0 args (call_of h left (n ∷ cs) f' to) in
+        let inner = zeroed-still now S (guards S ms) o (n ∷ cs) x.0 x.0.result rest c.4 in
+        let k = still-block S (guards S ns) o block (Code-of b before r) (subst (λ v. IsStill S (guards S ns) (unwrap_or (option_map (λ g. stmt.Block o (call_block (call_of h left) now o n f' u args g) (Code-of b before r)) v) (Code-of b before r))) x.1.1 still) in (
           x.0,
           x.1.1,
-          sound-object u x.2 z.0,
+          guards S ms,
+          c.2,
+          (λ m e. ap (λ w. nat_le (uses h.cells m w) 2) (sym body-is) ∙ guards-few S ms c.1 m e),
+          sound-object ms c.1 u x.2 c.3,
           sound-answer y.0 n f' x.0 to y.2 x.0.result refl,
-          sound-arguments y.0 n f' x.0 to y.2 0 args x.3,
-          ih y.0 y.1 n f' x.0 to y.2 (inner-kinded u x.2) (inner-object u x.2) (z.1 x.0 x.1.1),
-          sound-code ih b r x.4 z.2,
+          zeroed-spares home places own now S refl (guards S ms) o (n ∷ cs) x.0 x.0.result rest c.4,
+          sound-arguments y.0 n f' x.0 to y.2 (guards S ms) o (call_of h left (n ∷ cs) f' to) 0 args x.3 inner,
+          ih y.0 y.1 n f' x.0 to x.1.1 y.2 (inner-kinded u x.2) (inner-object u x.2) ms c.5 (passed-still now (at (n ∷ cs) x.0 to) S (guards S ms) o 0 args (call_of h left (n ∷ cs) f' to) inner),
+          sound-code ih ns b before r x.4 z.1 k.1,
         )
-    sound-code ih b (If o t c e r) x z = (sound-term t x.0, sound-code ih b c x.1 z.0, sound-code ih b e x.2 z.1, sound-code ih b r x.3 z.2)
-    sound-code ih b (Loop o n c r) x z = (sound-code ih b c x.0 z.0, sound-code ih b r x.1 z.1)
-    sound-code ih b (Block o c r) x z = (sound-code ih (suc b) c x.0 z.0, sound-code ih b r x.1 z.1)
-    sound-code ih b (Exit o n r) x z = (x.0, sound-code ih b r x.1 z)
-    sound-code ih b (Return o v r) x z = (sound-return v x.0, sound-code ih b r x.1 z)
-    sound-code ih b (Wait o n r) x z = sound-code ih b r x z
-    sound-code ih b (Make o l k args r) x z = sound-code ih b r x z
-    sound-code ih b (Bind o l t r) x z = sound-code ih b r x z
-    sound-code ih b (Process o t u e r) x z = sound-code ih b r x z
-    sound-code ih b (Sensitive o items r) x z = sound-code ih b r x z
-    sound-code ih b (Quiet o r) x z = sound-code ih b r x z
-    sound-code ih b (Reset o u e a r) x z = sound-code ih b r x z
+      where
+        body-is : S.body ≡ whole home places own h
+        body-is = ap (λ o. unwrap_or (option_map (λ f. let h = here_of p d i q f in stmt.Block q.place (body_of (call_of h levels) h 0 [] f.body) stmt.End) o) stmt.End) ok.stands
+    sound-code ih ns b before (If o t c e r) x z still =
+        let y = still-if S (guards S ns) o (copied now (result_name now) t) (Code-of b before c) (Code-of b (aimed c ++ before) e) (Code-of b (aimed c ++ (aimed e ++ before)) r) still in
+        (sound-term t x.0, sound-code ih ns b before c x.1 z.0 y.0, sound-code ih ns b (aimed c ++ before) e x.2 z.1 y.1, sound-code ih ns b (aimed c ++ (aimed e ++ before)) r x.3 z.2 y.2)
+    sound-code ih ns b before (Loop o n c r) x z still =
+        let y = still-loop S (guards S ns) o (option_and_then (copied.count_of now (result_name now)) n) (Code-of b before c) (Code-of b (aimed c ++ before) r) still in
+        (sound-code ih ns b before c x.0 z.0 y.0, sound-code ih ns b (aimed c ++ before) r x.1 z.1 y.1)
+    sound-code ih ns b before (Block o c r) x z still =
+        let y = still-block S (guards S ns) o (Code-of (suc b) before c) (Code-of b (aimed c ++ before) r) still in
+        (sound-code ih ns (suc b) before c x.0 z.0 y.0, sound-code ih ns b (aimed c ++ before) r x.1 z.1 y.1)
+    sound-code ih ns b before (Exit o n r) x z still = (x.0, sound-code ih ns b before r x.1 z (still-exit S (guards S ns) o n (Code-of b before r) still))
+    sound-code ih ns b before (Return o None r) x z still = (tt, sound-code ih ns b before r x.1 z (still-exit S (guards S ns) o b (Code-of b before r) still))
+    sound-code ih ns b before (Return o (Some e) r) x z still =
+        let y = still-put S (guards S ns) o (cell_of now o false (answer_name now cs g)) core.Whole (copied now (result_name now) e) (stmt.Exit o b (Code-of b before r)) still in
+        (sound-return (guards S ns) o (Some e) x.0 (λ e q. y.0), sound-code ih ns b before r x.1 z (still-exit S (guards S ns) o b (Code-of b before r) y.1))
+    sound-code ih ns b before (Wait o n r) x z still = let y = still-wait S (guards S ns) o 0 n (Code-of b before r) still in (y.0, sound-code ih ns b before r x z y.1)
+    sound-code ih ns b before (Make o l k args r) x z still = sound-code ih ns b before r x z still
+    sound-code ih ns b before (Bind o l t r) x z still = sound-code ih ns b before r x z still
+    sound-code ih ns b before (Process o t u e r) x z still = sound-code ih ns b before r x z still
+    sound-code ih ns b before (Sensitive o items r) x z still = sound-code ih ns b before r x z still
+    sound-code ih ns b before (Quiet o r) x z still = sound-code ih ns b before r x z still
+    sound-code ih ns b before (Reset o u e a r) x z still = sound-code ih ns b before r x z still
 
   -- the body of a function that stands
-  pub sound-body : (left : ℕ) (cs : List ℕ) (f : ℕ) (g : Function) → Stands left cs f g → (this : core.Left) → IsKindedLeft this → IsObject home h this → ChoosesCode (ChoosesCall left) (at cs g this) g.body
-      → IsSoundCode home places own (IsSoundCall home places own left) (at cs g this) 0 g.body
-  sound-body zero cs f g s this k o z = absurd (let x = s.shallow in omega (arith, x))
-  sound-body (suc l) cs f g s this k o z = sound-code (suc l) cs f g s this k o
-      (λ l' e n f' g' to y k' o' z'. sound-body l (n ∷ cs) f' g' (subst (λ l. Stands l (n ∷ cs) f' g') (let w : l' ≡ l = cc in w) y) to k' o' z') 0 g.body (ok.functions cs f g s.chain s.found).body z
+  pub sound-body : Counters (around home places own h) → (left : ℕ) (cs : List ℕ) (f : ℕ) (g : Function) → Stands left cs f g → (this : core.Left) → IsKindedLeft this → IsObject home h this → (ns : List Counter)
+      → ChoosesCode (setting_in p d i q) (call_of h left) (ChoosesCall (setting_in p d i q) h left) (at cs g this) ns g.body → IsStill (setting_in p d i q) (guards (setting_in p d i q) ns) (body_of (call_of h left) (at cs g this) 0 [] g.body)
+      → IsSoundCode home places own (rare home places own h) (IsSoundCall home places own (rare home places own h) left) (at cs g this) (guards (setting_in p d i q) ns) 0 g.body
+  sound-body counters zero cs f g s this k o ns z still = absurd (let x = s.shallow in omega (arith, x))
+  sound-body counters (suc l) cs f g s this k o ns z still = sound-code (suc l) cs f g s this k o counters
+      (λ l' e n f' g' to u y k' o' ms z' still'. sound-body counters l (n ∷ cs) f' g' (subst (λ l. Stands l (n ∷ cs) f' g') (let w : l' ≡ l = cc in w) y) to k' o' ms z'
+      (subst (IsStill (setting_in p d i q) (guards (setting_in p d i q) ms)) (ap (λ o. unwrap_or (option_map (λ f. body_of (call_of h l) (inside h (n ∷ cs) f to) 0 [] f.body) o) stmt.End) u) still')) ns 0 [] g.body (ok.functions cs f g s.chain s.found).body z still

@@ -1,5 +1,5 @@
 -- The program `m = pick(1) + pick(0)` is orderly, and its core means the same.
-use Rattle.std.proofs.Common.{◌≡◌, ℕ, zero, suc, Bool, true, false, List, [], ◌∷◌, Option, Some, None, option_and_then, slice_get, if◌then◌else◌, refl, sym, ap, ◌∙◌, subst}
+use Rattle.std.proofs.Common.{◌≡◌, ℕ, zero, suc, Bool, true, false, [], ◌∷◌, Option, Some, None, option_and_then, slice_get, if◌then◌else◌, refl, ap, subst}
 use Rattle.std.specs.Prelude.{find}
 use Rattle.scc_semantics.specs.Location.{Location}
 use Rattle.scc_semantics.specs.Design.{Process}
@@ -7,23 +7,17 @@ use Rattle.scc_semantics.specs.Same.{SameDesign}
 use Rattle.scc_semantics.specs.Steady.{plain_body}
 use Rattle.scc_core_spec.specs.Static.{Cells, fixed_word}
 use Rattle.scc_core_spec.specs.Program as prog
-use Rattle.scc_core_spec.specs.Resolved.{Made}
-use Rattle.scc_core_spec.specs.Source.{source_of, cell_there}
+use Rattle.scc_core_spec.specs.Source.{source_of}
 use Rattle.scc_elab_spec.specs.Program.{Function, Member, Number}
 use Rattle.scc_elab_spec.specs.Design as design
 use Rattle.scc_elab_spec.specs.Design.{Object, Pointer}
 use Rattle.scc_elab_spec.specs.Meant.{design_of, is_pointer}
-use Rattle.scc_inline_spec.specs.Inlined.{home_of, here_of, copied_program}
-use Rattle.scc_inline_spec.specs.Static.{inlined}
+use Rattle.scc_inline_spec.specs.Inlined.{home_of, copied_program}
 use Rattle.scc_elab_spec.specs.Worked.{program, made, method, pick, int, member}
 use Rattle.scc_inline_laws.specs.Orderly.{IsOrderlyFunction, IsOrderlyLocal}
-use Rattle.scc_inline_laws.specs.OrderlyDesign.{IsOrderly, IsOrderlyProcess, CountsCall}
+use Rattle.scc_inline_laws.specs.OrderlyDesign.{IsOrderly, IsOrderlyProcess}
 use Rattle.scc_inline_laws.specs.WorkedProcess.{process}
 use Rattle.scc_inline_process_laws.specs.Whole.{copied_as_process}
-use Rattle.scc_core_spec.specs.Term as core
-use Rattle.scc_elab_spec.specs.Numbering.{levels}
-use Rattle.scc_elab_spec.specs.Copied.{Here}
-use Rattle.scc_elab_spec.specs.Bodies.{inside}
 use Rattle.scc_inline_laws.proofs.Elements.{Each}
 use Rattle.scc_inline_laws.proofs.All.{inlined-same}
 use Rattle.scc_inline_laws.proofs.Plain.{plain-keeps}
@@ -41,19 +35,12 @@ function-orderly zero g e = let z : method ≡ g = cc in subst (IsOrderlyFunctio
 function-orderly (suc zero) g e = let z : pick ≡ g = cc in subst (IsOrderlyFunction program) z (record { locals = local-orderly; body = (((member 21 (Number int), refl), int, refl), tt) })
 function-orderly (suc (suc n)) g e = cc
 
-counts-pick : (h : Here) (cs : List ℕ) (this : core.Left) (g : Function) → pick ≡ g → CountsCall levels (inside h cs g this)
-counts-pick h cs this g z = subst (λ g. CountsCall levels (inside h cs g this)) z tt
-
 process-orderly : (i : ℕ) (q : design.Process) → slice_get made.processes i ≡ Some q → IsOrderlyProcess program made i q
 process-orderly zero q e = let z : process ≡ q = cc in subst (IsOrderlyProcess program made 0) z (record {
   function = method;
   stands = refl;
   silent = refl;
   functions = λ cs f g c e. function-orderly f g e;
-  counters = (
-    (λ g e. counts-pick (here_of program made 0 process method) (0 ∷ []) (here_of program made 0 process method).this g (let z : pick ≡ g = cc in z)),
-    ((λ g e. counts-pick (here_of program made 0 process method) (1 ∷ []) (here_of program made 0 process method).this g (let z : pick ≡ g = cc in z)), tt),
-  );
   senses = tt;
   edge = tt;
   reset = tt;
@@ -75,6 +62,7 @@ worked-orderly = record {
   processes = process-orderly;
   names = λ i j q r e f z. one i j q r e f;
   pointers = λ i j o u e f z w v. absurd (no-pointer i o e z);
+  arrays = refl;
   targets = λ n r o e z. absurd (no-pointer n o e (ap (is_pointer program made) z));
 }
 

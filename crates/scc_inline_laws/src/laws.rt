@@ -1,5 +1,5 @@
 //! Laws of copied bodies.
-ghost use Rattle.std.specs.Prelude.{◌≡◌, ℕ, Bool, true, List, [], length, Option, None, Some, option_map, slice_get};
+ghost use Rattle.std.specs.Prelude.{◌≡◌, ℕ, Bool, true, false, List, [], length, Option, None, Some, option_map, slice_get};
 ghost use Rattle.std.specs.List.{list_any};
 ghost use Rattle.scc_semantics.specs.Location.{Location, Root, same_root};
 ghost use Rattle.scc_semantics.specs.Places.{Places};
@@ -21,7 +21,8 @@ ghost use Rattle.scc_inline_spec.specs.Static.{is_static};
 ghost use Rattle.scc_inline_spec.specs.Inlined.{here_of, home_of, copied_program};
 ghost use Rattle.scc_elab_spec.specs.Numbering.{levels, numbered, number_of};
 ghost use Rattle.scc_elab_spec.specs.Worked.{program, made, method};
-ghost use Rattle.scc_inline_process_laws.specs.Sound.{IsSoundLeft, IsKinded};
+ghost use Rattle.scc_core_unroll_laws.specs.Kinds.{IsKinded};
+ghost use Rattle.scc_inline_process_laws.specs.Sound.{IsSoundLeft};
 ghost use Rattle.scc_core_unroll_laws.specs.Named.{IsNamed};
 ghost use Rattle.scc_inline_laws.specs.OrderlyDesign.{IsOrderly};
 ghost use Rattle.scc_semantics.specs.Same.{SameDesign};
@@ -38,13 +39,15 @@ ghost use Rattle.scc_semantics.specs.Value.{value};
 ghost use Rattle.scc_semantics.specs.Same.{is_own};
 ghost use Rattle.scc_core_spec.specs.Static.{static};
 ghost use Rattle.scc_core_spec.specs.Source.{expr_of, source_of};
-ghost use Rattle.scc_inline_process_laws.specs.Relation.{IsSoundAt};
+ghost use Rattle.scc_inline_process_laws.specs.Relation.{IsSoundAt, around};
 ghost use Rattle.scc_inline_laws.specs.WorkedProcess.{process};
 ghost use Rattle.scc_core_spec.specs.Code.{End};
-ghost use Rattle.scc_core_spec.specs.Counted.{Behind, counted_by};
+ghost use Rattle.scc_core_spec.specs.Counted.{Behind, Counter, counted_by};
 ghost use Rattle.scc_inline_laws.specs.Defect.{aimed, unaimed, start, count, turning};
 ghost use Rattle.scc_inline_process_laws.specs.SoundCode.{IsFirm};
-ghost use Rattle.scc_inline_process_laws.specs.Chosen.{IsChosenStatically};
+ghost use Rattle.scc_inline_process_laws.specs.Chosen.{AreHeld, IsChosenStatically};
+ghost use Rattle.scc_core_unroll_laws.specs.Unrolling.{Counters};
+ghost use Rattle.scc_inline_counter_laws.specs.Even.{is_even};
 ghost use Rattle.scc_inline_process_laws.specs.Whole.{IsReady, own_names, spoken_design, copied_design, spoken_process, copied_as_process};
 
 /// The cell of a name stands at the name's location.
@@ -52,19 +55,21 @@ pub fn a_cell_stands_at_its_name()
     ensures { (home : Home) (cs : Cells) (vs : List prog.Vector) (i : ℕ) (s : Scene) (pointer : Bool) (l : core.Left) → locate s (left_of home cs i (named cs vs pointer l)) ≡ locate s (left_of home cs i l) }
 {}
 
-/// An object that static indices choose stays while its function runs.
+/// An object that static indices and counters choose stays while its function runs, where nothing assigns the counters.
 pub fn an_object_stays()
-    ensures { (home : Home) (places : Places) (own : Names) (h : Here) (l : Left) → IsChosenStatically home h l → IsFirm home places own h l }
+    ensures { (home : Home) (places : Places) (own : Names) (h : Here) (held : ℕ → Bool) (ns : List Counter) (l : Left) → Counters (around home places own h) → AreHeld h held ns → IsChosenStatically home h ns l
+        → IsFirm home places own h held l }
 {}
 
-/// An object that isn't refused as chosen by an index that isn't static stays while its function runs, where no counter stands around the call.
+/// An object that isn't refused as chosen by an index that isn't static, the counters around the call taken as 0, stays while its function runs, whatever the counters hold.
 pub fn an_object_that_is_not_refused_stays()
-    ensures { (home : Home) (places : Places) (own : Names) (h : Here) (l : Left) → IsSoundLeft home h l → is_static h.cells [] (left_here h (result_name h) true l) ≡ true → IsFirm home places own h l }
+    ensures { (home : Home) (places : Places) (own : Names) (h : Here) (held : ℕ → Bool) (ns : List Counter) (l : Left) → Counters (around home places own h) → AreHeld h held ns → is_even h.cells ≡ true → IsSoundLeft home h l
+        → is_static h.cells ns (left_here h (result_name h) true l) ≡ true → IsFirm home places own h held l }
 {}
 
 /// A method with two calls meets what is asked of its statements.
 pub fn a_worked_method_is_sound()
-    ensures { (c : Location → Option ℕ) → IsSoundAt (home_of program made) (spoken_design program made c).places (own_names program made c 0 process) (here_of program made 0 process method) levels (here_of program made 0 process method) 0 method.body }
+    ensures { (c : Location → Option ℕ) → IsSoundAt (home_of program made) (spoken_design program made c).places (own_names program made c 0 process) (here_of program made 0 process method) levels (here_of program made 0 process method) (λ o. false) 0 method.body }
 {}
 
 /// The number of a local or result that is numbered leads back to it.

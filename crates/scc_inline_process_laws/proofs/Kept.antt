@@ -1,12 +1,12 @@
--- Along all resumes of a core that keeps what is fixed, what is static is known and no pointer is assigned but at its declaration.
-use Rattle.std.proofs.Common.{◌≡◌, ◌⊎◌, inl, inr, ℕ, zero, suc, Bool, true, false, List, [], ◌∷◌, Option, Some, None, if◌then◌else◌, slice_get, refl, sym, ap, subst, ◌∙◌}
+-- Along all resumes of a core that keeps what is fixed, what is static is known, no pointer is assigned but at its declaration, and none leads to a counter.
+use Rattle.std.proofs.Common.{◌≡◌, ◌⊎◌, inl, inr, ℕ, zero, suc, Bool, true, false, List, [], ◌∷◌, Option, Some, if◌then◌else◌, slice_get, refl, sym, ap, subst, ◌∙◌}
 use Rattle.scc_semantics.specs.Location.{Location}
 use Rattle.scc_semantics.specs.Scene.{Names}
 use Rattle.scc_semantics.specs.Store.{Store}
-use Rattle.scc_semantics.specs.Body.{Body, End, Assign, Point, Clear, If, Block, Loop, Exit, Call, Begin, Pass, Return, Wait}
+use Rattle.scc_semantics.specs.Body.{End, Assign, Point, Clear, If, Block, Loop, Exit, Call, Begin, Pass, Return, Wait}
 use Rattle.scc_semantics.specs.Design.{Design, Process}
 use Rattle.scc_semantics.specs.Value.{Held}
-use Rattle.scc_semantics.specs.Machine.{Frames, Stop, Go, Next, Outcome, Suspended, Ended, Stuck, Unfinished, act, idle, run, after}
+use Rattle.scc_semantics.specs.Machine.{Frames, Stop, Go, Outcome, Suspended, Ended, Stuck, Unfinished, act, idle, run, after}
 use Rattle.scc_semantics.specs.Process.{first_frames}
 use Rattle.scc_semantics.specs.Start.{IsProper}
 use Rattle.scc_semantics.specs.Same.{Turn, Middle, is_own, is_others, leading, left_in, resumed, AllProper, at_first}
@@ -15,19 +15,21 @@ use Rattle.scc_core_spec.specs.Source.{Home, source_of}
 use Rattle.scc_blocks_spec.specs.Comes.{Comes, Keeps, begins, goes_on, resumes, restarts, repeats, elsewhere, next_waits, next_points, fresh}
 use Rattle.scc_elab_spec.specs.Copied.{Here}
 use Rattle.scc_states_laws.proofs.Resuming.{Steps, leads, waits, stops, steps, IsSuspended}
+use Rattle.scc_core_unroll_laws.specs.Unrolling.{LeadsWell}
 use Rattle.scc_inline_process_laws.specs.Own.{OwnMoves}
 use Rattle.scc_inline_process_laws.specs.SoundCode.{Knows, core_scene}
-use Rattle.scc_inline_process_laws.specs.Sound.{IsKinded}
+use Rattle.scc_core_unroll_laws.specs.Kinds.{IsKinded}
 use Rattle.scc_semantics.specs.Value.{value}
 use Rattle.scc_core_spec.specs.Term as core
 use Rattle.scc_core_spec.specs.Static.{static}
 use Rattle.scc_core_spec.specs.Source.{expr_of}
-use Rattle.scc_inline_process_laws.specs.Relation.{Declares, IsKept, KeepsFrom}
+use Rattle.scc_inline_process_laws.specs.Relation.{around, Declares, IsKept, KeepsFrom}
 use Rattle.scc_inline_process_laws.specs.Standing.{KeepsOver}
 use Rattle.scc_inline_process_laws.proofs.Known.{static_is}
 
 module _ (home : Home) (c : prog.Program) (constant : Location → Option ℕ) (own_home : (i n : ℕ) → is_own i (home i n) ≡ true) (moves : OwnMoves c.cells) (keeps : Keeps (source_of home c constant))
-    (i : ℕ) (q : Process) (there : slice_get (source_of home c constant).processes i ≡ Some q) (own : Names) (h : Here) (process : h.process ≡ i) (cells : h.cells ≡ c.cells) where
+    (i : ℕ) (q : Process) (there : slice_get (source_of home c constant).processes i ≡ Some q) (own : Names) (h : Here) (process : h.process ≡ i) (cells : h.cells ≡ c.cells)
+    (well : (signals : Location → ℕ) (f : Frames) (a : Held) → Comes (source_of home c constant) i q signals f a → LeadsWell (around home (source_of home c constant).places own h) a.store.targets) where
   abbrev e : Design
   e = source_of home c constant
 
@@ -102,7 +104,7 @@ module _ (home : Home) (c : prog.Program) (constant : Location → Option ℕ) (
   kept_stop Unfinished n = tt
 
   kept : (signals words : Location → ℕ) → IsProper e signals → IsProper e words → (j : ℕ) (f : Frames) (a : Held) → Come signals f a → IsKept home e.places own h (after e.places e.functions signals j f a)
-  kept signals words ps pw zero f a x = (known a.store (λ l w. keeps.fixed i q signals f a l w there x), declared f (keeps.pointers i q signals f a there x))
+  kept signals words ps pw zero f a x = (known a.store (λ l w. keeps.fixed i q signals f a l w there x), declared f (keeps.pointers i q signals f a there x), well signals f a x)
   kept signals words ps pw (suc j) f a x = by (steps e i q signals f a) (λ g k y. kept signals words ps pw j g k y)
     where
       by : Steps f (λ next. act e.places e.functions signals next f a) → ((g : Frames) (k : Held) → Come signals g k → IsKept home e.places own h (after e.places e.functions signals j g k))
@@ -111,6 +113,7 @@ module _ (home : Home) (c : prog.Program) (constant : Location → Option ℕ) (
       by (waits g k w st) ih = subst (λ o. IsKept home e.places own h o) (sym (st (after e.places e.functions signals j))) (
         known k.store (λ l z d. ap (λ k. k.store.words l) (waits_there signals f g a k w (st Suspended)) ∙ keeps.fixed i q signals f a l z there x d),
         declared g (keeps.pointers i q signals g (fresh words k.store.targets) there (resumes signals words ps pw x w (st (after e.places e.functions signals 0)))),
+        well signals g (fresh words k.store.targets) (resumes signals words ps pw x w (st (after e.places e.functions signals 0))),
       )
       by (stops o n st) ih = subst (λ o. IsKept home e.places own h o) (sym (st (after e.places e.functions signals j))) (kept_stop o n)
 
@@ -186,7 +189,7 @@ module _ (home : Home) (c : prog.Program) (constant : Location → Option ℕ) (
       x = (r t pw ps).0
 
       stays : (j : ℕ) → IsKept home e.places own h (after e.places e.functions t.signals j Stop (fresh t.words (leading i t m)))
-      stays zero = (known (fresh t.words (leading i t m)).store (λ l w. keeps.fixed i q t.signals (first_frames i q) (fresh t.words (leading i t m)) l w there x), tt)
+      stays zero = (known (fresh t.words (leading i t m)).store (λ l w. keeps.fixed i q t.signals (first_frames i q) (fresh t.words (leading i t m)) l w there x), tt, well t.signals (first_frames i q) (fresh t.words (leading i t m)) x)
       stays (suc j) = tt
 
       again : IsAt (record { frames = Stop; targets = leading i t m })

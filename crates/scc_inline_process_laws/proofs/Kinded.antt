@@ -1,37 +1,23 @@
 -- Copies of typed expressions have the kinds that their operators give.
-use Rattle.std.proofs.Common.{◌≡◌, ℕ, zero, suc, Bool, true, false, ◌&&◌, nat_lt, List, [], ◌∷◌, ◌++◌, map, Option, Some, None, option_map, option_and_then, unwrap_or, if◌then◌else◌, slice_get, refl, sym, ap, ◌∙◌, subst}
+use Rattle.std.proofs.Common.{◌≡◌, ℕ, Bool, true, false, ◌&&◌, [], Option, Some, None, option_map, unwrap_or, if◌then◌else◌, slice_get, refl, ap, ◌∙◌}
 use Rattle.scc_base.specs.declared.refusal.Place.{Place}
-use Rattle.scc_bits_kinds.specs.declared.kind.Kind.{Kind}
-use Rattle.scc_bits_kinds.specs.Kinds.{width_of, number_of, stored}
-use Rattle.scc_bits_kinds.specs.Bits.{part, joined}
-use Rattle.scc_bits.specs.Values.{applied, kind_of as operator_kind}
-use Rattle.scc_semantics.specs.Location.{Location, Root, Part, Member, Element, within}
-use Rattle.scc_semantics.specs.Location as location
-use Rattle.scc_semantics.specs.Expressions as body
-use Rattle.scc_semantics.specs.Expressions.{Expr}
-use Rattle.scc_semantics.specs.Places.{Places}
-use Rattle.scc_semantics.specs.Store.{Store}
-use Rattle.scc_semantics.specs.Scene.{Names, Scene, expr_kind, kind_or, loaded, sensed, pointed, index_of, chosen, bit_at, with_two, followed}
-use Rattle.scc_semantics.specs.Value.{locate, value, behind}
+use Rattle.scc_bits.specs.Values.{kind_of as operator_kind}
 use Rattle.scc_core_spec.specs.Term as core
 use Rattle.scc_core_spec.specs.Term.{CellName, Own}
-use Rattle.scc_core_spec.specs.Static.{static}
-use Rattle.scc_core_spec.specs.Fold.{named, extended, member_behind, member_of, element_of, element_or, in_range, static_index, size_of}
+use Rattle.scc_core_spec.specs.Fold.{named, member_behind, member_of, element_of, element_or, in_range, static_index, size_of}
 use Rattle.scc_core_spec.specs.Resolved.{placed}
-use Rattle.scc_core_spec.specs.Source.{Home, location_of, left_of, expr_of}
+use Rattle.scc_core_spec.specs.Source.{Home}
 use Rattle.scc_elab_spec.specs.Term.{Term, Literal, Load, Read, Convert, Unary, Binary, Choose, Bit, Range, Join, Left, Local, Answer, This, Follow, Index, kind_of}
 use Rattle.scc_elab_spec.specs.Term as term
 use Rattle.scc_elab_spec.specs.Program as plain
 use Rattle.scc_elab_spec.specs.Types.{declared_at, is_reference, points_at, sizes_at}
 use Rattle.scc_elab_spec.specs.Worth.{member_name}
-use Rattle.scc_elab_spec.specs.Spoken as spoken
-use Rattle.scc_elab_spec.specs.Copied.{Here, located, copied, refer, size_here, local_root, local_name, answer_name}
-use Rattle.scc_elab_spec.specs.Bodies.{result_name, callee_of}
+use Rattle.scc_elab_spec.specs.Copied.{Here, located, copied, refer, size_here, local_name}
+use Rattle.scc_elab_spec.specs.Bodies.{result_name}
 use Rattle.scc_elab_spec.specs.Typed.{IsTyped}
-use Rattle.scc_elab_spec.proofs.Valued.{kind_is}
-use Rattle.scc_inline_process_laws.specs.Sound.{IsKinded, IsKindedLeft, IsSoundTerm, IsSoundLeft}
+use Rattle.scc_core_unroll_laws.specs.Kinds.{IsKinded, IsKindedLeft}
+use Rattle.scc_inline_process_laws.specs.Sound.{IsSoundTerm, IsSoundLeft}
 use Rattle.scc_core_spec.specs.Named.{cell_at, steps_of}
-use Rattle.scc_elab_spec.specs.Typed.{IsTypedLeft}
 
 placed-kinded : (p : Place) (l : core.Left) → IsKindedLeft l → IsKindedLeft (placed p l)
 placed-kinded p (core.Cell q n) k = tt

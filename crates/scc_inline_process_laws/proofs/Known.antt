@@ -1,5 +1,5 @@
 -- A static value is the machine's, where fixed locations hold their words.
-use Rattle.std.proofs.Common.{◌≡◌, ◌⊎◌, inl, inr, ℕ, suc, ◌+◌, Bool, true, false, not, ◌&&◌, nat_eq, nat_lt, List, [], ◌∷◌, ◌++◌, map, Option, Some, None, is_some, refl, sym, ap, subst, ◌∙◌, arith}
+use Rattle.std.proofs.Common.{◌≡◌, ◌⊎◌, inl, inr, ℕ, Bool, true, false, not, ◌&&◌, nat_eq, nat_lt, List, [], ◌∷◌, ◌++◌, map, Option, Some, None, is_some, refl, sym, ap, subst, ◌∙◌}
 use Rattle.std.specs.Prelude.{slice_get, option_map, option_and_then, find, if◌then◌else◌}
 use Rattle.std.proofs.lemmas.Bool.{eqb-true, eq-eqb}
 use Rattle.scc_bits_kinds.specs.declared.kind.Kind.{Kind}
@@ -19,11 +19,11 @@ use Rattle.scc_core_spec.specs.Term as term
 use Rattle.scc_core_spec.specs.Program.{Program, Sort, Input, Output, Variable, Local, Pointer, Port, is_pointer}
 use Rattle.scc_core_spec.specs.Program as program
 use Rattle.scc_core_spec.specs.Named.{Step, Named, At, Ours, Open, part_step, own_steps, steps_of, fits, is_open, names_cell}
-use Rattle.scc_core_spec.specs.Static.{Cells, static, pattern, first_of, found, held, held_at, fixed_word, index_step, grown}
+use Rattle.scc_core_spec.specs.Static.{Cells, static, pattern, first_of, found, held, held_at, fixed_word, index_step}
 use Rattle.scc_core_spec.specs.Source.{Home, at_top, location_in, location_of, cell_left, cell_there, cell_location, thing_of, source_of, expr_of, left_of, process_named}
 use Rattle.scc_states_laws.proofs.Values.{some_same, map_is, then_is, two_is}
 use Rattle.scc_elab_spec.proofs.Chains.{and-first, and-second}
-use Rattle.scc_inline_process_laws.specs.Sound.{IsKinded, IsKindedLeft}
+use Rattle.scc_core_unroll_laws.specs.Kinds.{IsKinded, IsKindedLeft}
 use Rattle.scc_inline_process_laws.specs.Own.{OwnMoves}
 
 -- steps with a local in them

@@ -1,5 +1,5 @@
 -- A process and its copy show the same over every list of resumes.
-use Rattle.std.proofs.Common.{◌≡◌, ℕ, zero, suc, ◌≤◌, ◌*◌, Bool, true, false, not, ◌&&◌, nat_eq, nat_lt, length, List, [], ◌∷◌, map, Option, Some, None, if◌then◌else◌, refl, sym, ap, ◌∙◌, subst, arith}
+use Rattle.std.proofs.Common.{◌≡◌, ℕ, suc, ◌≤◌, ◌*◌, Bool, true, false, not, nat_eq, nat_lt, length, [], ◌∷◌, Option, Some, if◌then◌else◌, refl, sym, ap, ◌∙◌, subst, arith}
 use Rattle.scc_semantics.specs.Location.{Location, Root}
 use Rattle.scc_semantics.specs.Location as location
 use Rattle.scc_semantics.specs.Places.{Places}
@@ -8,19 +8,21 @@ use Rattle.scc_semantics.specs.Body as machine
 use Rattle.scc_semantics.specs.Body.{Body}
 use Rattle.scc_semantics.specs.Value.{Held}
 use Rattle.scc_semantics.specs.Design.{Design, Process}
-use Rattle.scc_semantics.specs.Machine.{Frames, Stop, Go, Inner, Outcome, Suspended, Ended, Stuck, Unfinished, run}
+use Rattle.scc_semantics.specs.Machine.{Frames, Inner, Outcome, Suspended, Ended, Stuck, Unfinished, run}
 use Rattle.scc_semantics.specs.Process.{first_frames}
 use Rattle.scc_semantics.specs.Same.{Turn, Seen, Middle, is_others, seen_of, leading, left_in, resumed, at_first, MeansTheSame}
 use Rattle.scc_semantics_laws.proofs.Means.{Similar, means-by}
-use Rattle.scc_elab_spec.proofs.Chains.{and-first, and-second}
+use Rattle.scc_elab_spec.proofs.Chains.{and-first}
 use Rattle.scc_core_spec.specs.Term as core
 use Rattle.scc_core_spec.specs.Source.{Home}
 use Rattle.scc_elab_spec.specs.Program.{Function}
 use Rattle.scc_elab_spec.specs.Copied.{Here}
 use Rattle.scc_elab_spec.specs.Spoken as spoken
 use Rattle.scc_inline_process_laws.specs.SoundCode.{Targets, is_outside, SameOutside, LeadsUp}
-use Rattle.scc_inline_process_laws.specs.Relation.{here, IsSteady, IsSoundAt, below_halt, Alike, alike_stop, alike_on, AlikeOutcome, KeepsFrom}
-use Rattle.scc_inline_process_laws.specs.Standing.{first_spoken, first_copied, Standing, standing_first, standing_on, StandsAlike, KeepsOver, KeepsAlways}
+use Rattle.scc_inline_process_laws.specs.Relation.{around, here, IsSteady, IsSoundAt, below_halt, alike_stop, alike_on, AlikeOutcome, KeepsFrom}
+use Rattle.scc_inline_process_laws.specs.Standing.{first_spoken, first_copied, Standing, standing_first, standing_on, StandsAlike, KeepsAlways}
+use Rattle.scc_core_unroll_laws.specs.Unrolling.{Counters}
+use Rattle.scc_semantics.specs.Store.{Store}
 use Rattle.scc_inline_process_laws.proofs.Moves.{alike-up, alike-moves}
 use Rattle.scc_inline_process_laws.proofs.Steps.{Follows, run_plain, run_copy}
 use Rattle.scc_inline_process_laws.proofs.Still.{follows}
@@ -38,7 +40,7 @@ leading-same i k t m l e = ap (λ b. if b then t.others l else m.targets l) (not
 leading-up : (i : ℕ) (t : Turn) (m : Middle) → LeadsUp i m.targets → LeadsUp i (leading i t m)
 leading-up i t m up k l n e f = up k l n e (sym (leading-same i k t m l e) ∙ f)
 
-module _ (home : Home) (places : Places) (own : Names) (h : Here) where
+module _ (home : Home) (places : Places) (own : Names) (h : Here) (counters : Counters (around home places own h)) where
   seen-same : (i : ℕ) (t : Targets) (x y : Outcome) → AlikeOutcome home places own h x y → seen_of i t x ≡ seen_of i t y
   seen-same i t (Suspended f a) (Suspended g b) e = ap (λ z. seen_of i t (Suspended f z)) e.0
   seen-same i t (Ended a) (Ended b) e = ap (λ z. seen_of i t (Ended z)) e.0
@@ -64,10 +66,10 @@ module _ (home : Home) (places : Places) (own : Names) (h : Here) where
   seen-over i t Unfinished o e = cc
 
   module _ (g : Function) (this : core.Left) (o : Option Location) (left : ℕ)
-      (sound : IsSoundAt home places own h left (here home places own h [] g this) 0 g.body) (steady : (t : Targets) → LeadsUp h.process t → IsSteady home places own h [] this o t) where
+      (sound : IsSoundAt home places own h left (here home places own h [] g this) (λ o. false) 0 g.body) (steady : (t : Store) → LeadsUp h.process t.targets → IsSteady home places own h [] this o (λ o. false) t) where
     left-alike : (x y : Outcome) (m n : Middle) → AlikeOutcome home places own h x y → StandsAlike home places own h g this o left m n → StandsAlike home places own h g this o left (left_in x m) (left_in y n)
-    left-alike (Suspended f a) (Suspended k b) m n e s = record { targets = sym (ap (λ z. z.store.targets) e.0); up = alike-up home places own h e.1; frames = standing_on e.1 }
-    left-alike (Ended a) (Ended b) m n e s = record { targets = sym (ap (λ z. z.store.targets) e.0); up = e.1; frames = standing_on (alike_stop e.1) }
+    left-alike (Suspended f a) (Suspended k b) m n e s = record { targets = sym (ap (λ z. z.store.targets) e.0); up = alike-up home places own h (e.1 (λ l. 0)); frames = standing_on e.1 }
+    left-alike (Ended a) (Ended b) m n e s = record { targets = sym (ap (λ z. z.store.targets) e.0); up = e.1; frames = standing_on (λ words. alike_stop e.1) }
     left-alike (Stuck a) (Stuck b) m n e s = s
     left-alike Unfinished Unfinished m n e s = s
     left-alike (Suspended f a) (Ended b) m n e s = absurd e
@@ -86,8 +88,8 @@ module _ (home : Home) (places : Places) (own : Names) (h : Here) where
     stands : (signals : Location → ℕ) (n : ℕ) {t : Targets} {f f' : Frames} (a : Held) → LeadsUp h.process a.store.targets → ((k : ℕ) → SameOutside h.process k t a.store.targets)
         → Standing home places own h g this o left t f f' → KeepsFrom home places own h signals f' a → Follows home places signals own h n f f' a
     stands signals n a up e standing_first keep =
-        let p = follows home places signals own h n _ _ a (alike_on Inner Inner left g this o [] g.body sound (steady a.store.targets up) (below_halt up)) (λ j. keep (suc j)) in (suc p.0, omega (arith, p.1), p.2)
-    stands signals n {t = t} a up e (standing_on {f = f} {f' = f'} x) keep = follows home places signals own h n f f' a (alike-moves home places own h a.store.targets (λ k. (e k, up)) x) keep
+        let p = follows home places signals own h counters n _ _ a (alike_on Inner Inner left g this o [] g.body sound (steady a.store up) (below_halt (λ o. refl) up)) (λ j. keep (suc j)) in (suc p.0, omega (arith, p.1), p.2)
+    stands signals n {t = t} a up e (standing_on {f = f} {f' = f'} x) keep = follows home places signals own h counters n f f' a (alike-moves home places own h a.store (λ k. (e k, up)) refl (x a.store.words)) keep
 
     -- a design with the function, and one with the copy
     module _ (d e : Design) (dp : d.places ≡ places) (df : d.functions ≡ spoken.function_body h.plain) (ep : e.places ≡ places) (ef : e.functions ≡ (λ f. machine.End)) (p q : Process)

@@ -1,6 +1,8 @@
 pub mod Named
 pub mod Kinded
 pub mod Located
+pub mod Misses
+pub mod Leading
 pub mod Moves
 pub mod Steps
 pub mod Same

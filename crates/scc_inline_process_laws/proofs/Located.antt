@@ -1,12 +1,11 @@
 -- Locations and values: what the plain function finds, its copy finds.
-use Rattle.std.proofs.Common.{◌≡◌, ℕ, zero, suc, Bool, true, false, ◌&&◌, nat_lt, List, [], ◌∷◌, ◌++◌, map, Option, Some, None, option_map, option_and_then, unwrap_or, if◌then◌else◌, slice_get, refl, sym, ap, ◌∙◌, subst}
+use Rattle.std.proofs.Common.{◌≡◌, ℕ, Bool, true, false, ◌&&◌, nat_lt, List, [], ◌∷◌, ◌++◌, map, Option, Some, None, option_map, option_and_then, unwrap_or, if◌then◌else◌, slice_get, refl, sym, ap, ◌∙◌}
 use Rattle.scc_base.specs.declared.refusal.Place.{Place}
 use Rattle.scc_bits_kinds.specs.declared.kind.Kind.{Kind}
 use Rattle.scc_bits_kinds.specs.Kinds.{width_of, number_of, stored}
 use Rattle.scc_bits_kinds.specs.Bits.{part, joined}
 use Rattle.scc_bits.specs.Values.{applied, kind_of as operator_kind}
-use Rattle.scc_semantics.specs.Location.{Location, Root, Part, Member, Element, within}
-use Rattle.scc_semantics.specs.Location as location
+use Rattle.scc_semantics.specs.Location.{Location, Member, Element, within}
 use Rattle.scc_semantics.specs.Expressions as body
 use Rattle.scc_semantics.specs.Expressions.{Expr}
 use Rattle.scc_semantics.specs.Places.{Places}
@@ -25,11 +24,11 @@ use Rattle.scc_elab_spec.specs.Program as plain
 use Rattle.scc_elab_spec.specs.Types.{declared_at, is_reference, points_at, sizes_at}
 use Rattle.scc_elab_spec.specs.Worth.{member_name}
 use Rattle.scc_elab_spec.specs.Spoken as spoken
-use Rattle.scc_elab_spec.specs.Copied.{Here, located, copied, refer, size_here, local_root, local_name, answer_name}
-use Rattle.scc_elab_spec.specs.Bodies.{result_name, callee_of}
-use Rattle.scc_elab_spec.specs.Typed.{IsTyped}
+use Rattle.scc_elab_spec.specs.Copied.{Here, located, copied, refer, size_here, local_name, answer_name}
+use Rattle.scc_elab_spec.specs.Bodies.{result_name}
 use Rattle.scc_elab_spec.proofs.Valued.{kind_is}
-use Rattle.scc_inline_process_laws.specs.Sound.{names_of, IsKinded, IsHomed, IsObject, IsSoundTerm, IsSoundLeft}
+use Rattle.scc_core_unroll_laws.specs.Kinds.{IsKinded}
+use Rattle.scc_inline_process_laws.specs.Sound.{names_of, IsObject, IsSoundTerm, IsSoundLeft}
 use Rattle.scc_inline_process_laws.proofs.Named.{named-same}
 use Rattle.scc_inline_process_laws.proofs.Kinded.{kinded-copied, kind-copied}
 

@@ -1,8 +1,8 @@
 -- A run that is over with some statements is the same with more.
-use Rattle.std.proofs.Common.{◌≡◌, ℕ, zero, suc, ◌≤◌, Option, Some, None, refl, sym, ap, ◌∙◌, subst, arith}
+use Rattle.std.proofs.Common.{◌≡◌, ℕ, zero, suc, ◌≤◌, Option, Some, None, refl, arith}
 use Rattle.scc_semantics.specs.Location.{Location}
 use Rattle.scc_semantics.specs.Places.{Places}
-use Rattle.scc_semantics.specs.Expressions.{Argument, Value, Place}
+use Rattle.scc_semantics.specs.Expressions.{Value, Place}
 use Rattle.scc_semantics.specs.Body.{Body, End, Assign, Point, Clear, If, Block, Loop, Exit, Call, Begin, Pass, Return, Wait}
 use Rattle.scc_semantics.specs.Scene.{Scene, followed}
 use Rattle.scc_semantics.specs.Value.{Held, locate, value, target_of, put_at}

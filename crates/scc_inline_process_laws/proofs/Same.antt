@@ -1,5 +1,5 @@
 -- What a copy finds at a state where its object stands and what is static holds.
-use Rattle.std.proofs.Common.{◌≡◌, ℕ, zero, suc, ◌≤◌, Bool, true, false, List, [], ◌∷◌, length, Option, Some, None, option_map, unwrap_or, slice_get, refl, sym, ap, ◌∙◌, subst, arith}
+use Rattle.std.proofs.Common.{◌≡◌, ℕ, suc, Bool, true, false, List, ◌∷◌, length, Option, Some, None, option_map, refl, sym, ap, ◌∙◌, subst, arith}
 use Rattle.scc_bits_kinds.specs.declared.kind.Kind.{Kind}
 use Rattle.scc_bits_kinds.specs.Kinds.{width_of}
 use Rattle.scc_semantics.specs.Location.{Location}
@@ -22,9 +22,9 @@ use Rattle.scc_elab_spec.specs.Copied as copied
 use Rattle.scc_elab_spec.specs.Copied.{Here, located, local_name, local_root, answer_name}
 use Rattle.scc_elab_spec.specs.Bodies.{result_name, soften, object_of, pointed, cell_of}
 use Rattle.scc_elab_spec.specs.Spoken as spoken
-use Rattle.scc_inline_process_laws.specs.Sound.{names_of, IsHomed, IsSoundTerm, IsSoundLeft}
-use Rattle.scc_inline_process_laws.specs.SoundCode.{Targets, SameOutside, LeadsUp, Knows, core_scene, plain_scene, IsSoundPick, IsSoundTarget, IsSoundObject, IsFirm}
-use Rattle.scc_inline_process_laws.specs.Relation.{here, IsSteady}
+use Rattle.scc_inline_process_laws.specs.Sound.{IsSoundTerm, IsSoundLeft}
+use Rattle.scc_inline_process_laws.specs.SoundCode.{IsWider, LeadsUp, Knows, whole_local, core_scene, plain_scene, IsSoundPick, IsSoundTarget, IsSoundObject}
+use Rattle.scc_inline_process_laws.specs.Relation.{here, rare, IsSteady}
 use Rattle.scc_inline_process_laws.proofs.Named.{named-same}
 use Rattle.scc_inline_process_laws.proofs.Located.{located-same, copied-same, kind-same}
 use Rattle.scc_inline_process_laws.proofs.Moves.{same-wider, outside-wider}
@@ -88,28 +88,31 @@ module _ (home : Home) (places : Places) (signals : Location → ℕ) (own : Nam
 
 module _ (home : Home) (places : Places) (own : Names) (h : Here) (cs : List ℕ) (g : Function) (this : core.Left) (o : Option Location) where
   -- the object of a call is found at the call, and stays
-  pub object-found : (n : ℕ) (t : Targets) (signals : Location → ℕ) (s : Store) (knows : Knows home places own h s) → s.targets ≡ t → IsSteady home places own h cs this o t → (l : Option Left) → IsSoundObject home places own (here home places own h cs g this) l
-      → (q : Option Location) × (running.object_of (plain_at home places signals own h cs g this o s) (option_map (spoken.left_of h.plain g true) l) ≡ Some q) × IsSteady home places own h (n ∷ cs) (object_of (here home places own h cs g this) (result_name (here home places own h cs g this)) l) q t
-  object-found n t signals s knows e steady None sound = (
+  pub object-found : (n : ℕ) (w inner : ℕ → Bool) → IsWider inner w → IsWider (rare home places own h) inner → (t : Store) (signals : Location → ℕ) (s : Store) (knows : Knows home places own h s) → s ≡ t → IsSteady home places own h cs this o w t → (l : Option Left) → IsSoundObject home places own (here home places own h cs g this) inner l
+      → (q : Option Location) × (running.object_of (plain_at home places signals own h cs g this o s) (option_map (spoken.left_of h.plain g true) l) ≡ Some q) × IsSteady home places own h (n ∷ cs) (object_of (here home places own h cs g this) (result_name (here home places own h cs g this)) l) q inner t
+  object-found n w inner wider few t signals s knows e steady None sound = (
     o,
     refl,
     (
       (λ l f. outside-wider h.process (suc (suc (length cs))) (suc (length cs)) l.root (omega arith) (steady.0 l f)),
-      (λ y u k b. steady.1 y u k (same-wider h.process (suc (length cs)) (length cs) t u.targets (omega arith) b)),
+      (λ y u k b v. steady.1 y u k (same-wider h.process (suc (length cs)) (length cs) t.targets u.targets (omega arith) b) (λ m f. v m (wider m f))),
       steady.2,
+      few,
     ),
   )
-  object-found n t signals s knows e steady (Some l) sound =
-      let f = sound.1 o s knows (subst (λ t. LeadsUp h.process t) (sym e) steady.2) steady.0 (λ y. steady.1 y s knows (λ l c. ap (λ z. z l) e)) in (
+  object-found n w inner wider few t signals s knows e steady (Some l) sound =
+      let now : (y : Location → ℕ) → locate (scene_of home places y own h s) (cleft home places y own h this) ≡ Some o = λ y. steady.1 y s knows (λ l c. ap (λ z. z.targets l) e) (λ m f. ap (λ z. z.words (whole_local home h.process m)) e) in
+      let f = sound.1 o s knows (subst (λ t. LeadsUp h.process t.targets) (sym e) steady.2) steady.0 now in (
         f.0,
-        f.2 signals s knows (λ l e. refl) (λ y. steady.1 y s knows (λ l c. ap (λ z. z l) e)),
+        f.2 signals s knows (λ l e. refl) (λ m e. refl) now,
         (
           f.1,
-          (λ y u k b.
-              let stands : (z : Location → ℕ) → locate (scene_of home places z own h u) (cleft home places z own h this) ≡ Some o = λ z. steady.1 z u k (same-wider h.process (suc (length cs)) (length cs) t u.targets (omega arith) b) in
+          (λ y u k b v.
+              let stands : (z : Location → ℕ) → locate (scene_of home places z own h u) (cleft home places z own h this) ≡ Some o = λ z. steady.1 z u k (same-wider h.process (suc (length cs)) (length cs) t.targets u.targets (omega arith) b) (λ m x. v m (wider m x)) in
               ap (λ z. locate (scene_of home places y own h u) z) (soften-same home places y own h (copied.left_of (here home places own h cs g this) (result_name (here home places own h cs g this)) true l))
               ∙ (left-same home places y own h cs g this o u k (stands y) true l sound.0
-              ∙ f.2 y u k (λ l c. b l c ∙ ap (λ z. z l) (sym e)) stands)),
+              ∙ f.2 y u k (λ l c. b l c ∙ ap (λ z. z.targets l) (sym e)) (λ m x. v m x ∙ ap (λ z. z.words (whole_local home h.process m)) (sym e)) stands)),
           steady.2,
+          few,
         ),
       )

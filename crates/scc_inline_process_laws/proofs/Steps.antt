@@ -1,24 +1,24 @@
 -- Steps of two machines side by side: one step may be stuck, and then both are.
-use Rattle.std.proofs.Common.{◌≡◌, ℕ, zero, suc, ◌≤◌, Bool, true, false, List, [], ◌∷◌, ◌++◌, map, Option, Some, None, option_map, refl, sym, ap, ◌∙◌, subst, arith}
+use Rattle.std.proofs.Common.{◌≡◌, ℕ, zero, suc, ◌≤◌, Bool, true, false, List, [], ◌∷◌, ◌++◌, map, Option, Some, None, option_map, if◌then◌else◌, refl, sym, ap, ◌∙◌, subst, arith}
 use Rattle.std.proofs.lemmas.List.{append_assoc}
 use Rattle.scc_bits_kinds.specs.declared.kind.Kind.{Kind}
 use Rattle.scc_bits_kinds.specs.declared.kind.Kind.TheVariants as kind
-use Rattle.scc_bits_kinds.specs.Kinds.{width_of}
-use Rattle.scc_semantics.specs.Location.{Location, Part, Element, within}
+use Rattle.scc_semantics.specs.Location.{Location, Part, Element, within, same}
 use Rattle.scc_semantics.specs.Expressions as body
 use Rattle.scc_semantics.specs.Expressions.{Pick, Whole, OneBit, Bits}
 use Rattle.scc_semantics.specs.Places.{Places, Thing, Number, Signal, Port}
-use Rattle.scc_semantics.specs.Store.{Store, changed}
-use Rattle.scc_semantics.specs.Scene.{Names, Scene, expr_kind, followed, with_bit, index_of}
+use Rattle.scc_semantics.specs.Store.{changed}
+use Rattle.scc_semantics.specs.Scene.{Names, Scene, followed, index_of}
 use Rattle.scc_semantics.specs.Body as machine
-use Rattle.scc_semantics.specs.Value.{Held, locate, value, behind, put_at, picked, with_words, with_targets, asked}
+use Rattle.scc_semantics.specs.Value.{Held, locate, behind, put_at, picked, with_words, with_targets, asked}
 use Rattle.scc_semantics.specs.Machine.{Frames, Go, Mark, Outcome, unless_stuck, pointed_at, run, after}
+use Rattle.scc_semantics_laws.proofs.Places.{same-is}
 use Rattle.scc_core_spec.specs.Source.{Home}
 use Rattle.scc_elab_spec.specs.Copied.{Here}
 use Rattle.scc_elab_spec.specs.Program.{Function}
 use Rattle.scc_elab_spec.specs.Spoken as spoken
 use Rattle.scc_inline_process_laws.specs.Relation.{AlikeOutcome, IsKept, KeepsFrom}
-use Rattle.scc_inline_process_laws.specs.SoundCode.{AllSmall, Targets, SameOutside}
+use Rattle.scc_inline_process_laws.specs.SoundCode.{AllSmall}
 
 -- an assignment leaves the pointers
 pub put-targets : (th : Option Thing) (s : Scene) (a b : Held) (l : Location) (p : Pick) (x : ℕ) → put_at th s a l p x ≡ Some b → b.store.targets ≡ a.store.targets
@@ -42,6 +42,32 @@ put-targets None s a b l p x e = by (picked s kind.Bool p 0 x) e
     by : (o : Option ℕ) → option_map (λ w. a) o ≡ Some b → b.store.targets ≡ a.store.targets
     by None e = cc
     by (Some w) e = let f : a ≡ b = cc in sym (ap (λ z. z.store.targets) f)
+
+changed-words : (words : Location → ℕ) (l : Location) (x : ℕ) (m : Location) → (m ≡ l → ⊥) → changed l x words m ≡ words m
+changed-words words l x m other = by (same l m) refl
+  where
+    by : (c : Bool) → same l m ≡ c → (if c then x else words m) ≡ words m
+    by true e = absurd (other (sym (same-is l m e)))
+    by false e = refl
+
+-- it leaves all words but that of its location
+pub put-words : (th : Option Thing) (s : Scene) (a b : Held) (l : Location) (p : Pick) (x : ℕ) → put_at th s a l p x ≡ Some b → (m : Location) → (m ≡ l → ⊥) → b.store.words m ≡ a.store.words m
+put-words th s a b l p x e m other = by th e
+  where
+    was : (f : ℕ → Held) → ((w : ℕ) → (f w).store.words m ≡ a.store.words m) → (o : Option ℕ) → option_map f o ≡ Some b → b.store.words m ≡ a.store.words m
+    was f k None e = cc
+    was f k (Some w) e = let g : f w ≡ b = cc in sym (ap (λ z. z.store.words m) g) ∙ k w
+
+    by : (th : Option Thing) → put_at th s a l p x ≡ Some b → b.store.words m ≡ a.store.words m
+    by (Some (Number k)) e = was (λ w. with_words a (changed l w a.store.words)) (λ w. changed-words a.store.words l w m other) (picked s k p (a.store.words l) x) e
+    by (Some (Signal k)) e = was (λ w. asked a l x) (λ w. refl) (picked s k p 0 x) e
+    by (Some (Port k r)) e = was (λ w. asked a r x) (λ w. refl) (picked s k p 0 x) e
+    by None e = was (λ w. a) (λ w. refl) (picked s kind.Bool p 0 x) e
+
+pub followed-is : (o : Option (Option Location)) (l : Location) → followed o ≡ Some l → o ≡ Some (Some l)
+followed-is None l e = cc
+followed-is (Some None) l e = cc
+followed-is (Some (Some m)) l e = ap Some e
 
 -- it depends on the scene by the index of a bit alone
 pub put-same : (th : Option Thing) (s u : Scene) (a : Held) (l : Location) (p q : Pick) (x : ℕ) → ((k : Kind) (old new : ℕ) → picked s k p old new ≡ picked u k q old new)

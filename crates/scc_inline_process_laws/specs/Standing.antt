@@ -29,7 +29,7 @@ module _ (home : Home) (places : Places) (own : Names) (h : Here) where
     -- before the first statement, or in the middle
     pub data Standing : Targets → Frames → Frames → Type 0 where
       standing_first : {t : Targets} → Standing t first_spoken first_copied
-      standing_on : {t : Targets} {f f' : Frames} → Alike home places own h t f f' → Standing t f f'
+      standing_on : {t : Targets} {f f' : Frames} → ((words : Location → ℕ) → Alike home places own h (record { words = words; targets = t }) f f') → Standing t f f'
 
     pub record StandsAlike (m n : Middle) : Type 0 where
       pub targets : n.targets ≡ m.targets

@@ -1,5 +1,5 @@
 -- A process of a design and its copy: what is asked of both.
-use Rattle.std.specs.Prelude.{◌≡◌, ℕ, [], Option, Some, None, slice_get}
+use Rattle.std.specs.Prelude.{◌≡◌, ℕ, false, [], Option, Some, slice_get}
 use Rattle.scc_semantics.specs.Location.{Location}
 use Rattle.scc_semantics.specs.Scene.{Names}
 use Rattle.scc_semantics.specs.Design as running
@@ -15,9 +15,9 @@ use Rattle.scc_elab_spec.specs.Meant as meant
 use Rattle.scc_elab_spec.specs.Meant.{design_of, at_path}
 use Rattle.scc_elab_spec.specs.Spoken.{function_body}
 use Rattle.scc_elab_spec.specs.Numbering.{levels}
-use Rattle.scc_elab_spec.specs.Copied.{Here}
 use Rattle.scc_inline_spec.specs.Inlined.{here_of, copied_program, copied_process, home_of}
-use Rattle.scc_inline_process_laws.specs.Relation.{IsSoundAt}
+use Rattle.scc_core_unroll_laws.specs.Unrolling.{Counters}
+use Rattle.scc_inline_process_laws.specs.Relation.{IsSoundAt, around}
 use Rattle.scc_inline_process_laws.specs.Standing.{KeepsAlways}
 
 -- what no process writes is the same in both
@@ -47,5 +47,6 @@ module _ (p : Plain) (d : Design) (constant : Location → Option ℕ) where
       pub stands : slice_get p.functions q.function ≡ Some function
       pub places : copied_design.places ≡ spoken_design.places
       pub targets : copied_design.targets ≡ spoken_design.targets
-      pub sound : IsSoundAt (home_of p d) spoken_design.places own_names (here_of p d i q function) levels (here_of p d i q function) 0 function.body
+      pub sound : IsSoundAt (home_of p d) spoken_design.places own_names (here_of p d i q function) levels (here_of p d i q function) (λ o. false) 0 function.body
+      pub counters : Counters (around (home_of p d) spoken_design.places own_names (here_of p d i q function))
       pub keeps : KeepsAlways (home_of p d) spoken_design.places own_names (here_of p d i q function) spoken_design copied_design i copied_as_process (at_first copied_design i copied_as_process)

@@ -46,7 +46,7 @@ pub fn assigned(
     let opens = opened(alloc, dims.as_slice(), cells, cx, LEVELS)?;
     let written = match (bits, &left.pick) {
         (Some(bits), _) => part_written(alloc, bits, value, cells, cx)?,
-        (None, Some(CorePick::Bit(at))) => bit_written(alloc, at, all, value, cells, cx)?,
+        (None, Some(CorePick::Bit { at, .. })) => bit_written(alloc, at, all, value, cells, cx)?,
         _ => return Err(lost()),
     };
     spread(

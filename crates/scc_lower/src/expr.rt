@@ -214,7 +214,7 @@ fn pick_of(
         (CoreExprNode::Load(left) | CoreExprNode::Read(left), _) => {
             read(alloc, left, Some(pick), kind, cells, cx, levels)
         }
-        (_, CorePick::Bit(at)) => {
+        (_, CorePick::Bit { at, .. }) => {
             let x = lowered(alloc, of, cells, cx, levels)?;
             let e = expression(alloc, x)?;
             bit_at(alloc, e, at, cells, cx, levels)
@@ -247,7 +247,7 @@ fn read(
     };
     let e = element(alloc, opens.as_slice(), first, bits, cells, cx, CHOICES)?;
     match pick {
-        Some(CorePick::Bit(at)) if cells.known.value(at).is_none() => {
+        Some(CorePick::Bit { at, .. }) if cells.known.value(at).is_none() => {
             bit_at(alloc, e, at, cells, cx, levels)
         }
         _ => Ok(e),

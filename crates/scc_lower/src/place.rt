@@ -35,8 +35,8 @@ pub enum Picked {
 /// The bits that a pick takes.
 pub fn bits_taken(cells: Cells<'_>, pick: &CorePick) -> Picked {
     match pick {
-        CorePick::Range { h, l } => Picked::Range(Bits { h: *h, l: *l }),
-        CorePick::Bit(at) => match cells.known.value(at) {
+        CorePick::Range { h, l, .. } => Picked::Range(Bits { h: *h, l: *l }),
+        CorePick::Bit { at, .. } => match cells.known.value(at) {
             None => Picked::Open,
             Some(v) => match v.small() {
                 Some(i) => Picked::Bit(i),

@@ -172,8 +172,8 @@ impl<'t> Coder<'t> {
                 let to = self.next_value()?;
                 self.converted(value, kind, to)?.at
             }
-            Some(PlainPick::Range { h, l }) => self.splice(located.at, *h, *l)?,
-            Some(PlainPick::Bit(index)) => self.splice_bit(located.at, kind, index)?,
+            Some(PlainPick::Range { h, l, .. }) => self.splice(located.at, *h, *l)?,
+            Some(PlainPick::Bit { at: index, .. }) => self.splice_bit(located.at, kind, index)?,
         };
         self.take_located()?;
         self.maker.emit(Act::Store { to: located.at, of })

@@ -81,7 +81,7 @@ impl<'t> Coder<'t> {
 
     fn begin_pick(&mut self, pick: &'t PlainPick) -> Result<(), NoMemory> {
         match pick {
-            PlainPick::Bit(index) => self.then(Task::Value(index)),
+            PlainPick::Bit { at: index, .. } => self.then(Task::Value(index)),
             PlainPick::Range { .. } => Ok(()),
         }
     }
@@ -108,7 +108,7 @@ impl<'t> Coder<'t> {
     // What a variable holds or a port shows, or its picked bits.
     fn load(&mut self, kind: Kind, left: &'t PlainLeft, shown: bool) -> Result<Valued, NoMemory> {
         let index = match &left.pick {
-            Some(PlainPick::Bit(_)) => Some(self.take()?),
+            Some(PlainPick::Bit { .. }) => Some(self.take()?),
             _ => None,
         };
         let located = self.take_located()?;
@@ -144,7 +144,7 @@ impl<'t> Coder<'t> {
 
     fn pick(&mut self, kind: Kind, pick: &'t PlainPick) -> Result<Valued, NoMemory> {
         let index = match pick {
-            PlainPick::Bit(_) => Some(self.take()?),
+            PlainPick::Bit { .. } => Some(self.take()?),
             PlainPick::Range { .. } => None,
         };
         let value = self.take()?;
@@ -161,11 +161,11 @@ impl<'t> Coder<'t> {
         let to = self.next_value()?;
         let of = value.at;
         let act = match (pick, index) {
-            (PlainPick::Range { h, l }, _) => {
+            (PlainPick::Range { h, l, .. }, _) => {
                 let (at, bits) = range_of(*h, *l);
                 Act::Part { at, bits, to, of }
             }
-            (PlainPick::Bit(_), Some(index)) => {
+            (PlainPick::Bit { .. }, Some(index)) => {
                 let between = self.maker.temporary(to.saturating_add(1));
                 let index_kind = index.kind;
                 let index = self.number_in(index, index_kind, between)?.at;
@@ -177,7 +177,7 @@ impl<'t> Coder<'t> {
                     index,
                 }
             }
-            (PlainPick::Bit(_), None) => return Err(lost()),
+            (PlainPick::Bit { .. }, None) => return Err(lost()),
         };
         self.maker.emit(act)?;
         Ok(at_temporary(to, kind))

@@ -21,8 +21,8 @@ impl Draft {
     /// Whether it is one bit that an index picks.
     pub fn is_bit(&self) -> bool {
         match self.expr.node.get() {
-            PlainExprNode::Load(left) => matches!(left.pick, Some(PlainPick::Bit(_))),
-            PlainExprNode::Pick { pick, .. } => matches!(pick, PlainPick::Bit(_)),
+            PlainExprNode::Load(left) => matches!(left.pick, Some(PlainPick::Bit { .. })),
+            PlainExprNode::Pick { pick, .. } => matches!(pick, PlainPick::Bit { .. }),
             _ => false,
         }
     }

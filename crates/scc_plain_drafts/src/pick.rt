@@ -84,7 +84,13 @@ fn bit(alloc: Global, of: Subject, i: Draft, place: Place) -> Result<Meant, Stop
     ensures stop { IfErr result MayStop }
 {
     match bits_of(&of) {
-        Some(_) => picked(alloc, of, PlainPick::Bit(i.expr), Kind::Bool, place),
+        Some(kind) => {
+            let pick = PlainPick::Bit {
+                of: kind,
+                at: i.expr,
+            };
+            picked(alloc, of, pick, Kind::Bool, place)
+        }
         None => refuse(Code::Mismatch, place),
     }
 }
@@ -164,13 +170,14 @@ pub fn ranged(
         return refuse(Code::Mismatch, place);
     };
     match range_in(kind, h, l) {
-        Some(r) => picked(
-            alloc,
-            of,
-            PlainPick::Range { h: r.h, l: r.l },
-            r.kind,
-            place,
-        ),
+        Some(r) => {
+            let pick = PlainPick::Range {
+                of: kind,
+                h: r.h,
+                l: r.l,
+            };
+            picked(alloc, of, pick, r.kind, place)
+        }
         None => refuse(Code::RangeOrder, place),
     }
 }

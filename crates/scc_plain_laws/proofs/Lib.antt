@@ -1,2 +1,5 @@
 pub mod Constant
 pub mod Started
+pub mod Drafted
+pub mod Meanings
+pub mod Topped

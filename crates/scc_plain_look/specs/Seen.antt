@@ -91,8 +91,8 @@ seen_part (node.Member n) = record { step = λ a. member a.plain n; whole = λ a
 seen_part (node.Index e) = record { step = λ a. element; whole = e.whole }
 
 abbrev pub seen_pick : PlainPick-F SeenBase (Kind → Seen) SeenPart SeenPick Seen SeenLeft → SeenPick
-seen_pick (node.Bit e) = record { within = λ k. true; whole = e.whole }
-seen_pick (node.Range h l) = record { within = λ k. nat_le l h && nat_lt h (width_of k); whole = λ a. true }
+seen_pick (node.Bit of e) = record { within = λ k. true; whole = e.whole }
+seen_pick (node.Range of h l) = record { within = λ k. nat_le l h && nat_lt h (width_of k); whole = λ a. true }
 
 abbrev pub seen_left : PlainLeft-F SeenBase (Kind → Seen) SeenPart SeenPick Seen SeenLeft → SeenLeft
 seen_left l = record {

@@ -88,7 +88,7 @@ fn look_pick(s: &Scope, pick: &PlainPick, room: u32) -> Result<(), NoMemory>
     ensures whole { IfOk result (λ u. (seen.pick pick.now).whole (around s.now.plain.now s.now.function.now s.now.calls.now) ≡ true) }
 {
     match pick {
-        PlainPick::Bit(e) => look_expr(s, e, room),
+        PlainPick::Bit { at: e, .. } => look_expr(s, e, room),
         PlainPick::Range { .. } => Ok(()),
     }
 }

@@ -15,8 +15,8 @@ pub(crate) fn is_within(pick: &PlainPick, kind: Kind) -> bool
     ensures within { result ≡ (seen.pick pick.now).within kind }
 {
     match pick {
-        PlainPick::Bit(_) => true,
-        PlainPick::Range { h, l } => *l <= *h && *h < width(kind),
+        PlainPick::Bit { .. } => true,
+        PlainPick::Range { h, l, .. } => *l <= *h && *h < width(kind),
     }
 }
 

@@ -128,7 +128,7 @@ fn enter<'t>(e: &'t PlainExpr, tasks: &mut List<Task<'t>>) -> Result<(), NoMemor
 
 fn enter_pick<'t>(pick: &'t PlainPick, tasks: &mut List<Task<'t>>) -> Result<(), NoMemory> {
     match pick {
-        PlainPick::Bit(at) => tasks.push(Task::Expr(at)),
+        PlainPick::Bit { at, .. } => tasks.push(Task::Expr(at)),
         PlainPick::Range { .. } => Ok(()),
     }
 }
@@ -191,8 +191,15 @@ impl Copies {
 
     fn pick(&mut self, pick: &PlainPick) -> Result<PlainPick, NoMemory> {
         match pick {
-            PlainPick::Bit(_) => Ok(PlainPick::Bit(self.expr()?)),
-            PlainPick::Range { h, l } => Ok(PlainPick::Range { h: *h, l: *l }),
+            PlainPick::Bit { of, .. } => {
+                let at = self.expr()?;
+                Ok(PlainPick::Bit { of: *of, at })
+            }
+            PlainPick::Range { of, h, l } => Ok(PlainPick::Range {
+                of: *of,
+                h: *h,
+                l: *l,
+            }),
         }
     }
 

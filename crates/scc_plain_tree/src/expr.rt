@@ -74,10 +74,10 @@ pub enum PlainPart {
 #[cycle(plain)]
 #[derive(Drop)]
 pub enum PlainPick {
-    /// The bit of that number, counted from 0 at the low end.
-    Bit(PlainExpr),
-    /// Bits h down to l; l is at most h, and h is below the width.
-    Range { h: u32, l: u32 },
+    /// The bit of that number of a value of kind `of`, counted from 0 at the low end.
+    Bit { of: Kind, at: PlainExpr },
+    /// Bits h down to l of a value of kind `of`; l is at most h, and h is below the width.
+    Range { of: Kind, h: u32, l: u32 },
 }
 
 impl PlainExpr {

@@ -10,7 +10,6 @@ use Rattle.scc_plain_tree.specs.declared.program.Reach.TheVariants as way
 use Rattle.scc_elab_spec.specs.Program.{Plain, Class, Function, Member, Shape, Reach}
 use Rattle.scc_elab_spec.specs.Program as plain
 use Rattle.scc_plain_view.specs.Codes.{base_of, code_of}
-use Rattle.scc_plain_view.specs.Kinded.{kinded_code}
 
 abbrev pub reach_of : Way → Reach
 reach_of way.Direct = plain.Direct
@@ -26,9 +25,8 @@ member_of m = record { name = m.name.0; place = m.place; shape = shape_of m.shap
 abbrev pub class_of : PlainClass → Class
 class_of c = record { name = c.name.0; place = c.place; is_module = c.module; members = map member_of c.members; constructor = c.constructor }
 
--- a function as its tree says it, with the kinds of loads that the tree has
-abbrev pub function_in : PlainFunction → Function
-function_in f = record {
+abbrev pub function_of : PlainFunction → Function
+function_of f = record {
   name = f.name.0;
   place = f.place;
   class = f.class;
@@ -39,15 +37,5 @@ function_in f = record {
   body = code_of f.body;
 }
 
-abbrev pub plain_in : Tree → Plain
-plain_in t = record { classes = map class_of t.classes; functions = map function_in t.functions; top = t.top }
-
--- with the kinds of loads that the program declares
-abbrev pub kinded_function : Plain → Function → Function
-kinded_function p f = record f { inits = kinded_code p f f.inits; body = kinded_code p f f.body }
-
-abbrev pub function_of : Tree → PlainFunction → Function
-function_of t f = kinded_function (plain_in t) (function_in f)
-
 abbrev pub plain_of : Tree → Plain
-plain_of t = record { classes = map class_of t.classes; functions = map (function_of t) t.functions; top = t.top }
+plain_of t = record { classes = map class_of t.classes; functions = map function_of t.functions; top = t.top }

@@ -1,5 +1,5 @@
 -- What resolving pointers keeps of a core, and how it refuses.
-use Rattle.std.specs.Prelude.{◌≡◌, ◌⊎◌, ℕ, ◌+◌, min, Bool, true, false, not, List, [], ◌∷◌, map, filter, Option, Some, option_map, slice_get, if◌then◌else◌}
+use Rattle.std.specs.Prelude.{◌≡◌, ◌⊎◌, ℕ, ◌+◌, min, Bool, true, false, nat_eq, List, [], ◌∷◌, map, filter, Option, Some, None, option_map, option_and_then, slice_get, if◌then◌else◌}
 use Rattle.scc_base.specs.declared.code.Code.TheVariants as code
 use Rattle.scc_base.specs.declared.refusal.Place.{Place}
 use Rattle.scc_base.specs.declared.refusal.Refusal.{Refusal}
@@ -12,6 +12,10 @@ use Rattle.scc_core.specs.declared.program.CoreProcess.{CoreProcess}
 use Rattle.scc_core.specs.declared.program.Sort2.{Sort2}
 use Rattle.scc_core.specs.declared.program.Edge2.{Edge2}
 use Rattle.scc_core.specs.declared.program.Reset2.{Reset2}
+use Rattle.scc_core_spec.specs.Code.{End}
+use Rattle.scc_core_spec.specs.Program.{Process, Program}
+use Rattle.scc_core_spec.specs.Renumbered.{is_kept_cell, new_number, renamed_process}
+use Rattle.scc_core_view.specs.Programs.{program_of}
 
 abbrev pub is_of_pointer : CellSort → Bool
 is_of_pointer (Pointer target) = true
@@ -50,19 +54,36 @@ abbrev pub title_by : (ℕ → Option ℕ) → CoreProcess → Title
 title_by f p =
     record { sort = p.sort; name = p.name; place = p.place; senses = map f p.senses; edge = option_map (edge_by f) p.edge; reset = option_map (reset_by f) p.reset }
 
--- a process as it is, and as it is told by new numbers
+-- a process as it is
 abbrev pub title_of : CoreProcess → Title
 title_of = title_by Some
 
-abbrev pub title_in : List ℕ → CoreProcess → Title
-title_in numbers = title_by (slice_get numbers)
+-- the new number of a cell that stays
+abbrev pub number_in : List ℕ → ℕ → Option ℕ
+number_in numbers n = option_and_then (λ k. if nat_eq k gone then None else Some k) (slice_get numbers n)
 
--- the top and the vectors stay, the cells that are no pointers, and all of the processes but their bodies, with the cells' new numbers
+-- a process as it is told by new numbers
+abbrev pub title_in : List ℕ → CoreProcess → Title
+title_in numbers = title_by (number_in numbers)
+
+-- all of a process but its body
+abbrev pub without_body : Process → Process
+without_body q = record { is_thread = q.is_thread; name = q.name; place = q.place; senses = q.senses; edge = q.edge; reset = q.reset; body = End }
+
+-- all of a process but its body, with the new numbers of cells
+abbrev pub renumbered : Program → Process → Process
+renumbered p q = renamed_process (new_number p.cells) q End
+
+-- a program is the resolved one of another in all but the bodies of processes
+pub record IsRenumbered (p r : Program) : Type 0 where
+  pub top : r.top ≡ p.top
+  pub cells : r.cells ≡ filter is_kept_cell p.cells
+  pub vectors : r.vectors ≡ p.vectors
+  pub processes : map without_body r.processes ≡ map (renumbered p) p.processes
+
+-- The program of a core is the resolved one of another's in all but the bodies of processes.
 pub record KeepsObjects (c m : Core) : Type 0 where
-  pub top : m.top ≡ c.top
-  pub cells : m.cells ≡ filter (λ x. not (is_pointer x)) c.cells
-  pub vectors : m.vectors ≡ c.vectors
-  pub processes : map title_of m.processes ≡ map (title_in (new_numbers 0 c.cells)) c.processes
+  pub program : IsRenumbered (program_of c) (program_of m)
 
 -- null is followed, a pointer is assigned, or an object is chosen by an index that isn't static
 abbrev pub IsOfPointers : Refusal → Type 0

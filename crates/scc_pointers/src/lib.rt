@@ -2,6 +2,7 @@
 #![tactic(auto)]
 
 mod held;
+pub mod laws;
 mod locate;
 mod pass;
 mod stmt;

@@ -1,8 +1,8 @@
 //! The pass.
-ghost use Rattle.std.specs.Prelude.{◌≡◌, Err, IfOk, Some, filter, map, not, slice_get};
+ghost use Rattle.std.specs.Prelude.{◌≡◌, Err, IfOk, Some, filter, map, not};
 ghost use Rattle.scc_base.specs.declared.refusal.Refusal.{Refusal};
 ghost use Rattle.scc_base.specs.declared.refusal.Stop.TheVariants as stop;
-ghost use Rattle.scc_pointers.specs.Resolved.{KeepsObjects, IsOfPointers, is_pointer, new_numbers, title_in, title_of};
+ghost use Rattle.scc_pointers.specs.Resolved.{KeepsObjects, IsOfPointers, is_pointer, new_numbers, number_in, title_in, title_of};
 
 use crate::held::Resolver;
 use crate::stmt::resolved_stmts;
@@ -117,7 +117,7 @@ fn kept(alloc: Global, cells: List<Cell>) -> Result<List<Cell>, NoMemory>
 }
 
 fn number(numbers: &[u32], cell: u32) -> Result<u32, NoMemory>
-    ensures { IfOk result (λ n. slice_get numbers.now cell ≡ Some n) }
+    ensures { IfOk result (λ n. number_in numbers.now cell ≡ Some n) }
 {
     match numbers.get(cell as usize) {
         Some(n) if *n != GONE => Ok(*n),

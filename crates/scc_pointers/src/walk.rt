@@ -134,8 +134,15 @@ fn pick_in(r: &Resolver<'_>, pick: &CorePick, levels: u32) -> Result<CorePick, S
     ensures stop { (q : Refusal) → result ≡ Err (stop.Refused q) → IsOfPointers q }
 {
     match pick {
-        CorePick::Bit(at) => Ok(CorePick::Bit(expr_in(r, at, levels)?)),
-        CorePick::Range { h, l } => Ok(CorePick::Range { h: *h, l: *l }),
+        CorePick::Bit { of, at } => {
+            let at = expr_in(r, at, levels)?;
+            Ok(CorePick::Bit { of: *of, at })
+        }
+        CorePick::Range { of, h, l } => Ok(CorePick::Range {
+            of: *of,
+            h: *h,
+            l: *l,
+        }),
     }
 }
 

@@ -68,7 +68,7 @@ fn of_pick<'a>(
     levels: u32,
 ) -> Result<(), NoMemory> {
     match pick {
-        CorePick::Bit(at) => loads_of(alloc, at, out, levels),
+        CorePick::Bit { at, .. } => loads_of(alloc, at, out, levels),
         CorePick::Range { .. } => Ok(()),
     }
 }

@@ -1,7 +1,13 @@
 //! The rules in the order of their codes.
-ghost use Rattle.std.specs.Prelude.{◌≡◌, true, IfOk, IfErr, IfSome};
+ghost use Rattle.std.specs.Prelude.{◌≡◌, true, Some, option_map, IfOk, IfErr, IfSome};
 ghost use Rattle.scc_base.specs.declared.code.Code.TheVariants as code;
+ghost use Rattle.scc_core_spec.specs.First.{first_of, refused};
+ghost use Rattle.scc_core_spec.specs.Program.{Program};
+ghost use Rattle.scc_core_spec.specs.Rules as rule;
+ghost use Rattle.scc_core_view.specs.Programs.{is_thread, program_of};
 ghost use Rattle.scc_rules.specs.Refusals.{Finds, MayStop, is_refusal};
+ghost use Rattle.scc_rules.specs.Stands as spec;
+ghost use Rattle.scc_rules.specs.Stands.{HasLives, first_along};
 
 use crate::clock::{clock_as_data, missing_sensitivity};
 use crate::cycles::{Readers, comb_loop, order_of, readers_of};
@@ -11,7 +17,7 @@ use crate::ways::loop_without_wait;
 use crate::whole::{first_chosen_signal, first_wait};
 use crate::writers::{shared_variable, two_writers};
 use scc_base::{Code, List, NoMemory, Place, Refusal, Stop};
-use scc_core::{Core, Known, Places, Sort2};
+use scc_core::{Core, CoreProcess, CoreStmt, Known, Places, Sort2};
 use std::alloc::Global;
 
 /// The combinational methods by their process numbers, each behind the others that write what it reads, the least number first.
@@ -85,7 +91,8 @@ fn refuse(found: Option<Refusal>) -> Result<(), Stop>
 }
 
 fn at(code: Code, place: Place) -> Option<Refusal>
-    ensures { Finds code result }
+    ensures code { Finds code result }
+    ensures found { result ≡ Some (refused code place) }
 {
     Some(Refusal {
         code,
@@ -94,39 +101,127 @@ fn at(code: Code, place: Place) -> Option<Refusal>
     })
 }
 
+// A wait in a method.
 fn wait_in_method(f: &Facts<'_>) -> Option<Refusal>
-    ensures { Finds code.WaitInMethod result }
+    ensures code { Finds code.WaitInMethod result }
+    ensures first { result ≡ rule.wait_in_method (program_of f.now.core.now) }
 {
-    for p in f.core.processes.as_slice() {
-        if p.sort == Sort2::Method
-            && let Some(place) = first_wait(p.body.as_slice())
-        {
-            return at(Code::WaitInMethod, place);
+    first_waiting(f.core.processes.as_slice())
+}
+
+fn first_waiting(processes: &[CoreProcess]) -> Option<Refusal>
+    ensures code { Finds code.WaitInMethod result }
+    ensures first { result ≡ first_of spec.waiting processes.now }
+{
+    for p in processes {
+        match waiting(p) {
+            Some(found) => return Some(found),
+            None => {}
         }
     }
     None
 }
 
-fn loop_may_not_wait(alloc: Global, f: &Facts<'_>) -> Result<Option<Refusal>, NoMemory>
-    ensures { IfOk result (Finds code.LoopMayNotWait) }
+fn waiting(p: &CoreProcess) -> Option<Refusal>
+    ensures code { Finds code.WaitInMethod result }
+    ensures found { result ≡ spec.waiting p.now }
 {
-    for live in f.lives.iter() {
-        if let Some(place) = loop_without_wait(alloc, live.as_slice())? {
-            return Ok(at(Code::LoopMayNotWait, place));
+    in_method(is_thread(p), first_wait(p.body.as_slice()))
+}
+
+fn in_method(is_thread: bool, place: Option<Place>) -> Option<Refusal>
+    ensures code { Finds code.WaitInMethod result }
+    ensures found { result ≡ spec.in_method is_thread place }
+{
+    if is_thread {
+        None
+    } else {
+        told(Code::WaitInMethod, place)
+    }
+}
+
+fn is_thread(p: &CoreProcess) -> bool
+    ensures { result ≡ is_thread p.now.sort }
+{
+    match p.sort {
+        Sort2::Method => false,
+        Sort2::Thread => true,
+    }
+}
+
+// A refusal at a place, if there is one.
+fn told(code: Code, place: Option<Place>) -> Option<Refusal>
+    ensures code { Finds code result }
+    ensures found { result ≡ option_map (refused code) place }
+{
+    match place {
+        Some(place) => at(code, place),
+        None => None,
+    }
+}
+
+// A loop of a live part through whose body some path goes without a wait.
+fn loop_may_not_wait(alloc: Global, f: &Facts<'_>) -> Result<Option<Refusal>, NoMemory>
+    ensures code { IfOk result (Finds code.LoopMayNotWait) }
+    ensures first { (p : Program) → HasLives f.now p → IfOk result (λ found. found ≡ rule.loop_may_not_wait p) }
+{
+    first_idling(alloc, f.lives.as_slice())
+}
+
+fn first_idling(alloc: Global, lives: &[List<CoreStmt>]) -> Result<Option<Refusal>, NoMemory>
+    ensures code { IfOk result (Finds code.LoopMayNotWait) }
+    ensures first { IfOk result (λ found. found ≡ first_of spec.idling lives.now) }
+{
+    for live in lives {
+        let found = idling(alloc, live.as_slice())?;
+        match found {
+            Some(found) => return Ok(Some(found)),
+            None => {}
         }
     }
     Ok(None)
 }
 
-fn end_reached(f: &Facts<'_>) -> Option<Refusal>
-    ensures { Finds code.EndReached result }
+fn idling(alloc: Global, live: &[CoreStmt]) -> Result<Option<Refusal>, NoMemory>
+    ensures code { IfOk result (Finds code.LoopMayNotWait) }
+    ensures found { IfOk result (λ found. found ≡ spec.idling live.now) }
 {
-    for (p, ends) in f.core.processes.as_slice().iter().zip(f.ends.iter()) {
-        if p.sort == Sort2::Thread && *ends {
-            return at(Code::EndReached, p.place);
+    let place = loop_without_wait(alloc, live)?;
+    Ok(told(Code::LoopMayNotWait, place))
+}
+
+// A thread to whose end some path comes.
+fn end_reached(f: &Facts<'_>) -> Option<Refusal>
+    ensures code { Finds code.EndReached result }
+    ensures first { (p : Program) → p ≡ program_of f.now.core.now → HasLives f.now p → result ≡ rule.end_reached p }
+{
+    first_ending(f.core.processes.as_slice(), f.ends.as_slice())
+}
+
+fn first_ending(processes: &[CoreProcess], ends: &[bool]) -> Option<Refusal>
+    ensures code { Finds code.EndReached result }
+    ensures first { result ≡ first_along spec.ending processes.now ends.now }
+{
+    for (k, p) in processes.iter().enumerate() {
+        let Some(on) = ends.get(k) else {
+            return None;
+        };
+        if let Some(found) = ending(p, *on) {
+            return Some(found);
         }
     }
     None
+}
+
+fn ending(p: &CoreProcess, ends: bool) -> Option<Refusal>
+    ensures code { Finds code.EndReached result }
+    ensures found { result ≡ spec.ending p.now ends }
+{
+    if p.sort == Sort2::Thread && ends {
+        at(Code::EndReached, p.place)
+    } else {
+        None
+    }
 }
 
 fn signal_index(alloc: Global, f: &Facts<'_>) -> Result<Option<Refusal>, NoMemory>

@@ -1,4 +1,9 @@
 //! Rules that look at whole bodies, what no path comes to included.
+ghost use Rattle.std.specs.Prelude.{◌≡◌, Some, [], ◌∷◌};
+ghost use Rattle.scc_core_spec.specs.First.{first_of, or_else};
+ghost use Rattle.scc_core_spec.specs.Rules.{waits};
+ghost use Rattle.scc_core_view.specs.Codes.{code_of};
+
 use crate::facts::{Facts, Role};
 use crate::loads::own_places;
 use scc_base::{NoMemory, Place};
@@ -7,25 +12,40 @@ use std::alloc::Global;
 
 /// The first wait of a body.
 #[cycle(first_wait)]
-pub fn first_wait(body: &[CoreStmt]) -> Option<Place> {
+pub fn first_wait(body: &[CoreStmt]) -> Option<Place>
+    ensures { result ≡ first_of Some (waits (code_of body.now)) }
+{
     for s in body {
-        if let Some(place) = wait_in(s) {
-            return Some(place);
+        match wait_in(s) {
+            Some(place) => return Some(place),
+            None => {}
         }
     }
     None
 }
 
 #[cycle(first_wait)]
-fn wait_in(s: &CoreStmt) -> Option<Place> {
+fn wait_in(s: &CoreStmt) -> Option<Place>
+    ensures { result ≡ first_of Some (waits (code_of (s.now ∷ []))) }
+{
     match &s.node {
         CoreNode::Wait { .. } => Some(s.place),
-        CoreNode::If { yes, no, .. } => match first_wait(yes.as_slice()) {
-            Some(place) => Some(place),
-            None => first_wait(no.as_slice()),
-        },
+        CoreNode::If { yes, no, .. } => {
+            let a = first_wait(yes.as_slice());
+            let b = first_wait(no.as_slice());
+            earlier(a, b)
+        }
         CoreNode::Block(body) | CoreNode::Loop { body, .. } => first_wait(body.as_slice()),
         CoreNode::Assign { .. } | CoreNode::Exit(_) | CoreNode::Alias { .. } => None,
+    }
+}
+
+fn earlier(a: Option<Place>, b: Option<Place>) -> Option<Place>
+    ensures { result ≡ or_else a b }
+{
+    match a {
+        Some(place) => Some(place),
+        None => b,
     }
 }
 

@@ -107,15 +107,15 @@ unfolding part_of expr_elements
 of_index known p size at is = ap (λ x. part_of known x) (is ∙ sym (part.rolls-Index size at))
     ∙ para-roll-CorePart ℕ ℕ Part ℕ ℕ ℕ in_base in_node (in_part known) in_pick in_expr in_left (tree.Index size at)
 
-pub of_bit : (known : CoreExpr → Option Number) (k : CorePick) (at : CoreExpr) → k ≡ pick.Bit at → pick_elements known k ≡ expr_elements known at
+pub of_bit : (known : CoreExpr → Option Number) (k : CorePick) (of : _) (at : CoreExpr) → k ≡ pick.Bit of at → pick_elements known k ≡ expr_elements known at
 unfolding pick_elements expr_elements
-of_bit known k at is = ap (λ x. pick_elements known x) (is ∙ sym (pick.rolls-Bit at))
-    ∙ para-roll-CorePick ℕ ℕ Part ℕ ℕ ℕ in_base in_node (in_part known) in_pick in_expr in_left (tree.Bit at)
+of_bit known k of at is = ap (λ x. pick_elements known x) (is ∙ sym (pick.rolls-Bit of at))
+    ∙ para-roll-CorePick ℕ ℕ Part ℕ ℕ ℕ in_base in_node (in_part known) in_pick in_expr in_left (tree.Bit of at)
 
-pub of_range : (known : CoreExpr → Option Number) (k : CorePick) (h l : ℕ) → k ≡ pick.Range h l → pick_elements known k ≡ 0
+pub of_range : (known : CoreExpr → Option Number) (k : CorePick) (of : _) (h l : ℕ) → k ≡ pick.Range of h l → pick_elements known k ≡ 0
 unfolding pick_elements
-of_range known k h l is = ap (λ x. pick_elements known x) (is ∙ sym (pick.rolls-Range h l))
-    ∙ para-roll-CorePick ℕ ℕ Part ℕ ℕ ℕ in_base in_node (in_part known) in_pick in_expr in_left (tree.Range h l)
+of_range known k of h l is = ap (λ x. pick_elements known x) (is ∙ sym (pick.rolls-Range of h l))
+    ∙ para-roll-CorePick ℕ ℕ Part ℕ ℕ ℕ in_base in_node (in_part known) in_pick in_expr in_left (tree.Range of h l)
 
 -- what is counted of a location
 abbrev pub whole_left : (CoreExpr → Option Number) → CoreLeft → ℕ

@@ -93,8 +93,8 @@ in_part known (tree.Member n) = record { inside = 0; size = None }
 in_part known (tree.Index size at) = record { inside = at.1; size = unknown size (known at.0) }
 
 abbrev pub in_pick : CorePick-F Base Node Index Pick Expr Left → ℕ
-in_pick (tree.Bit at) = at.1
-in_pick (tree.Range h l) = 0
+in_pick (tree.Bit of at) = at.1
+in_pick (tree.Range of h l) = 0
 
 abbrev pub in_expr : CoreExpr-F Base Node Index Pick Expr Left → ℕ
 in_expr e = e.node.1

@@ -92,7 +92,7 @@ fn of_pick(pick: &CorePick, known: Known<'_>) -> u64
     ensures { result ≡ cut (pick_elements (numbers_in known.entry) pick.now) }
 {
     match pick {
-        CorePick::Bit(at) => of_expr(at, known),
+        CorePick::Bit { at, .. } => of_expr(at, known),
         CorePick::Range { .. } => 0,
     }
 }

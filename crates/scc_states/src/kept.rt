@@ -258,7 +258,7 @@ fn reads_beside(
             reads_within(alloc, no, own, live, levels)
         }
         CoreExprNode::Pick { pick, .. } => match pick {
-            CorePick::Bit(at) => reads_within(alloc, at, own, live, levels),
+            CorePick::Bit { at, .. } => reads_within(alloc, at, own, live, levels),
             CorePick::Range { .. } => Ok(()),
         },
         CoreExprNode::Join(parts) => {
@@ -285,7 +285,7 @@ fn reads_indices(
         }
     }
     match &left.pick {
-        Some(CorePick::Bit(at)) => reads_within(alloc, at, own, live, levels),
+        Some(CorePick::Bit { at, .. }) => reads_within(alloc, at, own, live, levels),
         Some(CorePick::Range { .. }) | None => Ok(()),
     }
 }

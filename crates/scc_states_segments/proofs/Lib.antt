@@ -1,2 +1,7 @@
 pub mod Adds
-pub mod Caps
+pub mod Single
+pub mod Stands
+pub mod Walking
+pub mod Scenes
+pub mod Came
+pub mod Behind

@@ -1,5 +1,5 @@
--- How far the exits of statements leave the blocks around them, and counts of waits that stop at the greatest number.
-use Rattle.std.specs.Prelude.{ℕ, suc, ◌+◌, ◌-◌, min, max, Bool, true, nat_lt, Option, Some, None, option_map}
+-- How far the exits of statements leave the blocks around them.
+use Rattle.std.specs.Prelude.{ℕ, suc, ◌+◌, ◌-◌, max, Bool, true, nat_lt, Option, Some, None, option_map}
 use Rattle.scc_core_spec.specs.Code.{Code, End, Put, Aim, If, Block, Loop, Exit, Wait}
 
 -- the further of two; None where a wait stands
@@ -26,9 +26,3 @@ reach (Wait p l n r) = None
 abbrev pub reaches : ℕ → Option ℕ → Bool
 reaches d None = true
 reaches d (Some n) = nat_lt d n
-
-abbrev pub greatest : ℕ
-greatest = 4294967295
-
-abbrev pub capped : ℕ → ℕ
-capped n = min n greatest

@@ -1,12 +1,14 @@
-//! The points of a thread's live body at which its segments begin, and what they count.
+//! The parts of a thread's live body, the segments that a path along them comes to, and what they count.
 #![tactic(auto)]
 
 mod opening;
 mod over;
-mod spot;
+mod parts;
+mod path;
 mod waits;
 
 pub use opening::opens;
 pub use over::{Count, DEEPEST, counted};
-pub use spot::{Frame, Sort, Spot, Step, at, next_step};
-pub use waits::{Halt, halts, starts};
+pub use parts::{Part, PartNode, parts_of};
+pub use path::{Frame, Sort, again, next_part};
+pub use waits::{Halt, halts};

@@ -1,9 +1,8 @@
-//! What tells whether a statement stands in a segment by itself, and how many waits stand in it.
+//! What tells whether a statement stands in a segment by itself.
 ghost use Rattle.std.specs.Prelude.{◌≡◌, [], ◌∷◌};
 ghost use Rattle.scc_core_spec.specs.Segments as spec;
-ghost use Rattle.scc_core_spec.specs.Code as code;
 ghost use Rattle.scc_core_view.specs.Codes.{code_of};
-ghost use Rattle.scc_states_segments.specs.Reach.{capped, lower, reach, reaches};
+ghost use Rattle.scc_states_segments.specs.Reach.{lower, reach, reaches};
 
 use scc_core::{CoreNode, CoreStmt};
 
@@ -61,33 +60,4 @@ fn reach_of(body: &[CoreStmt]) -> Option<u64>
         }
     }
     Some(most)
-}
-
-/// How many waits stand in a statement; no more than the greatest number.
-#[cycle(waits)]
-pub fn waits_in(s: &CoreStmt) -> u32
-    ensures { result ≡ capped (code.waits_in (code_of (s.now ∷ []))) }
-{
-    match &s.node {
-        CoreNode::Wait { .. } => 1,
-        CoreNode::If { yes, no, .. } => {
-            let yes = waits_of(yes.as_slice());
-            let no = waits_of(no.as_slice());
-            yes.saturating_add(no)
-        }
-        CoreNode::Block(body) | CoreNode::Loop { body, .. } => waits_of(body.as_slice()),
-        CoreNode::Assign { .. } | CoreNode::Exit(_) | CoreNode::Alias { .. } => 0,
-    }
-}
-
-/// How many stand in some statements.
-#[cycle(waits)]
-pub fn waits_of(body: &[CoreStmt]) -> u32
-    ensures { result ≡ capped (code.waits_in (code_of body.now)) }
-{
-    let mut sum = 0u32;
-    for s in body {
-        sum = sum.saturating_add(waits_in(s));
-    }
-    sum
 }

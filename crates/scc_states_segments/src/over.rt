@@ -4,10 +4,8 @@ ghost use Rattle.scc_core_spec.specs.Split.{Stood, stood};
 ghost use Rattle.scc_core_view.specs.Codes.{code_of};
 ghost use Rattle.scc_states_segments.specs.Limits.{first_after};
 
-use crate::spot::{Spot, Step, at, next_step};
-use scc_base::{NoMemory, Place, lost};
+use scc_base::Place;
 use scc_core::{CoreNode, CoreStmt};
-use std::alloc::Global;
 
 /// The deepest that statements of segments nest.
 pub const DEEPEST: u32 = 1_024;
@@ -37,7 +35,8 @@ impl Count {
         self.past
     }
 
-    fn take(&mut self, place: Place, depth: u32)
+    /// Counts a statement at a place, which stands so deep.
+    pub fn take(&mut self, place: Place, depth: u32)
         ensures takes { (ss : List Stood) → first_after self.new ss ≡ first_after self.old (record { place = place; depth = depth } ∷ ss) }
         ensures within { self.new.past ≡ None → depth ≤ 1024 }
     {
@@ -51,8 +50,9 @@ impl Count {
     }
 }
 
+/// Counts a statement and those in it.
 #[cycle(counted)]
-fn plain(s: &CoreStmt, depth: u32, count: &mut Count)
+pub fn counted(s: &CoreStmt, depth: u32, count: &mut Count)
     ensures { (ss : List Stood) → first_after count.new ss ≡ first_after count.old (stood depth (code_of (s.now ∷ [])) ++ ss) }
 {
     count.take(s.place, depth);
@@ -81,49 +81,6 @@ fn each(body: &[CoreStmt], depth: u32, count: &mut Count)
         if count.past.is_some() {
             return;
         }
-        plain(s, depth, count);
+        counted(s, depth, count);
     }
-}
-
-/// Counts the statements of the segment that begins at a point, whose own statements have that depth; `levels` bounds how deep
-/// tests nest.
-#[cycle(counted_spots)]
-pub fn counted(
-    alloc: Global,
-    start: &Spot<'_>,
-    depth: u32,
-    levels: u32,
-    count: &mut Count,
-) -> Result<(), NoMemory> {
-    let mut spot = at(alloc, start.here, start.number, start.around.as_slice())?;
-    for _ in 0..usize::MAX {
-        if count.past.is_some() {
-            return Ok(());
-        }
-        match next_step(alloc, &spot)? {
-            Step::Finish => return Ok(()),
-            Step::On(next) => spot = next,
-            Step::Wait { place, .. } => {
-                count.take(place, depth);
-                return Ok(());
-            }
-            Step::Plain(stmt, next) => {
-                plain(stmt, depth, count);
-                spot = next;
-            }
-            Step::Test { place, yes, no, .. } => {
-                if levels == 0 {
-                    return Err(lost());
-                }
-                count.take(place, depth);
-                if count.past.is_some() {
-                    return Ok(());
-                }
-                let inner = depth.saturating_add(1);
-                counted(alloc, &yes, inner, levels - 1, count)?;
-                return counted(alloc, &no, inner, levels - 1, count);
-            }
-        }
-    }
-    Err(lost())
 }

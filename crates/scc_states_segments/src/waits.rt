@@ -4,11 +4,8 @@ ghost use Rattle.scc_core_spec.specs.Rules.{waits};
 ghost use Rattle.scc_core_spec.specs.Segments.{counts};
 ghost use Rattle.scc_core_view.specs.Codes.{code_of};
 
-use crate::opening::{waits_in, waits_of};
-use crate::spot::{Frame, Sort, Spot, framed};
-use scc_base::{List, NoMemory, Place, push};
+use scc_base::{List, NoMemory, Place};
 use scc_core::{CoreNode, CoreStmt};
-use std::alloc::Global;
 
 /// A wait, and for how many edges it waits.
 #[derive(Clone, Copy)]
@@ -44,81 +41,6 @@ fn halts_in(s: &CoreStmt, out: &mut List<Halt>) -> Result<(), NoMemory>
             halts(no.as_slice(), out)
         }
         CoreNode::Block(body) | CoreNode::Loop { body, .. } => halts(body.as_slice(), out),
-        CoreNode::Assign { .. } | CoreNode::Exit(_) | CoreNode::Alias { .. } => Ok(()),
-    }
-}
-
-/// Adds the point behind each wait of some statements, in text order; their first wait has that number.
-#[cycle(starts)]
-pub fn starts<'a>(
-    alloc: Global,
-    body: &'a [CoreStmt],
-    number: u32,
-    around: &[Frame<'a>],
-    out: &mut Vec<Spot<'a>>,
-) -> Result<(), NoMemory> {
-    let mut number = number;
-    for (k, s) in body.iter().enumerate() {
-        let (_front, rest) = body.split_at(k + 1);
-        starts_in(alloc, s, rest, number, around, out)?;
-        number = number.saturating_add(waits_in(s));
-    }
-    Ok(())
-}
-
-// Those of one statement, before the rest of its list; most statements hold no wait.
-#[cycle(starts)]
-fn starts_in<'a>(
-    alloc: Global,
-    s: &'a CoreStmt,
-    rest: &'a [CoreStmt],
-    number: u32,
-    around: &[Frame<'a>],
-    out: &mut Vec<Spot<'a>>,
-) -> Result<(), NoMemory> {
-    let waits = waits_in(s);
-    if waits == 0 {
-        return Ok(());
-    }
-    let behind = number.saturating_add(waits);
-    match &s.node {
-        CoreNode::Wait { .. } => push(
-            out,
-            Spot {
-                here: rest,
-                number: behind,
-                around: Vec::from_slice(alloc, around)?,
-            },
-        ),
-        CoreNode::If { yes, no, .. } => {
-            let frame = Frame {
-                sort: Sort::Rest,
-                rest,
-                number: behind,
-            };
-            let second = number.saturating_add(waits_of(yes.as_slice()));
-            let all = framed(alloc, frame, around)?;
-            starts(alloc, yes.as_slice(), number, all.as_slice(), out)?;
-            starts(alloc, no.as_slice(), second, all.as_slice(), out)
-        }
-        CoreNode::Block(body) => {
-            let frame = Frame {
-                sort: Sort::Block,
-                rest,
-                number: behind,
-            };
-            let all = framed(alloc, frame, around)?;
-            starts(alloc, body.as_slice(), number, all.as_slice(), out)
-        }
-        CoreNode::Loop { body, .. } => {
-            let frame = Frame {
-                sort: Sort::Again,
-                rest: body.as_slice(),
-                number,
-            };
-            let all = framed(alloc, frame, around)?;
-            starts(alloc, body.as_slice(), number, all.as_slice(), out)
-        }
         CoreNode::Assign { .. } | CoreNode::Exit(_) | CoreNode::Alias { .. } => Ok(()),
     }
 }

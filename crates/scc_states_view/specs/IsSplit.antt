@@ -10,4 +10,4 @@ use Rattle.scc_states_view.specs.Segments.{split_thread}
 pub record IsSplit (p : Program) (i : ℕ) (s : Split) : Type 0 where
   pub process : Process
   pub stands : slice_get p.processes i ≡ Some process
-  pub same : split_thread p.cells s ≡ thread_of p.cells i process
+  pub same : split_thread s ≡ thread_of p.cells i process

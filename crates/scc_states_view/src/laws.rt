@@ -9,9 +9,7 @@ ghost use Rattle.scc_states.specs.declared.types.SegStmt.{SegStmt};
 ghost use Rattle.scc_states.specs.declared.types.SegNode.TheVariants as node;
 ghost use Rattle.scc_core_spec.specs.Resolved.{Made, Stopped};
 ghost use Rattle.scc_core_spec.specs.Segments.{Segment, Plain, Test, Halt};
-ghost use Rattle.scc_core_spec.specs.Static.{Cells};
 ghost use Rattle.scc_core_view.specs.Codes.{code_of};
-ghost use Rattle.scc_core_view.specs.Kinded.{kinded, kinded_code};
 ghost use Rattle.scc_core_view.specs.Terms.{term_of};
 ghost use Rattle.scc_states_view.specs.Answers.{Answers, said_by, unless};
 ghost use Rattle.scc_states_view.specs.IsSplit.{IsSplit};
@@ -20,13 +18,13 @@ ghost use Rattle.scc_states_view.specs.Worked.{waiting, waiting_split};
 
 /// A statement of a segment stands before what follows it, a test with that behind each branch; a wait ends the segment.
 pub fn statements_are_segments()
-    ensures plain { (cs : Cells) (waits : List ℕ) (p : Place) (s : CoreStmt) (rest : Segment) →
-        stmt_segment cs waits (record { place = p; node = node.Plain s }) rest ≡ Plain (kinded_code cs (code_of (s ∷ []))) rest }
-    ensures test { (cs : Cells) (waits : List ℕ) (p : Place) (t : CoreExpr) (a b : List SegStmt) (rest : Segment) →
-        stmt_segment cs waits (record { place = p; node = node.If t a b }) rest
-        ≡ Test p (kinded cs (term_of t)) (before (map (stmt_segment cs waits) a) rest) (before (map (stmt_segment cs waits) b) rest) }
-    ensures wait { (cs : Cells) (waits : List ℕ) (p : Place) (n : ℕ) (rest : Segment) →
-        stmt_segment cs waits (record { place = p; node = node.Wait n }) rest ≡ Halt p n (unwrap_or (slice_get waits n) 0) }
+    ensures plain { (waits : List ℕ) (p : Place) (s : CoreStmt) (rest : Segment) →
+        stmt_segment waits (record { place = p; node = node.Plain s }) rest ≡ Plain (code_of (s ∷ [])) rest }
+    ensures test { (waits : List ℕ) (p : Place) (t : CoreExpr) (a b : List SegStmt) (rest : Segment) →
+        stmt_segment waits (record { place = p; node = node.If t a b }) rest
+        ≡ Test p (term_of t) (before (map (stmt_segment waits) a) rest) (before (map (stmt_segment waits) b) rest) }
+    ensures wait { (waits : List ℕ) (p : Place) (n : ℕ) (rest : Segment) →
+        stmt_segment waits (record { place = p; node = node.Wait n }) rest ≡ Halt p n (unwrap_or (slice_get waits n) 0) }
 {}
 
 /// A thread that waits for one edge, and then for two, again and again.

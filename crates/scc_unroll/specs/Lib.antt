@@ -1,1 +1,6 @@
+pub mod Asked
+pub mod Counters
+pub mod Heads
+pub mod Shape
 pub mod Unrolled
+pub mod Used

@@ -1,180 +1,126 @@
 //! The unrolled body.
-use crate::line::Line;
-use crate::look::Marks;
-use crate::turns::{TURNS, next_of, put, start_of};
-use indexmap::IndexMap;
+use crate::counted::{At, Counted, counted_by};
+use crate::shape::{Stand, behind};
+use crate::turns::{TURNS, is_loop, start_of, turn_at};
 use scc_base::{List, NoMemory, lost};
-use scc_bits::Value;
-use scc_core::{Copies, CoreExpr, CoreExprNode, CoreNode, CoreStmt, Count, Counters, Known};
-use std::alloc::Global;
+use scc_bits::Word;
+use scc_core::{Copies, CoreExpr, CoreExprNode, CoreNode, CoreStmt, Count, Counter};
 
-/// What is written out of a process.
-pub struct Unrolled<'a> {
-    alloc: Global,
-    known: Known<'a>,
-    marks: &'a Marks,
-    // The counters of the loops that run, which stand as literals.
-    counters: Counters,
-}
-
-// One call at each exit of what owns it.
-impl Drop for Unrolled<'_> {
-    fn drop(self) {
-        let Unrolled {
-            alloc: _,
-            known: _,
-            marks: _,
-            counters: _counters,
-        } = self;
-    }
-}
-
-impl<'a> Unrolled<'a> {
-    /// No loop runs yet.
-    pub fn new(alloc: Global, known: Known<'a>, marks: &'a Marks) -> Unrolled<'a> {
-        Unrolled {
-            alloc,
-            known,
-            marks,
-            counters: IndexMap::new(alloc),
-        }
-    }
-
-    fn start(&self, count: &Count) -> Result<Value, NoMemory> {
-        start_of(count, self.alloc, self.known, &self.counters)
-    }
-
-    // The counter has a number now; the next one, where a turn begins.
-    fn turn(
-        &mut self,
-        cell: u32,
-        now: Value,
-        test: &CoreExpr,
-        next: &CoreExpr,
-    ) -> Result<Option<Value>, NoMemory> {
-        put(&mut self.counters, cell, now)?;
-        let kind = now.kind();
-        next_of(test, next, kind, self.alloc, self.known, &self.counters)
-    }
-
-    // The counter's next number, assigned where its step stood.
-    fn step(&self, s: &CoreStmt, next: Value) -> Result<CoreStmt, NoMemory> {
-        let CoreNode::Assign { left, value } = &s.node else {
-            return Err(lost());
-        };
-        let literal = CoreExprNode::Lit(next.word());
-        let node = CoreNode::Assign {
-            left: Copies::plain(self.alloc).left(left)?,
-            value: CoreExpr::new(self.alloc, value.place, next.kind(), literal)?,
-        };
-        let place = s.place;
-        Ok(CoreStmt { place, node })
-    }
-
-    fn stmt(&self, s: &CoreStmt) -> Result<CoreStmt, NoMemory> {
-        Copies::with(self.alloc, &self.counters).stmt(s)
-    }
-
-    fn expr(&self, e: &CoreExpr) -> Result<CoreExpr, NoMemory> {
-        Copies::with(self.alloc, &self.counters).expr(e)
-    }
-
-    fn count(&self, count: &Count) -> Result<Count, NoMemory> {
-        Copies::with(self.alloc, &self.counters).count(count)
-    }
-}
-
-/// Appends statements with their counted loops turn by turn.
+/// The statements with their counted loops turn by turn, in which the counters stand as literals.
 #[cycle(unrolled)]
-pub fn unrolled_stmts(
+pub fn unrolled(
+    at: &At<'_>,
+    counters: &[Counter],
+    stand: Stand<'_>,
     body: &[CoreStmt],
-    lines: &[Line],
-    u: &mut Unrolled<'_>,
 ) -> Result<List<CoreStmt>, NoMemory> {
-    let mut out = List::new(u.alloc);
-    for (s, line) in body.iter().zip(lines.iter()) {
-        if u.marks.is_counted(line) {
-            turns(s, line, u, &mut out)?;
-        } else if u.marks.has_loops(line) {
-            let node = around(s, line, u)?;
+    let mut stand = stand;
+    let mut out = List::new(at.alloc);
+    for (i, s) in body.iter().enumerate() {
+        if is_loop(s) {
+            unroll_loop(at, counters, stand, s, i + 1 == body.len(), &mut out)?;
+        } else {
+            let node = copied(at, counters, s)?;
             let place = s.place;
             out.push(CoreStmt { place, node })?;
-        } else {
-            out.push(u.stmt(s)?)?;
         }
+        stand = behind(stand, s);
     }
     Ok(out)
 }
 
-// A statement with a counted loop in it.
+// A statement that is no loop.
 #[cycle(unrolled)]
-fn around(s: &CoreStmt, line: &Line, u: &mut Unrolled<'_>) -> Result<CoreNode, NoMemory> {
+fn copied(at: &At<'_>, counters: &[Counter], s: &CoreStmt) -> Result<CoreNode, NoMemory> {
+    let copies = Copies::with(at.alloc, counters);
     match &s.node {
         CoreNode::If { test, yes, no } => {
-            let test = u.expr(test)?;
-            let yes = unrolled_stmts(yes.as_slice(), line.inner.as_slice(), u)?;
-            let no = unrolled_stmts(no.as_slice(), line.other.as_slice(), u)?;
+            let test = copies.expr(test)?;
+            let yes = unrolled(at, counters, Stand::Elsewhere, yes.as_slice())?;
+            let no = unrolled(at, counters, Stand::Elsewhere, no.as_slice())?;
             Ok(CoreNode::If { test, yes, no })
         }
         CoreNode::Block(body) => {
-            let body = unrolled_stmts(body.as_slice(), line.inner.as_slice(), u)?;
+            let body = unrolled(at, counters, Stand::First, body.as_slice())?;
             Ok(CoreNode::Block(body))
         }
-        CoreNode::Loop { count, body } => {
-            let count = match count {
-                Some(count) => Some(u.count(count)?),
-                None => None,
-            };
-            let body = unrolled_stmts(body.as_slice(), line.inner.as_slice(), u)?;
-            Ok(CoreNode::Loop { count, body })
+        CoreNode::Assign { left, value } => {
+            let left = copies.left(left)?;
+            let value = copies.expr(value)?;
+            Ok(CoreNode::Assign { left, value })
         }
-        CoreNode::Assign { .. }
-        | CoreNode::Exit(_)
-        | CoreNode::Wait { .. }
-        | CoreNode::Alias { .. } => Err(lost()),
+        CoreNode::Exit(n) => Ok(CoreNode::Exit(*n)),
+        CoreNode::Wait { n } => Ok(CoreNode::Wait { n: *n }),
+        CoreNode::Alias { to, target } => {
+            let to = copies.pointed(to)?;
+            let target = copies.left(target)?;
+            Ok(CoreNode::Alias { to, target })
+        }
+        CoreNode::Loop { .. } => Err(lost()),
     }
 }
 
-// The turns of a counted loop: each is its block, then the counter's next number.
+// A loop: where it is counted, its turns, each of which is its block, then the counter's next number.
 #[cycle(unrolled)]
-fn turns(
+fn unroll_loop(
+    at: &At<'_>,
+    counters: &[Counter],
+    stand: Stand<'_>,
     s: &CoreStmt,
-    line: &Line,
-    u: &mut Unrolled<'_>,
+    last: bool,
     out: &mut List<CoreStmt>,
 ) -> Result<(), NoMemory> {
-    let CoreNode::Loop {
-        count: Some(count),
-        body,
-    } = &s.node
-    else {
+    let CoreNode::Loop { count, body } = &s.node else {
         return Err(lost());
     };
-    let [first, block, step] = body.as_slice() else {
-        return Err(lost());
+    let place = s.place;
+    let Some(of) = counted_by(at, counters, stand, count, body.as_slice(), last)? else {
+        let count = count_copied(at, counters, count)?;
+        let body = unrolled(at, counters, Stand::Elsewhere, body.as_slice())?;
+        let node = CoreNode::Loop { count, body };
+        return out.push(CoreStmt { place, node });
     };
-    let CoreNode::If { test, .. } = &first.node else {
+    let [_, block, _] = body.as_slice() else {
         return Err(lost());
     };
     let CoreNode::Block(inner) = &block.node else {
         return Err(lost());
     };
-    let CoreNode::Assign { value, .. } = &step.node else {
-        return Err(lost());
-    };
-    let Some(below) = line.inner.get(1) else {
-        return Err(lost());
-    };
-    let mut now = u.start(count)?;
+    let mut now = start_of(at, counters, of)?;
     for _ in 0..TURNS + 1 {
-        let Some(next) = u.turn(count.cell, now, test, value)? else {
+        let Some(turn) = turn_at(at, counters, of, now)? else {
             return Ok(());
         };
-        let node = CoreNode::Block(unrolled_stmts(inner.as_slice(), below.inner.as_slice(), u)?);
+        now = turn.next;
+        let around = turn.counters.as_slice();
+        let node = CoreNode::Block(unrolled(at, around, Stand::First, inner.as_slice())?);
         let place = block.place;
         out.push(CoreStmt { place, node })?;
-        out.push(u.step(step, next)?)?;
-        now = next;
+        out.push(step(at, of, now)?)?;
     }
-    Ok(())
+    Err(lost())
+}
+
+// How a loop that stays counts.
+fn count_copied(
+    at: &At<'_>,
+    counters: &[Counter],
+    count: &Option<Count>,
+) -> Result<Option<Count>, NoMemory> {
+    match count {
+        Some(count) => Ok(Some(Copies::with(at.alloc, counters).count(count)?)),
+        None => Ok(None),
+    }
+}
+
+// The counter's next number, assigned where its step stood.
+fn step(at: &At<'_>, of: Counted<'_>, next: Word) -> Result<CoreStmt, NoMemory> {
+    let step = of.turning.step;
+    let literal = CoreExprNode::Lit(next);
+    let node = CoreNode::Assign {
+        left: Copies::plain(at.alloc).left(of.turning.step_left)?,
+        value: CoreExpr::new(at.alloc, step.place, step.kind, literal)?,
+    };
+    let place = of.turning.step_place;
+    Ok(CoreStmt { place, node })
 }

@@ -2,9 +2,13 @@
 #![tactic(auto)]
 
 mod built;
-mod line;
+mod counted;
+pub mod laws;
 mod look;
+mod own;
 mod pass;
+mod shape;
 mod turns;
+mod uses;
 
 pub use pass::Unroll;

@@ -4,11 +4,13 @@ ghost use Rattle.scc_base.specs.declared.refusal.Refusal.{Refusal};
 ghost use Rattle.scc_base.specs.declared.refusal.Stop.TheVariants as stop;
 ghost use Rattle.scc_unroll.specs.Unrolled.{KeepsAllButBodies, IsOfUnrolling, head_of};
 
-use crate::built::{Unrolled, unrolled_stmts};
-use crate::line::{Line, Uses, lines_of};
-use crate::look::{Look, Marks, Uncounted, look_over};
-use crate::turns::{Turns, count_turns};
-use scc_base::{Code, List, NoMemory, Place, Stop};
+use crate::built::unrolled;
+use crate::counted::At;
+use crate::look::{Spot, first_uncounted};
+use crate::shape::Stand;
+use crate::turns::{STATEMENTS, Turns, count_turns, unrolled_size};
+use crate::uses::{Uses, note_all};
+use scc_base::{Code, List, NoMemory, Place, Stop, Tally};
 use scc_core::{Core, CoreProcess, CoreStmt, Known, Pass, Places};
 use std::alloc::Global;
 
@@ -60,113 +62,68 @@ fn process(alloc: Global, known: Known<'_>, p: CoreProcess) -> Result<CoreProces
     ensures stop { (r : Refusal) → result ≡ Err (stop.Refused r) → IsOfUnrolling r }
 {
     let mut p = p;
-    if let Some(body) = new_body(alloc, known, p.body.as_slice(), p.place)? {
-        p.body = body;
-    }
+    p.body = new_body(alloc, known, &p)?;
     Ok(p)
 }
 
-// The unrolled body; None where it has no counted loop.
-fn new_body(
-    alloc: Global,
-    known: Known<'_>,
-    body: &[CoreStmt],
-    place: Place,
-) -> Result<Option<List<CoreStmt>>, Stop>
+// The unrolled body.
+fn new_body(alloc: Global, known: Known<'_>, p: &CoreProcess) -> Result<List<CoreStmt>, Stop>
     ensures stop { (r : Refusal) → result ≡ Err (stop.Refused r) → IsOfUnrolling r }
 {
-    let found = found_in(alloc, known, body)?;
-    let lines = found.lines.as_slice();
-    let over = over_of(alloc, known, body, lines, &found.marks, place)?;
-    stop_at(found.uncounted, over)?;
-    if !has_any(lines, &found.marks) {
-        return Ok(None);
-    }
-    let mut u = Unrolled::new(alloc, known, &found.marks);
-    Ok(Some(unrolled_stmts(body, lines, &mut u)?))
+    let uses = uses_of(alloc, known, p.body.as_slice())?;
+    let at = At {
+        alloc,
+        known,
+        path: p.name.path.as_slice(),
+        uses: &uses,
+    };
+    body_at(&at, p.place, p.body.as_slice())
 }
 
-// The statements of a body, and which of its loops are counted.
-struct Found {
-    lines: List<Line>,
-    marks: Marks,
-    uncounted: Option<Uncounted>,
-}
-
-// One call at each exit of what owns it.
-impl Drop for Found {
-    fn drop(self) {
-        let Found {
-            lines: _lines,
-            marks: _marks,
-            uncounted: _,
-        } = self;
-    }
-}
-
-fn found_in(alloc: Global, known: Known<'_>, body: &[CoreStmt]) -> Result<Found, NoMemory> {
+fn uses_of(alloc: Global, known: Known<'_>, body: &[CoreStmt]) -> Result<Uses, NoMemory> {
     let mut uses = Uses::new(alloc);
-    let mut statements = 0;
-    let lines = lines_of(body, alloc, &mut uses, &mut statements)?;
-    let mut at = Look::new(alloc, known, &uses, statements)?;
-    let uncounted = look_over(body, lines.as_slice(), &mut at)?;
-    let marks = at.into_marks();
-    Ok(Found {
-        lines,
-        marks,
-        uncounted,
-    })
+    note_all(body, known.cells(), &mut uses)?;
+    Ok(uses)
 }
 
-// The first refusal of a body: a loop that isn't counted, or turns or statements past their limits.
-fn stop_at(uncounted: Option<Uncounted>, over: TooMany) -> Result<(), Stop>
+fn body_at(at: &At<'_>, place: Place, body: &[CoreStmt]) -> Result<List<CoreStmt>, Stop>
     ensures stop { (r : Refusal) → result ≡ Err (stop.Refused r) → IsOfUnrolling r }
 {
-    if let Some(loop_of) = uncounted {
-        let first = match over.position {
-            Some(position) => loop_of.position < position,
-            None => true,
-        };
-        if first {
-            return Err(Stop::refused(Code::UncountedLoop, loop_of.place));
+    let uncounted = first_uncounted(at, &[], Stand::Elsewhere, 0, body)?;
+    let over = over_of(at, body)?;
+    stop_at(uncounted, over)?;
+    if is_too_large(at, body)? {
+        return Err(Stop::refused(Code::TooManyTurns, place));
+    }
+    Ok(unrolled(at, &[], Stand::Elsewhere, body)?)
+}
+
+// The loop that makes a turn too many.
+fn over_of(at: &At<'_>, body: &[CoreStmt]) -> Result<Option<Spot>, NoMemory> {
+    let mut turns = Turns::new();
+    count_turns(at, &[], Stand::Elsewhere, 0, body, &mut turns)?;
+    Ok(turns.over)
+}
+
+fn is_too_large(at: &At<'_>, body: &[CoreStmt]) -> Result<bool, NoMemory> {
+    let none = Tally::new(STATEMENTS);
+    Ok(unrolled_size(at, &[], Stand::Elsewhere, body, none)?.is_over())
+}
+
+// The earlier one of a loop that isn't counted and one that makes a turn too many.
+fn stop_at(uncounted: Option<Spot>, over: Option<Spot>) -> Result<(), Stop>
+    ensures stop { (r : Refusal) → result ≡ Err (stop.Refused r) → IsOfUnrolling r }
+{
+    match (uncounted, over) {
+        (None, None) => Ok(()),
+        (Some(a), None) => Err(Stop::refused(Code::UncountedLoop, a.place)),
+        (None, Some(b)) => Err(Stop::refused(Code::TooManyTurns, b.place)),
+        (Some(a), Some(b)) => {
+            if a.number < b.number {
+                Err(Stop::refused(Code::UncountedLoop, a.place))
+            } else {
+                Err(Stop::refused(Code::TooManyTurns, b.place))
+            }
         }
     }
-    match over.place {
-        Some(place) => Err(Stop::refused(Code::TooManyTurns, place)),
-        None => Ok(()),
-    }
-}
-
-fn has_any(lines: &[Line], marks: &Marks) -> bool {
-    lines.iter().any(|line| marks.has_loops(line))
-}
-
-/// Where turns or statements pass their limits, if they do.
-#[derive(Clone, Copy)]
-struct TooMany {
-    /// The loop of the turn too many; None for too many statements.
-    position: Option<u32>,
-    place: Option<Place>,
-}
-
-fn over_of(
-    alloc: Global,
-    known: Known<'_>,
-    body: &[CoreStmt],
-    lines: &[Line],
-    marks: &Marks,
-    process: Place,
-) -> Result<TooMany, NoMemory> {
-    let mut t = Turns::new(alloc, known, marks);
-    count_turns(body, lines, &mut t)?;
-    Ok(match t.over {
-        Some(over) => TooMany {
-            position: Some(over.position),
-            place: Some(over.place),
-        },
-        None => TooMany {
-            position: None,
-            place: t.size.is_over().then_some(process),
-        },
-    })
 }

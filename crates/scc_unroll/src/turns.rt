@@ -1,230 +1,313 @@
-//! Turns, counted in the order in which they run, before anything is written out.
-use crate::line::Line;
-use crate::look::Marks;
-use indexmap::IndexMap;
-use scc_base::{NoMemory, Place, Tally, lost};
-use scc_bits::{Kind, Value};
-use scc_core::{Copies, CoreExpr, CoreNode, CoreStmt, Count, Counters, Known};
-use std::alloc::Global;
+//! Turns, counted in the order in which they run, and the statements of the unrolled body, before anything is written out.
+use crate::counted::{At, Counted, counted_by, counter_with, number, with};
+use crate::look::Spot;
+use crate::shape::{Stand, behind, plus, size_in, size_of};
+use scc_base::{NoMemory, Tally, lost};
+use scc_bits::Word;
+use scc_core::{CoreNode, CoreStmt, Counter};
 
 /// The most turns of the counted loops of a process together.
 pub const TURNS: u32 = 4_096;
 /// The most statements of an unrolled body.
-const STATEMENTS: u32 = 65_536;
+pub const STATEMENTS: u32 = 65_536;
 
-/// A loop that makes a turn too many.
-#[derive(Clone, Copy)]
-pub struct Over {
-    pub position: u32,
-    pub place: Place,
-}
-
-/// What is counted of a process.
-pub struct Turns<'a> {
-    alloc: Global,
-    known: Known<'a>,
-    marks: &'a Marks,
-    // The counters of the loops that run.
-    counters: Counters,
-    turns: Tally,
-    /// The statements of the unrolled body.
-    pub size: Tally,
-    pub over: Option<Over>,
+/// A turn that begins: the counters in it, and its counter behind it.
+pub struct Turn {
+    pub counters: Vec<Counter>,
+    pub next: Word,
 }
 
 // One call at each exit of what owns it.
-impl Drop for Turns<'_> {
+impl Drop for Turn {
     fn drop(self) {
-        let Turns {
-            alloc: _,
-            known: _,
-            marks: _,
+        let Turn {
             counters: _counters,
-            turns: _,
-            size: _,
-            over: _,
+            next: _,
         } = self;
     }
 }
 
-/// The number of an expression in which these counters stand as literals; None where it isn't static.
-pub fn number(
-    alloc: Global,
-    known: Known<'_>,
-    counters: &Counters,
-    e: &CoreExpr,
-) -> Result<Option<Value>, NoMemory> {
-    let copy = Copies::with(alloc, counters).expr(e)?;
-    Ok(known.value(&copy))
+/// What the counter of a loop begins with.
+pub fn start_of(at: &At<'_>, around: &[Counter], of: Counted<'_>) -> Result<Word, NoMemory> {
+    match number(at, around, of.start)? {
+        Some(start) => Ok(start.word()),
+        None => Err(lost()),
+    }
 }
 
-/// A counter has a number from now on. It isn't named behind its loop.
-pub fn put(counters: &mut Counters, cell: u32, now: Value) -> Result<(), NoMemory> {
-    let _old = counters.insert(cell, now)?;
-    Ok(())
-}
-
-/// The counter of a counted loop at its beginning.
-pub fn start_of(
-    count: &Count,
-    alloc: Global,
-    known: Known<'_>,
-    counters: &Counters,
-) -> Result<Value, NoMemory> {
-    let start = number(alloc, known, counters, &count.start)?;
-    let (Some(cell), Some(start)) = (known.cells().get(count.cell as usize), start) else {
-        return Err(lost());
-    };
-    start.stored(cell.kind).ok_or(lost())
-}
-
-/// Whether a turn begins, and the counter behind it. The counter at hand has to stand among the counters.
-pub fn next_of(
-    test: &CoreExpr,
-    next: &CoreExpr,
-    kind: Kind,
-    alloc: Global,
-    known: Known<'_>,
-    counters: &Counters,
-) -> Result<Option<Value>, NoMemory> {
-    let Some(test) = number(alloc, known, counters, test)? else {
+/// The turn that begins where the counter has a number, if one does.
+pub fn turn_at(
+    at: &At<'_>,
+    around: &[Counter],
+    of: Counted<'_>,
+    now: Word,
+) -> Result<Option<Turn>, NoMemory> {
+    let first = counter_with(at.known.cells(), of.cell, now)?;
+    let counters = with(at.alloc, first, around)?;
+    let Some(test) = number(at, counters.as_slice(), of.turning.test)? else {
         return Err(lost());
     };
     if !test.is_true() {
         return Ok(None);
     }
-    let Some(next) = number(alloc, known, counters, next)? else {
-        return Err(lost());
-    };
-    match next.stored(kind) {
-        Some(next) => Ok(Some(next)),
+    match number(at, counters.as_slice(), of.turning.step)? {
+        Some(next) => Ok(Some(Turn {
+            counters,
+            next: next.word(),
+        })),
         None => Err(lost()),
     }
 }
 
-impl<'a> Turns<'a> {
-    /// Nothing is counted yet.
-    pub fn new(alloc: Global, known: Known<'a>, marks: &'a Marks) -> Turns<'a> {
+/// How many turns there may still be, and the loop of the first one too many.
+#[derive(Clone, Copy)]
+pub struct Turns {
+    left: u32,
+    pub over: Option<Spot>,
+}
+
+impl Turns {
+    /// None yet.
+    pub fn new() -> Turns {
         Turns {
-            alloc,
-            known,
-            marks,
-            counters: IndexMap::new(alloc),
-            turns: Tally::new(TURNS),
-            size: Tally::new(STATEMENTS),
+            left: TURNS,
             over: None,
         }
     }
 
-    fn start(&self, count: &Count) -> Result<Value, NoMemory> {
-        start_of(count, self.alloc, self.known, &self.counters)
-    }
-
-    // The counter has a number now; the next one, where a turn begins.
-    fn turn(
-        &mut self,
-        cell: u32,
-        now: Value,
-        test: &CoreExpr,
-        next: &CoreExpr,
-    ) -> Result<Option<Value>, NoMemory> {
-        put(&mut self.counters, cell, now)?;
-        let kind = now.kind();
-        next_of(test, next, kind, self.alloc, self.known, &self.counters)
-    }
-
-    // One more turn of the loop of a position; whether there is room for it.
-    fn count(&mut self, line: &Line, place: Place) -> bool {
-        self.turns = self.turns.plus(1);
-        self.size = self.size.plus(2);
-        if self.turns.is_over() {
-            self.over = Some(Over {
-                position: line.position,
-                place,
-            });
+    fn take(&mut self, of: Spot) {
+        if self.over.is_none() {
+            if self.left == 0 {
+                self.over = Some(of);
+            } else {
+                self.left -= 1;
+            }
         }
-        self.over.is_none()
-    }
-
-    fn add(&mut self, size: u32) {
-        self.size = self.size.plus(u64::from(size));
     }
 }
 
-/// Counts the turns and statements of a list, until a limit is passed.
+/// Counts the turns of statements, the first of which has that number, until there is one too many.
 #[cycle(turns)]
-pub fn count_turns(body: &[CoreStmt], lines: &[Line], t: &mut Turns<'_>) -> Result<(), NoMemory> {
-    for (s, line) in body.iter().zip(lines.iter()) {
-        if t.over.is_some() {
+pub fn count_turns(
+    at: &At<'_>,
+    counters: &[Counter],
+    stand: Stand<'_>,
+    number: u64,
+    body: &[CoreStmt],
+    turns: &mut Turns,
+) -> Result<(), NoMemory> {
+    let mut stand = stand;
+    let mut number = number;
+    for (i, s) in body.iter().enumerate() {
+        if turns.over.is_some() {
             return Ok(());
         }
-        if t.marks.has_loops(line) {
-            count_in(s, line, t)?;
+        if is_loop(s) {
+            turns_of_loop(at, counters, stand, number, s, i + 1 == body.len(), turns)?;
         } else {
-            t.add(line.size);
+            turns_in(at, counters, number, s, turns)?;
+        }
+        number = plus(number, size_in(s)?)?;
+        stand = behind(stand, s);
+    }
+    Ok(())
+}
+
+/// Whether a statement is a loop.
+pub fn is_loop(s: &CoreStmt) -> bool {
+    matches!(s.node, CoreNode::Loop { .. })
+}
+
+// Whether a loop stands in statements.
+#[cycle(loops)]
+fn holds_loop(body: &[CoreStmt]) -> bool {
+    for s in body {
+        if has_loop(s) {
+            return true;
+        }
+    }
+    false
+}
+
+#[cycle(loops)]
+fn has_loop(s: &CoreStmt) -> bool {
+    match &s.node {
+        CoreNode::Loop { .. } => true,
+        CoreNode::If { yes, no, .. } => holds_loop(yes.as_slice()) || holds_loop(no.as_slice()),
+        CoreNode::Block(body) => holds_loop(body.as_slice()),
+        CoreNode::Assign { .. }
+        | CoreNode::Exit(_)
+        | CoreNode::Wait { .. }
+        | CoreNode::Alias { .. } => false,
+    }
+}
+
+// Those of a statement that is no loop.
+#[cycle(turns)]
+fn turns_in(
+    at: &At<'_>,
+    counters: &[Counter],
+    number: u64,
+    s: &CoreStmt,
+    turns: &mut Turns,
+) -> Result<(), NoMemory> {
+    let inner = plus(number, 1)?;
+    match &s.node {
+        CoreNode::If { yes, no, .. } => {
+            count_turns(at, counters, Stand::Elsewhere, inner, yes.as_slice(), turns)?;
+            let second = plus(inner, size_of(yes.as_slice())?)?;
+            count_turns(at, counters, Stand::Elsewhere, second, no.as_slice(), turns)
+        }
+        CoreNode::Block(body) => {
+            count_turns(at, counters, Stand::First, inner, body.as_slice(), turns)
+        }
+        CoreNode::Loop { .. } => Err(lost()),
+        CoreNode::Assign { .. }
+        | CoreNode::Exit(_)
+        | CoreNode::Wait { .. }
+        | CoreNode::Alias { .. } => Ok(()),
+    }
+}
+
+// Those of a loop, the inner ones turn by turn where it is counted.
+#[cycle(turns)]
+fn turns_of_loop(
+    at: &At<'_>,
+    counters: &[Counter],
+    stand: Stand<'_>,
+    number: u64,
+    s: &CoreStmt,
+    last: bool,
+    turns: &mut Turns,
+) -> Result<(), NoMemory> {
+    let CoreNode::Loop { count, body } = &s.node else {
+        return Err(lost());
+    };
+    let spot = Spot {
+        number,
+        place: s.place,
+    };
+    let inner = plus(number, 1)?;
+    let Some(of) = counted_by(at, counters, stand, count, body.as_slice(), last)? else {
+        return count_turns(
+            at,
+            counters,
+            Stand::Elsewhere,
+            inner,
+            body.as_slice(),
+            turns,
+        );
+    };
+    // a body without loops is not gone over at each turn
+    let has_inner = holds_loop(body.as_slice());
+    let mut now = start_of(at, counters, of)?;
+    for _ in 0..TURNS + 1 {
+        let Some(turn) = turn_at(at, counters, of, now)? else {
+            return Ok(());
+        };
+        turns.take(spot);
+        if turns.over.is_some() {
+            return Ok(());
+        }
+        now = turn.next;
+        if has_inner {
+            let around = turn.counters.as_slice();
+            count_turns(at, around, Stand::Elsewhere, inner, body.as_slice(), turns)?;
         }
     }
     Ok(())
 }
 
-#[cycle(turns)]
-fn count_in(s: &CoreStmt, line: &Line, t: &mut Turns<'_>) -> Result<(), NoMemory> {
-    if t.marks.is_counted(line) {
-        return count_loop(s, line, t);
+/// The number of statements of an unrolled body, up to the limit, added to others.
+#[cycle(sizes)]
+pub fn unrolled_size(
+    at: &At<'_>,
+    counters: &[Counter],
+    stand: Stand<'_>,
+    body: &[CoreStmt],
+    size: Tally,
+) -> Result<Tally, NoMemory> {
+    let mut stand = stand;
+    let mut size = size;
+    for (i, s) in body.iter().enumerate() {
+        if size.is_over() {
+            return Ok(size);
+        }
+        size = if is_loop(s) {
+            size_of_loop(at, counters, stand, s, i + 1 == body.len(), size)?
+        } else {
+            size_behind(at, counters, s, size)?
+        };
+        stand = behind(stand, s);
     }
-    t.add(1);
+    Ok(size)
+}
+
+// With a statement that is no loop.
+#[cycle(sizes)]
+fn size_behind(
+    at: &At<'_>,
+    counters: &[Counter],
+    s: &CoreStmt,
+    size: Tally,
+) -> Result<Tally, NoMemory> {
     match &s.node {
         CoreNode::If { yes, no, .. } => {
-            count_turns(yes.as_slice(), line.inner.as_slice(), t)?;
-            count_turns(no.as_slice(), line.other.as_slice(), t)
+            let size = size.plus(1);
+            let size = unrolled_size(at, counters, Stand::Elsewhere, yes.as_slice(), size)?;
+            unrolled_size(at, counters, Stand::Elsewhere, no.as_slice(), size)
         }
-        CoreNode::Block(body) | CoreNode::Loop { body, .. } => {
-            count_turns(body.as_slice(), line.inner.as_slice(), t)
+        CoreNode::Block(body) => {
+            unrolled_size(at, counters, Stand::First, body.as_slice(), size.plus(1))
         }
+        CoreNode::Loop { .. } => Err(lost()),
         CoreNode::Assign { .. }
         | CoreNode::Exit(_)
         | CoreNode::Wait { .. }
-        | CoreNode::Alias { .. } => Err(lost()),
+        | CoreNode::Alias { .. } => Ok(size.plus(1)),
     }
 }
 
-#[cycle(turns)]
-fn count_loop(s: &CoreStmt, line: &Line, t: &mut Turns<'_>) -> Result<(), NoMemory> {
-    let CoreNode::Loop {
-        count: Some(count),
-        body,
-    } = &s.node
-    else {
+// With a loop, each turn of which is its block and its step where it is counted.
+#[cycle(sizes)]
+fn size_of_loop(
+    at: &At<'_>,
+    counters: &[Counter],
+    stand: Stand<'_>,
+    s: &CoreStmt,
+    last: bool,
+    size: Tally,
+) -> Result<Tally, NoMemory> {
+    let CoreNode::Loop { count, body } = &s.node else {
         return Err(lost());
     };
-    let [first, block, step] = body.as_slice() else {
-        return Err(lost());
+    let Some(of) = counted_by(at, counters, stand, count, body.as_slice(), last)? else {
+        return unrolled_size(
+            at,
+            counters,
+            Stand::Elsewhere,
+            body.as_slice(),
+            size.plus(1),
+        );
     };
-    let CoreNode::If { test, .. } = &first.node else {
+    let [_, block, _] = body.as_slice() else {
         return Err(lost());
     };
     let CoreNode::Block(inner) = &block.node else {
         return Err(lost());
     };
-    let CoreNode::Assign { value, .. } = &step.node else {
-        return Err(lost());
-    };
-    let Some(below) = line.inner.get(1) else {
-        return Err(lost());
-    };
-    let mut now = t.start(count)?;
+    let mut size = size;
+    let mut now = start_of(at, counters, of)?;
     for _ in 0..TURNS + 1 {
-        let Some(next) = t.turn(count.cell, now, test, value)? else {
-            return Ok(());
+        if size.is_over() {
+            return Ok(size);
+        }
+        let Some(turn) = turn_at(at, counters, of, now)? else {
+            return Ok(size);
         };
-        if !t.count(line, s.place) {
-            return Ok(());
-        }
-        count_turns(inner.as_slice(), below.inner.as_slice(), t)?;
-        if t.over.is_some() {
-            return Ok(());
-        }
-        now = next;
+        now = turn.next;
+        let around = turn.counters.as_slice();
+        size = unrolled_size(at, around, Stand::First, inner.as_slice(), size.plus(2))?;
     }
-    Ok(())
+    Err(lost())
 }

@@ -7,7 +7,7 @@ use Rattle.scc_core_order_laws.proofs.Resolved.{in-any-order, soon}
 use Rattle.scc_core_order_laws.proofs.laws.what_means_a_core_runs_in_any_order.Goals as goal
 
 pub returns : goal.returns
-returns c = λ home p is r none kept k d same. (
-  any-order-too k d (design_of home p) same (is-steady home is p r) (is_kept_at home p) (in-any-order home p is r none kept),
-  ends-too k d (design_of home p) same (is-steady home is p r) (soon home p is r none kept),
+returns c = λ home p is r none k d same. (
+  any-order-too k d (design_of home p) same (is-steady home is p r) (is_kept_at home p) (in-any-order home p is r none),
+  ends-too k d (design_of home p) same (is-steady home is p r) (soon home p is r none),
 )

@@ -5,7 +5,7 @@ use Rattle.scc_core_spec.specs.First.{refused}
 use Rattle.scc_elab_spec.specs.Elaborated.{bad_top, other_param}
 use Rattle.scc_plain_view.specs.Plains.{plain_of, member_of}
 use Rattle.scc_plain_tree.specs.declared.program.PlainMember.{PlainMember}
-use Rattle.scc_elab_checks.specs.Open.{Says}
+use Rattle.scc_elab_checks.specs.Open.{Tells}
 use Rattle.scc_elab_checks.proofs.Parameters.{top_says}
 use Rattle.scc_elab_checks.proofs.top.check_top.Goals as goal
 
@@ -15,7 +15,7 @@ same n ms ks e = ap (λ z. option_map (refused reason.Constructor) (other_param 
 pub returns-in-Some-first_other : goal.returns-in-Some-first_other
 returns-in-Some-first_other c =
     let e = top_says c.args.p.now c.in-Some.class.now c.in-Some-get.function.now c.in-Some-constructor.number (sym c.in-Some.ensures.element) c.in-Some-constructor.is (sym c.in-Some-get.ensures.element) in
-    subst (λ (z : Stop). Says {A = Unit {0}} (option_and_then (bad_top (plain_of c.args.p.now)) (slice_get (plain_of c.args.p.now).classes c.args.p.now.top)) (Err z)) (sym c.refused.ensures) (e ∙ same c.in-Some-get.function.now.params c.in-Some-get.function.now.locals c.as_slice.result.now c.as_slice.ensures.elements ∙ ap (option_map (refused reason.Constructor)) (sym c.in-Some-first_other.ensures))
+    subst (λ (z : Stop). Tells {A = Unit {0}} (option_and_then (bad_top (plain_of c.args.p.now)) (slice_get (plain_of c.args.p.now).classes c.args.p.now.top)) (Err z)) (sym c.refused.ensures) (e ∙ same c.in-Some-get.function.now.params c.in-Some-get.function.now.locals c.as_slice.result.now c.as_slice.ensures.elements ∙ ap (option_map (refused reason.Constructor)) (sym c.in-Some-first_other.ensures))
 
 pub returns-in-None : goal.returns-in-None
 returns-in-None c =

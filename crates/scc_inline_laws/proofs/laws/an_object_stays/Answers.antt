@@ -2,4 +2,4 @@ use Rattle.scc_inline_process_laws.proofs.Firm.{firm}
 use Rattle.scc_inline_laws.proofs.laws.an_object_stays.Goals as goal
 
 pub returns : goal.returns
-returns c home places own h l x = firm home places own h l x
+returns c home places own h held ns l counters all x = firm home places own h held ns l counters all x

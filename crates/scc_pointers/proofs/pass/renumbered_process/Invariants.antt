@@ -1,5 +1,6 @@
-use Rattle.std.proofs.Common.{◌≡◌, Some, map, slice_get, take}
+use Rattle.std.proofs.Common.{◌≡◌, Some, map, take}
+use Rattle.scc_pointers.specs.Resolved.{number_in}
 use Rattle.scc_pointers.proofs.pass.renumbered_process.Given as goal
 
 abbrev pub invariant-loop-cell : goal.invariant-loop-cell
-invariant-loop-cell l = map Some l.senses ≡ map (slice_get l.numbers) (take l.cell-index l.cell-items)
+invariant-loop-cell l = map Some l.senses ≡ map (number_in l.numbers) (take l.cell-index l.cell-items)

@@ -60,10 +60,10 @@ of_exprs-loop-e-preserved t c =
     c.of_expr.result c.plus-sum.result c.loop-e.invariant c.of_expr.ensures c.plus-sum.ensures
 
 pub of_pick-returns-in-Bit : goal.of_pick-returns-in-Bit
-of_pick-returns-in-Bit t c = all_of _ _ _ c.of_expr.ensures (of_bit (numbers_in c.args.known) c.args.pick.now c.in-Bit.at c.in-Bit.is)
+of_pick-returns-in-Bit t c = all_of _ _ _ c.of_expr.ensures (of_bit (numbers_in c.args.known) c.args.pick.now c.in-Bit.of c.in-Bit.at c.in-Bit.is)
 
 pub of_pick-returns-in-Range : goal.of_pick-returns-in-Range
-of_pick-returns-in-Range t c = none_of _ (of_range (numbers_in c.args.known) c.args.pick.now c.in-Range.h c.in-Range.l c.in-Range.is)
+of_pick-returns-in-Range t c = none_of _ (of_range (numbers_in c.args.known) c.args.pick.now c.in-Range.of c.in-Range.h c.in-Range.l c.in-Range.is)
 
 pub of_part-returns-in-Member-clause-inside : goal.of_part-returns-in-Member-clause-inside
 of_part-returns-in-Member-clause-inside t c =

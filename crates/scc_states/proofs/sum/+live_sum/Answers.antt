@@ -1,4 +1,4 @@
-use Rattle.std.proofs.Common.{◌≡◌, refl, sym, ap, ◌∙◌, subst, ℕ, ◌+◌, ◌-◌, ◌^◌, min, ◌<◌, ◌≤◌, max, drop, length, Bool, true, false, not, Option, None, arith}
+use Rattle.std.proofs.Common.{◌≡◌, refl, sym, ap, ◌∙◌, subst, ℕ, ◌+◌, ◌-◌, ◌^◌, min, ◌<◌, ◌≤◌, max, drop, length, Bool, true, false, not, nat_eq, if◌then◌else◌, Option, Some, None, arith}
 use Rattle.std.proofs.lemmas.List.{drop_all}
 use Rattle.scc_bits.specs.Value.{Number}
 use Rattle.scc_core.specs.declared.expr.CoreExpr.{CoreExpr}
@@ -93,6 +93,34 @@ first_fits d a b s m h i = omega (arith, h, i)
 
 second_fits : (d a b s m n : ℕ) → d + s ≤ m → s ≡ max a b → n ≡ m → d + b ≤ n
 second_fits d a b s m n h i j = omega (arith, h, i, j)
+
+not-back : (a b : Bool) → not a ≡ b → a ≡ not b
+not-back true b e = ap not e
+not-back false b e = ap not e
+
+pub live_stmt-returns-then-is_true : goal.live_stmt-returns-then-is_true
+live_stmt-returns-then-is_true t c = λ k.
+    let known : CoreExpr → Option Number = numbers_in c.args.known in
+    let deep = deep_test c.args.s.now c.in-If.test c.in-If.yes c.in-If.no c.in-If.is in
+    let some : known c.in-If.test ≡ Some c.in-Some.value = sym c.number_of.ensures ∙ c.in-Some.is in
+    let goes : nat_eq c.in-Some.value.word 0 ≡ false = not-back _ _ (sym c.is_true.ensures ∙ c.if-is_true.true) in
+    subst (λ x. Lives c.args.depth c.args.left.now c.live.new.left c.live.result x)
+    (sym (live_test known c.args.s.now c.in-If.test c.in-If.yes c.in-If.no c.in-If.is
+    ∙ ap (λ o. tested o (expr_elements known c.in-If.test) (live_body known c.in-If.yes) (live_body known c.in-If.no)) some
+    ∙ ap (λ b. if b then live_body known c.in-If.no else live_body known c.in-If.yes) goes))
+    (branch known c.args.depth (length c.args.left.now) c.args.left.now c.live.new.left c.live.result c.in-If.yes c.as_slice.result.now c.as_slice.ensures.elements c.live.ensures (first_fits _ _ _ _ _ k deep))
+
+pub live_stmt-returns-else-is_true : goal.live_stmt-returns-else-is_true
+live_stmt-returns-else-is_true t c = λ k.
+    let known : CoreExpr → Option Number = numbers_in c.args.known in
+    let deep = deep_test c.args.s.now c.in-If.test c.in-If.yes c.in-If.no c.in-If.is in
+    let some : known c.in-If.test ≡ Some c.in-Some.value = sym c.number_of.ensures ∙ c.in-Some.is in
+    let goes : nat_eq c.in-Some.value.word 0 ≡ true = not-back _ _ (sym c.is_true.ensures ∙ c.if-is_true.false) in
+    subst (λ x. Lives c.args.depth c.args.left.now c.live-else-is_true.new.left c.live-else-is_true.result x)
+    (sym (live_test known c.args.s.now c.in-If.test c.in-If.yes c.in-If.no c.in-If.is
+    ∙ ap (λ o. tested o (expr_elements known c.in-If.test) (live_body known c.in-If.yes) (live_body known c.in-If.no)) some
+    ∙ ap (λ b. if b then live_body known c.in-If.no else live_body known c.in-If.yes) goes))
+    (branch known c.args.depth (length c.args.left.now) c.args.left.now c.live-else-is_true.new.left c.live-else-is_true.result c.in-If.no c.as_slice-else-is_true.result.now c.as_slice-else-is_true.ensures.elements c.live-else-is_true.ensures (second_fits _ _ _ _ _ _ k deep refl))
 
 pub live_stmt-returns-in-None : goal.live_stmt-returns-in-None
 live_stmt-returns-in-None t c = λ k.

@@ -10,6 +10,6 @@ each-loop-s-preserved t c =
     let i : c.loop-s.s-index < length c.args.body.now = omega arith in
     let here = stood_here c.args.depth c.args.body.now c.loop-s.s-index c.s-item.result i c.s-item.is in
     let rest = stood c.args.depth (code_of (drop (c.loop-s.s-index + 1) c.args.body.now)) in
-    λ ss. c.plain.ensures (rest ++ ss)
+    λ ss. c.counted.ensures (rest ++ ss)
     ∙ ap (first_after c.loop-s.count) (sym (append_assoc (stood c.args.depth (code_of (c.s-item.result ∷ []))) rest ss) ∙ ap (λ xs. xs ++ ss) (sym here))
     ∙ c.loop-s.invariant ss

@@ -15,6 +15,6 @@ pub returns : goal.returns
 returns c = record {
   process = process true [] waiting_body;
   stands = refl;
-  same = ap (λ a. cut a (stmt_segment [] (1 ∷ 2 ∷ []) (waits_at 1) Finish)) (wait_stands [] (1 ∷ 2 ∷ []) here 0 Finish)
-      ∙ ap (λ b. cut (Halt here 0 1) b) (wait_stands [] (1 ∷ 2 ∷ []) here 1 Finish);
+  same = ap (λ a. cut a (stmt_segment (1 ∷ 2 ∷ []) (waits_at 1) Finish)) (wait_stands (1 ∷ 2 ∷ []) here 0 Finish)
+      ∙ ap (λ b. cut (Halt here 0 1) b) (wait_stands (1 ∷ 2 ∷ []) here 1 Finish);
 }

@@ -1,8 +1,9 @@
-use Rattle.std.proofs.Common.{◌≡◌, ◌-◌, ◌<◌, ◌≤◌, sym, ap, ◌∙◌, arith, length, get_or, Bor, Some}
+use Rattle.std.proofs.Common.{option_map, ◌≡◌, ◌-◌, ◌<◌, ◌≤◌, sym, ap, ◌∙◌, arith, length, get_or, Bor, Some}
 use Rattle.scc_core.specs.declared.expr.CoreExpr.{CoreExpr}
 use Rattle.scc_core.specs.declared.expr.CoreLeft.{CoreLeft}
 use Rattle.scc_core.specs.Operands.{first_of}
 use Rattle.scc_core.specs.Copies.{pointer_in_left}
+use Rattle.scc_core.specs.Counters.{counters_of, counted, counted_left}
 use Rattle.scc_core.proofs.Chains.{at_place, one_before}
 use Rattle.scc_core.proofs.copy.Copies.+copied.Goals as goal
 
@@ -22,7 +23,11 @@ expr_in-loop-left-preserved t c =
       λ plain.
           let first = c.loop-left.invariant.1 plain ∙ one_before first_of lent c.args.e.now c.in_ok-list.list.items c.loop-left.left c.index.result.now some
           c.loop-left.invariant.0 c.in_ok-list.ensures is in
-          ap Some (c.in_ok-over.ensures plain first) ∙ sym (at_place first_of lent c.in_ok-list.list.items (c.loop-left.left - 1) c.index.result.now inside is),
+          ap Some (c.in_ok-over.ensures.plain plain first) ∙ sym (at_place first_of lent c.in_ok-list.list.items (c.loop-left.left - 1) c.index.result.now inside is),
+      λ none.
+          let first = c.loop-left.invariant.2 none ∙ ap (option_map (counted (counters_of c.args.self.now))) (one_before first_of lent c.args.e.now c.in_ok-list.list.items c.loop-left.left c.index.result.now some
+          c.loop-left.invariant.0 c.in_ok-list.ensures is) in
+          ap Some (c.in_ok-over.ensures.counted none first) ∙ sym (ap (option_map (counted (counters_of c.args.self.now))) (at_place first_of lent c.in_ok-list.list.items (c.loop-left.left - 1) c.index.result.now inside is)),
     )
 
 pub left_in-loop-more-preserved : goal.left_in-loop-more-preserved
@@ -35,5 +40,9 @@ left_in-loop-more-preserved t c =
       λ plain.
           let first = c.loop-more.invariant.1 plain ∙ one_before pointer_in_left lent_left c.args.left.now c.in_ok-list.list.items c.loop-more.more c.index.result.now some
           c.loop-more.invariant.0 c.in_ok-list.ensures is in
-          ap Some (c.in_ok-behind.ensures plain first) ∙ sym (at_place pointer_in_left lent_left c.in_ok-list.list.items (c.loop-more.more - 1) c.index.result.now inside is),
+          ap Some (c.in_ok-behind.ensures.plain plain first) ∙ sym (at_place pointer_in_left lent_left c.in_ok-list.list.items (c.loop-more.more - 1) c.index.result.now inside is),
+      λ none.
+          let first = c.loop-more.invariant.2 none ∙ ap (option_map (counted_left (counters_of c.args.self.now))) (one_before pointer_in_left lent_left c.args.left.now c.in_ok-list.list.items c.loop-more.more c.index.result.now some
+          c.loop-more.invariant.0 c.in_ok-list.ensures is) in
+          ap Some (c.in_ok-behind.ensures.counted none first) ∙ sym (ap (option_map (counted_left (counters_of c.args.self.now))) (at_place pointer_in_left lent_left c.in_ok-list.list.items (c.loop-more.more - 1) c.index.result.now inside is)),
     )

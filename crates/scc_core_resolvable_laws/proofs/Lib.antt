@@ -1,0 +1,7 @@
+pub mod Unrolled
+pub mod Kept
+pub mod Told
+pub mod Kinded
+pub mod Pointerless
+pub mod Leaving
+pub mod Clocked

@@ -1,0 +1,5 @@
+pub mod Resolvable
+pub mod Told
+pub mod Sorted
+pub mod Clocked
+pub mod Fitting

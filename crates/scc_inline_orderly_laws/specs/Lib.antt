@@ -1,0 +1,5 @@
+pub mod Test
+pub mod Reached
+pub mod Whole
+pub mod Worked
+pub mod Program

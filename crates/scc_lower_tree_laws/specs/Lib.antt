@@ -1,0 +1,5 @@
+pub mod States
+pub mod Sound
+pub mod Becoming
+pub mod Choosing
+pub mod Finding

@@ -1,0 +1,2 @@
+pub mod DraftsTyped
+pub mod MeantTyped

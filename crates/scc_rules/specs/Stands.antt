@@ -1,0 +1,44 @@
+-- What the facts of a core tell of its program. This project's own.
+use Rattle.std.specs.Prelude.{◌≡◌, Bool, true, false, ◌&&◌, if◌then◌else◌, option_map, List, [], ◌∷◌, map, Option, Some, None}
+use Rattle.scc_base.specs.declared.code.Code.TheVariants as reason
+use Rattle.scc_base.specs.declared.refusal.Place.{Place}
+use Rattle.scc_base.specs.declared.refusal.Refusal.{Refusal}
+use Rattle.scc_core.specs.declared.program.CoreProcess.{CoreProcess}
+use Rattle.scc_core.specs.declared.stmt.CoreStmt.{CoreStmt}
+use Rattle.scc_core_spec.specs.Code.{Code}
+use Rattle.scc_core_spec.specs.First.{or_else, first_of, when, refused}
+use Rattle.scc_core_spec.specs.Flow.{idle_loops}
+use Rattle.scc_core_spec.specs.Live.{alive, live}
+use Rattle.scc_core_spec.specs.Program.{Program}
+use Rattle.scc_core_spec.specs.Rules.{waits}
+use Rattle.scc_core_view.specs.Codes.{code_of}
+use Rattle.scc_core_view.specs.Programs.{is_thread}
+use Rattle.scc_rules.specs.declared.facts.Facts.{Facts}
+
+-- the live part of each process, and whether some path comes to the end of its body
+pub record HasLives (f : Facts) (p : Program) : Type 0 where
+  pub lives : map code_of f.lives.items ≡ map (λ q. live p.cells q.body) p.processes
+  pub ends : f.ends.items ≡ map (λ q. (alive p.cells q.body).ends) p.processes
+
+-- the first answer along two lists
+abbrev pub first_along : {A B C : Type 0} → (A → B → Option C) → List A → List B → Option C
+first_along f [] ys = None
+first_along f (x ∷ xs) [] = None
+first_along f (x ∷ xs) (y ∷ ys) = or_else (f x y) (first_along f xs ys)
+
+-- what a rule says of one process: the first wait, in a method; a loop of a live part that may not wait; an end of a thread to which a path comes
+abbrev pub in_method : Bool → Option Place → Option Refusal
+in_method true place = None
+in_method false place = option_map (refused reason.WaitInMethod) place
+
+abbrev pub waiting : CoreProcess → Option Refusal
+waiting p = if is_thread p.sort then None else first_of (λ at. Some (refused reason.WaitInMethod at)) (waits (code_of p.body))
+
+abbrev pub idle_in : Code → Option Refusal
+idle_in c = first_of (λ at. Some (refused reason.LoopMayNotWait at)) (idle_loops c)
+
+abbrev pub idling : List CoreStmt → Option Refusal
+idling ss = idle_in (code_of ss)
+
+abbrev pub ending : CoreProcess → Bool → Option Refusal
+ending p ends = when (is_thread p.sort && ends) (refused reason.EndReached p.place)

@@ -1,0 +1,10 @@
+//! Segments of a thread, built and counted along the parts of its live body.
+#![tactic(auto)]
+
+mod cuts;
+mod types;
+mod unfold;
+
+pub use cuts::cuts as segments_behind;
+pub use types::{SegNode, SegStmt};
+pub use unfold::unfolded;

@@ -1,0 +1,81 @@
+-- Statements are the first of them and the others.
+use Rattle.std.proofs.Common.{◌≡◌, refl, sym, ap, subst, ◌∙◌, arith, add-one, ℕ, suc, ◌+◌, ◌<◌, nat_eq, Bool, true, false, ◌||◌, List, [], ◌∷◌, drop, drop-cons, get_or, length}
+use Rattle.std.proofs.lemmas.Bool.Decides.{nat_tests}
+use Rattle.scc_base.specs.declared.refusal.Place.{Place}
+use Rattle.scc_core.specs.declared.stmt.CoreStmt.{CoreStmt, fold-roll-CoreStmt, ind-CoreStmt}
+use Rattle.scc_core.specs.declared.stmt.CoreNode.{CoreNode, fold-CoreNode, fold-roll-CoreNode}
+use Rattle.scc_core.specs.declared.stmt.CoreNode.TheOpen.{CoreNode-F}
+use Rattle.scc_core.specs.declared.stmt.CoreNode.TheOpen as node
+use Rattle.scc_core_spec.specs.Code.{Code, End, size, holds_wait}
+use Rattle.scc_core_spec.specs.Counted.{is_end}
+use Rattle.scc_core_view.specs.Codes.{Node, stmt_node, stmt_step, stmt_code, code_of, before}
+use Rattle.scc_unroll.specs.Heads.{head_size}
+
+pub record Heads (f : Code → Code) : Type 0 where
+  pub sizes : (c : Code) → size (f c) ≡ head_size (f End) + size c
+  pub waiting : (c : Code) → holds_wait (f c) ≡ (holds_wait (f End) || holds_wait c)
+  pub goes_on : (c : Code) → is_end (f c) ≡ false
+
+around_one : (a n : ℕ) → 1 + (a + n) ≡ (1 + a) + n
+around_one a n = omega arith
+
+around_two : (a b n : ℕ) → 1 + (a + (b + n)) ≡ (1 + (a + b)) + n
+around_two a b n = omega arith
+
+or_behind : (a c : Bool) → (a || c) ≡ ((a || false) || c)
+or_behind true c = refl
+or_behind false c = refl
+
+or_behind_two : (a b c : Bool) → (a || (b || c)) ≡ ((a || (b || false)) || c)
+or_behind_two true b c = refl
+or_behind_two false true c = refl
+or_behind_two false false c = refl
+
+heads : (y : CoreNode-F Node (Code → Code)) (p : Place) → Heads (stmt_node y p)
+heads (node.Assign l e) p = record { sizes = λ c. refl; waiting = λ c. refl; goes_on = λ c. refl }
+heads (node.If t a b) p = record {
+  sizes = λ c. around_two (size (before a End)) (size (before b End)) (size c);
+  waiting = λ c. or_behind_two (holds_wait (before a End)) (holds_wait (before b End)) (holds_wait c);
+  goes_on = λ c. refl;
+}
+heads (node.Block b) p = record { sizes = λ c. around_one (size (before b End)) (size c); waiting = λ c. or_behind (holds_wait (before b End)) (holds_wait c); goes_on = λ c. refl }
+heads (node.Loop n b) p = record { sizes = λ c. around_one (size (before b End)) (size c); waiting = λ c. or_behind (holds_wait (before b End)) (holds_wait c); goes_on = λ c. refl }
+heads (node.Exit n) p = record { sizes = λ c. refl; waiting = λ c. refl; goes_on = λ c. refl }
+heads (node.Wait n) p = record { sizes = λ c. refl; waiting = λ c. refl; goes_on = λ c. refl }
+heads (node.Alias to target) p = record { sizes = λ c. refl; waiting = λ c. refl; goes_on = λ c. refl }
+
+abbrev node_fold : CoreNode → Node
+node_fold = fold-CoreNode Node (Code → Code) stmt_node stmt_step
+
+pub stmt_heads : (s : CoreStmt) → Heads (stmt_code s)
+stmt_heads = ind-CoreStmt (λ n. (p : Place) → Heads (node_fold n p)) (λ s. Heads (stmt_code s))
+    (λ x y is p. subst (λ f. Heads (f p)) (sym (fold-roll-CoreNode Node (Code → Code) stmt_node stmt_step x)) (heads _ p))
+    (λ x y is. subst (λ f. Heads f) (sym (fold-roll-CoreStmt Node (Code → Code) stmt_node stmt_step x)) (subst (λ n. Heads (node_fold n x.place)) (ap (λ z. z.node) is) (y.node.1 x.place)))
+
+-- ---- from one statement of a list on
+
+from_here : (ss : List CoreStmt) (i : ℕ) (s : CoreStmt) → i < length ss → s ≡ get_or ss i s → code_of (drop i ss) ≡ stmt_code s (code_of (drop (i + 1) ss))
+from_here ss i s h is =
+    ap code_of (drop-cons ss i s h)
+    ∙ ap (λ x. stmt_code x (code_of (drop (suc i) ss))) (sym is)
+    ∙ ap (λ n. stmt_code s (code_of (drop n ss))) (sym (add-one i))
+
+zero_behind : (n : ℕ) → n + 0 ≡ n
+zero_behind n = omega arith
+
+head_sized : (s : CoreStmt) → head_size (code_of (s ∷ [])) ≡ size (code_of (s ∷ []))
+head_sized s = sym ((stmt_heads s).sizes End ∙ zero_behind (head_size (code_of (s ∷ []))))
+
+never : (n : ℕ) → false ≡ nat_eq (suc n) 0
+never n = grind (arith, nat_tests)
+
+pub end_of : (ss : List CoreStmt) → is_end (code_of ss) ≡ nat_eq (length ss) 0
+end_of [] = refl
+end_of (s ∷ ss) = (stmt_heads s).goes_on (code_of ss) ∙ never (length ss)
+
+module _ (ss : List CoreStmt) (i : ℕ) (s : CoreStmt) (h : i < length ss) (is : s ≡ get_or ss i s) where
+  pub size_here : size (code_of (drop i ss)) ≡ size (code_of (s ∷ [])) + size (code_of (drop (i + 1) ss))
+  size_here = ap size (from_here ss i s h is) ∙ (stmt_heads s).sizes (code_of (drop (i + 1) ss)) ∙ ap (λ n. n + size (code_of (drop (i + 1) ss))) (head_sized s)
+
+  pub waits_here : holds_wait (code_of (drop i ss)) ≡ (holds_wait (code_of (s ∷ [])) || holds_wait (code_of (drop (i + 1) ss)))
+  waits_here = ap holds_wait (from_here ss i s h is) ∙ (stmt_heads s).waiting (code_of (drop (i + 1) ss))

@@ -1,0 +1,67 @@
+-- The parts of a counted loop, where a statement stands, and what is known around statements, as the code hands them on.
+use Rattle.std.specs.Prelude.{◌≡◌, ℕ, List, [], ◌∷◌, map, slice_get, Option, Some, None, option_map}
+use Rattle.scc_bits_kinds.specs.Kinds.{IsValid, Fits}
+use Rattle.scc_core.specs.declared.copy.Counter.{Counter as Held}
+use Rattle.scc_core.specs.declared.expr.CoreExpr.{CoreExpr}
+use Rattle.scc_core.specs.declared.program.Cell.{Cell}
+use Rattle.scc_core.specs.declared.statics.Known.{Known}
+use Rattle.scc_core.specs.Counters.{counted}
+use Rattle.scc_core.specs.Known.{facts_in}
+use Rattle.scc_core.specs.Statics.{value_in}
+use Rattle.scc_core_spec.specs.Code.{Code}
+use Rattle.scc_core_spec.specs.Static.{Cells, static}
+use Rattle.scc_core_spec.specs.Counted as spec
+use Rattle.scc_core_spec.specs.Counted.{Counter, Counting, Setting, counting, turns_by, uses}
+use Rattle.scc_core_view.specs.Codes.{code_of}
+use Rattle.scc_core_view.specs.Programs.{cell_of, path_of}
+use Rattle.scc_core_view.specs.Terms.{taken_of, term_of}
+use Rattle.scc_unroll.specs.declared.counted.At.{At}
+use Rattle.scc_unroll.specs.declared.counted.Counted.{Counted}
+use Rattle.scc_unroll.specs.declared.shape.Stand.{Stand}
+use Rattle.scc_unroll.specs.declared.shape.Stand.TheVariants as stand
+use Rattle.scc_unroll.specs.declared.shape.Turning.{Turning}
+use Rattle.scc_unroll.specs.Counters.{counters_of}
+use Rattle.scc_unroll.specs.Used.{used}
+
+abbrev pub turned : Turning → spec.Turning
+turned t = record { test = term_of t.test.now; turn_place = t.place; turn = code_of t.turn.now; step_place = t.step_place; step_left = (taken_of t.step_left.now).left; step = term_of t.step.now }
+
+abbrev pub stand_of : Stand → spec.Stand
+stand_of stand.First = spec.First
+stand_of (stand.Behind l e) = spec.Behind (record { left = (taken_of l.now).left; pick = (taken_of l.now).pick; value = term_of e.now })
+stand_of stand.Elsewhere = spec.Elsewhere
+
+-- a counted loop where these counters stand as literals
+abbrev pub counting_of : Cells → List Counter → Counted → Counting
+counting_of cs ns g = record { cell = g.cell; turns = turns_by cs ns g.cell (term_of g.start.now) (Some (turned g.turning)) }
+
+abbrev pub cells_at : At → Cells
+cells_at at = map cell_of at.known.cells.now
+
+-- statements of that body
+abbrev pub setting_of : At → Code → Setting
+setting_of at b = record { cells = cells_at at; path = path_of at.path.now; body = b }
+
+-- the table counts what the body assigns
+abbrev pub Knows : At → Code → Type 0
+Knows at b = (o : ℕ) → used at.uses.now o ≡ uses (cells_at at) o b
+
+-- a counter has a number of its cell's kind
+pub record IsCounter (cells : List Cell) (c : Held) : Type 0 where
+  pub cell : Cell
+  pub there : slice_get cells c.cell ≡ Some cell
+  pub kind : c.now.kind ≡ cell.kind
+  pub is_valid : IsValid c.now.kind
+  pub fits : Fits c.now.kind c.now.word
+
+abbrev pub AreCounters : List Cell → List Held → Type 0
+AreCounters cells [] = Unit {0}
+AreCounters cells (c ∷ ns) = IsCounter cells c × AreCounters cells ns
+
+-- the word that the code finds for an expression where these counters stand as literals
+abbrev pub read : Known → List Held → CoreExpr → Option ℕ
+read known ns e = option_map (λ v. v.word) (value_in (facts_in known) (counted ns e))
+
+-- it is the static value
+abbrev pub IsRead : Known → CoreExpr → Type 0
+IsRead known e = (ns : List Held) → AreCounters known.cells.now ns → read known ns e ≡ static (map cell_of known.cells.now) (counting (counters_of ns) (term_of e))
