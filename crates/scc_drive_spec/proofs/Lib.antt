@@ -1,4 +1,5 @@
 pub mod OneVerdict
 pub mod One
+pub mod Decided
 pub mod Some
 pub mod Wrong

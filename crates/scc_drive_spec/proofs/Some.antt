@@ -1,5 +1,5 @@
--- A request comes to something, where what decides gives an answer.
-use Rattle.std.proofs.Common.{◌≡◌, ◌⊎◌, inl, inr, ℕ, List, [], ◌∷◌, ◌++◌, length, Option, Some, None, Result, Ok, Err, ap, refl, sym, ◌∙◌, subst}
+-- A request comes to something.
+use Rattle.std.proofs.Common.{◌≡◌, inl, inr, ℕ, List, [], ◌∷◌, ◌++◌, length, Option, Some, None, Result, Ok, Err, ap, refl, sym, ◌∙◌, subst}
 use Rattle.std.specs.Prelude.{option_and_then}
 use Rattle.scc_base.specs.Names.{fixed_names}
 use Rattle.scc_base.specs.Outside.{Shelf}
@@ -11,17 +11,15 @@ use Rattle.scc_tokens.specs.Files.{first_part, number_in}
 use Rattle.scc_tokens.specs.Join.{join_of, Ended}
 use Rattle.scc_tokens_laws.specs.Joined.{JoinsTo}
 use Rattle.scc_tokens_laws.proofs.Decided.{only_joins, only_stops}
-use Rattle.scc_base.specs.declared.code.Code.{Code}
-use Rattle.scc_base.specs.declared.refusal.Place.{Place}
-use Rattle.scc_grammar.specs.Claim.{IsReadFile, IsFault}
 use Rattle.scc_tree.specs.declared.item.FileTree.{FileTree}
 use Rattle.scc_core_spec.specs.Resolved.{Tried, Made, Stopped}
 use Rattle.scc_plain_first.specs.Stages.{refusal_in}
 use Rattle.scc_plain_spec.specs.Designs.{Compiled, compiled, design_in}
 use Rattle.scc_plain_laws.proofs.Topped.{stages-answer}
-use Rattle.scc_drive_spec.specs.Comes.{Request, Verdict, Refuses, Absent, Accepts, Decided, IsReadAs, stopped_by, name_in, stimulus_refusal, Comes, in_joining, in_the_grammar, in_a_stage, without_stimulus, in_the_stimulus, accepted, on_a_stimulus}
+use Rattle.scc_drive_spec.proofs.Decided.{Decision, decided}
+use Rattle.scc_drive_spec.specs.Comes.{Request, Verdict, Refuses, Absent, Accepts, IsReadAs, stopped_by, name_in, stimulus_refusal, Comes, in_joining, in_the_grammar, in_a_stage, without_stimulus, in_the_stimulus, accepted, on_a_stimulus}
 
-module _ (q : Request) (shelf : Shelf) (decided : Decided) where
+module _ (q : Request) (shelf : Shelf) where
   abbrev Some_verdict : Type 0
   Some_verdict = (x : Verdict) × Comes q shelf x
 
@@ -52,7 +50,7 @@ module _ (q : Request) (shelf : Shelf) (decided : Decided) where
         joins : JoinsTo (first_part shelf) fixed_names q.roots names sources j
         joins = only_joins (first_part shelf) fixed_names q.roots names sources j e
 
-        by_tokens : ((tree : FileTree) × IsReadFile j tree) ⊎ ((code : Code) × (place : Place) × IsFault j code place) → Some_verdict
+        by_tokens : Decision j → Some_verdict
         by_tokens (inl p) = by_stage p.0 (record { joined = j; joins = joins; reads = p.1 }) (compiled q.many p.0 (number_in names q.top)) refl
         by_tokens (inr p) = (_, in_the_grammar names sources j p.0 p.1 joins p.2)
 

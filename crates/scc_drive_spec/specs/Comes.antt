@@ -1,6 +1,6 @@
 -- What a request on source files comes to, over all stages: a file that isn't there, joining, the grammar, the stages after it, the stimulus of `sim`. The first that
 -- stops it decides; where none does, the source is accepted. This project's own.
-use Rattle.std.specs.Prelude.{◌≡◌, ◌⊎◌, ℕ, Bool, true, false, nat_lt, List, [], ◌∷◌, ◌++◌, map, length, Option, Some, None, Result, Ok, Err, slice_get, unwrap_or}
+use Rattle.std.specs.Prelude.{◌≡◌, ℕ, Bool, true, false, nat_lt, List, [], ◌∷◌, ◌++◌, map, length, Option, Some, None, Result, Ok, Err, slice_get, unwrap_or}
 use Rattle.scc_base.specs.Names.{fixed_names}
 use Rattle.scc_base.specs.Outside.{Shelf}
 use Rattle.scc_base.specs.declared.code.Code.{Code}
@@ -106,7 +106,3 @@ pub data Comes (q : Request) (shelf : Shelf) : Verdict → Type 0 where
       → compiled q.many tree (number_in names q.top) ≡ Some (Made c) → q.stimulus ≡ Some name → first_part shelf name ≡ Some bytes
       → stimulus_refusal q.many (name_in names c) (design_in c) (length sources) bytes ≡ None
       → Comes q shelf (Accepts (record { names = names; compiled = c; stimulus = Some (record { file = length sources; bytes = bytes }) }))
-
--- each joined text is a file of the grammar or has a first fault
-abbrev pub Decided : Type 0
-Decided = (j : Joined) → ((tree : FileTree) × IsReadFile j tree) ⊎ ((code : Code) × (place : Place) × IsFault j code place)

@@ -19,7 +19,7 @@ ghost use Rattle.scc_plain_spec.specs.Designs.{Compiled, compiled, first_refusal
 ghost use Rattle.scc_drive_words.specs.declared.command.Command.TheVariants as command;
 ghost use Rattle.scc_drive_words.specs.declared.command.Form.{Form};
 ghost use Rattle.scc_drive_spec.specs.Words.{command_by};
-ghost use Rattle.scc_drive_spec.specs.Comes.{Request, Verdict, Refuses, Absent, Accepts, Accepted, Comes, Decided, if_long};
+ghost use Rattle.scc_drive_spec.specs.Comes.{Request, Verdict, Refuses, Absent, Accepts, Accepted, Comes, if_long};
 ghost use Rattle.scc_drive_spec.specs.Output.{compiles};
 ghost use Rattle.scc_drive_spec.specs.Answer.{request, has_clocks, refused, writes, CommandComes};
 ghost use Rattle.scc_drive_spec.specs.Whole.{WholeTheorem, text_of_refusal};
@@ -32,10 +32,10 @@ pub fn what_joining_refuses_stops_first()
         → StopsAt (first_part shelf) fixed_names q.roots names sources (join.Absent name) → Comes q shelf (Absent name) }
 {}
 
-/// Whatever the files hold, a request comes to at most one thing; and to one, where each joined text is a file of the grammar or has a first fault.
+/// Whatever the files hold, a request comes to just one thing: a refusal, a file that isn't there, or an accepted source.
 pub fn what_a_request_comes_to_is_one()
     ensures one { (q : Request) (shelf : Shelf) (x y : Verdict) → Comes q shelf x → Comes q shelf y → x ≡ y }
-    ensures some { (q : Request) (shelf : Shelf) → Decided → (x : Verdict) × Comes q shelf x }
+    ensures some { (q : Request) (shelf : Shelf) → (x : Verdict) × Comes q shelf x }
 {}
 
 /// A source that some stage refuses has no design, and one with a design is refused by none.

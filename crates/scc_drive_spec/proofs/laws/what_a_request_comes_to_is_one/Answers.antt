@@ -6,4 +6,4 @@ pub returns-clause-one : goal.returns-clause-one
 returns-clause-one c q shelf x y p p' = one_verdict q shelf x y p p'
 
 pub returns-clause-some : goal.returns-clause-some
-returns-clause-some c q shelf d = some_verdict q shelf d
+returns-clause-some c q shelf = some_verdict q shelf
