@@ -30,8 +30,8 @@ class Maker:
                 return f"{text}.{self.chance.choice(REDUCTIONS)}()"
             low = self.chance.randrange(width)
             if pick == 1:
-                # the complement of a bit is a bit
-                return f"{self.chance.choice(('', '~'))}{text}[{low}]"
+                # the complement of a bit is a bool; by itself the library takes it for a number of 64 bits
+                return self.chance.choice((f"bool({text}[{low}])", f"~{text}[{low}]"))
             return f"{text}.range({self.chance.randrange(low, width)}, {low}).to_uint64()"
         return str(self.chance.choice((0, 1, 2, 3, 7, 100, 255, 65535)))
 
@@ -52,6 +52,10 @@ class Maker:
             return f"(({self.expression(depth - 1)}) != 0 ? {a} : {kind}{b[b.index('('):]})"
         return f"(({self.expression(depth - 1)}) {self.chance.choice(BINARY)} ({self.expression(depth - 1)}))"
 
+    def written(self, depth):
+        """What a port or signal is given: the library takes a plain number there, and no number of another class."""
+        return f"({self.expression(depth)}) + 0"
+
     def condition(self):
         return f"({self.expression(2)}) != 0"
 
@@ -70,9 +74,9 @@ def pick_chain(it, ports):
     methods, signals, senses = [], [], [name for name, _ in ports]
     for k in range(it.chance.randrange(1, 5)):
         kind, width = it.number_type()
-        lines = [f"    s{k}.write({it.expression(3)});"]
+        lines = [f"    s{k}.write({it.written(3)});"]
         for _ in range(it.chance.randrange(3)):
-            lines.append(f"    if ({it.condition()}) s{k}.write({it.expression(3)});")
+            lines.append(f"    if ({it.condition()}) s{k}.write({it.written(3)});")
         methods.append((f"m{k}", lines, list(senses)))
         signals.append((f"s{k}", kind))
         senses.append(f"s{k}")
@@ -85,7 +89,7 @@ def pick_array(it):
     lines = [f"    v[{k}] = {it.expression(2)};" for k in range(4)]
     for _ in range(it.chance.randrange(1, 4)):
         lines.append(f"    if ({it.condition()}) v[{it.chance.randrange(4)}] = {it.expression(2)};")
-    return [*lines, f"    w.write(v[({it.expression(2)}) & 3]);"]
+    return [*lines, f"    w.write(v[({it.expression(2)}) & 3] + 0);"]
 
 
 def pick_clocked(it):
@@ -93,7 +97,7 @@ def pick_clocked(it):
     kind, width = it.number_type()
     it.readable.append(("kept", width, True))
     lines = ["    if (rst.read()) { kept = 0; q.write(0); }", "    else {"]
-    lines += [f"      if ({it.condition()}) kept = {it.expression(3)};", f"      q.write({it.expression(2)});", "    }"]
+    lines += [f"      if ({it.condition()}) kept = {it.expression(3)};", f"      q.write({it.written(2)});", "    }"]
     it.readable.pop()
     return kind, lines
 

@@ -1,9 +1,8 @@
 -- What a command comes to where the names of files hold this: bad words, a refusal, a file that isn't there, or an output. This project's own.
-use Rattle.std.specs.Prelude.{◌≡◌, ◌≢◌, ◌⊎◌, ℕ, Bool, true, false, ◌&&◌, nat_eq, nat_le, nat_lt, List, [], ◌∷◌, length, codes, Option, Some, None, Result, Ok, Err, String, bytes_eq, if◌then◌else◌}
+use Rattle.std.specs.Prelude.{◌≡◌, ◌≢◌, ℕ, Bool, true, false, nat_lt, List, [], ◌∷◌, length, codes, Option, Some, None, Result, Ok, Err, String, bytes_eq, if◌then◌else◌}
 use Rattle.std.specs.declared.alloc.Global.{Global}
 use Rattle.scc_base.specs.Outside.{Shelf}
-use Rattle.scc_base.specs.Code.{code_number}
-use Rattle.scc_base.specs.declared.code.Code.TheVariants.{FileTooLong, SvName, SvDepth}
+use Rattle.scc_base.specs.declared.code.Code.TheVariants.{FileTooLong, SvName}
 use Rattle.scc_base.specs.declared.refusal.Place.{Place}
 use Rattle.scc_base.specs.declared.refusal.Refusal.{Refusal}
 use Rattle.scc_base.specs.declared.refusal.Stop.TheVariants as stop
@@ -29,6 +28,7 @@ use Rattle.scc_drive_words.specs.declared.command.SimWay.TheVariants as sim_way
 use Rattle.scc_drive_words.specs.declared.command.SvForm.{SvForm}
 use Rattle.scc_drive_words.specs.declared.command.SvForm.TheVariants as sv_form
 use Rattle.scc_drive_spec.specs.Words.{command_by, word_at, roots_of}
+use Rattle.scc_drive_spec.specs.HierText.{RefusesHier, IsWithin}
 use Rattle.scc_drive_spec.specs.Comes.{Request, Accepted, Verdict, Refuses, Absent, Accepts, Comes, error_of}
 use Rattle.scc_drive_spec.specs.Output.{Output, compiles, simulates, lists, traces, generates, says, generated_top}
 
@@ -70,18 +70,13 @@ request many words count stimulus = record { many = many; top = word_at words 1;
 -- What a text is read as, by its form: a module; what modules with instances are together; a module with several clocks.
 abbrev pub ReadsAs : SvForm → List ℕ → SvModule → Type 0
 ReadsAs sv_form.Whole bytes m = ReadAs false bytes m
-ReadsAs sv_form.Hier bytes m = (h : Hier) × HierReads false bytes h × IsFlattening h m
+ReadsAs sv_form.Hier bytes m = (h : Hier) × HierReads false bytes h × IsFlattening h m × IsWithin bytes h
 ReadsAs sv_form.Clocks bytes m = ReadAs true bytes m
 
--- a code of emitted texts, at a byte of this one or at its end
-abbrev pub is_of_text : List ℕ → Refusal → Bool
-is_of_text bytes r = nat_le 701 (code_number r.code) && (nat_le (code_number r.code) 708 && (nat_eq r.place.file 0 && nat_le r.place.at (length bytes)))
-
--- Why one is refused. Of modules with instances it isn't said which of several faults comes first: a code of emitted texts stands at a byte of the text, which isn't
--- that of modules without faults, or in which some part stands too deep.
+-- Why one is refused.
 abbrev pub RefusesText : SvForm → List ℕ → Refusal → Type 0
 RefusesText sv_form.Whole bytes r = RefusedAs false bytes (stop.Refused r) × ReadBack false bytes (Err (stop.Refused r))
-RefusesText sv_form.Hier bytes r = (is_of_text bytes r ≡ true) × ((r.code ≡ SvDepth) ⊎ ((h : Hier) → HierReads false bytes h → ⊥))
+RefusesText sv_form.Hier bytes r = RefusesHier bytes r
 RefusesText sv_form.Clocks bytes r = RefusedAs true bytes (stop.Refused r) × ReadBack true bytes (Err (stop.Refused r))
 
 -- as what the steps of a stimulus are refused, whose text is file 0

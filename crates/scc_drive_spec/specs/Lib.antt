@@ -4,5 +4,6 @@ pub mod Comes
 pub mod Compiled
 pub mod Timely
 pub mod Output
+pub mod HierText
 pub mod Answer
 pub mod Whole

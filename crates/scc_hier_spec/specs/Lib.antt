@@ -2,6 +2,7 @@ pub mod Flattened
 pub mod Sound
 pub mod Text
 pub mod LaidOut
+pub mod Ports
 pub mod Homes
 pub mod Homed
 pub mod Worked

@@ -8,6 +8,7 @@ use Rattle.scc_svtree.specs.declared.expr.SvLeft.TheVariants.{Whole}
 use Rattle.scc_svtree.specs.declared.expr.SvUnary.TheVariants.{LogNot}
 use Rattle.scc_svtree.specs.declared.stmt.SvStmt.{SvStmt, roll-SvStmt}
 use Rattle.scc_svtree.specs.declared.stmt.SvStmt.TheOpen as stmt
+use Rattle.scc_svtree.specs.declared.module.SvModule.{SvModule}
 use Rattle.scc_svtree.specs.declared.module.SvVar.{SvVar}
 use Rattle.scc_svtree.specs.declared.module.Dir.{Dir}
 use Rattle.scc_svtree.specs.declared.module.Dir.TheVariants as dir
@@ -18,6 +19,7 @@ use Rattle.scc_hier_text.specs.declared.tree.Hier.{Hier}
 use Rattle.scc_hier_text.specs.declared.tree.HierModule.{HierModule}
 use Rattle.scc_hier_text.specs.declared.tree.Instance.{Instance}
 use Rattle.scc_blocks_spec.specs.Renamed.{BlockCode, Comb}
+use Rattle.scc_hier_spec.specs.Ports.{Named}
 
 abbrev pub bit : List ℕ → Dir → SvVar
 bit name d = record { name = name; width = 1; dir = d }
@@ -63,6 +65,26 @@ turned = with_inverter (record inverter { vars = bit (codes "x") dir.Input ∷ b
 
 abbrev pub misnamed : Hier
 misnamed = with_inverter (record inverter { name = codes "Two$q" })
+
+-- the ports of the two inverters, and the one module whose variables they are
+abbrev pub port : (home name variable : List ℕ) → Named
+port home name variable = record { home = home; name = name; variable = variable }
+
+abbrev pub ports : List Named
+ports = port (codes "p$") (codes "x") (codes "a") ∷ port (codes "p$") (codes "y") (codes "m") ∷ port (codes "q$") (codes "x") (codes "m") ∷ port (codes "q$") (codes "y") (codes "b") ∷ []
+
+abbrev pub together : SvModule
+together = record { name = codes "Two"; vars = outer.vars; blocks = [] }
+
+-- wrong ones: the ports stand in another order; a port has another name
+abbrev pub exchanged : Hier
+exchanged = record {
+  modules = record outer { instances = wired (codes "p") 2 0 ∷ wired (codes "q") 1 2 ∷ [] }
+      ∷ record inverter { vars = bit (codes "y") dir.Output ∷ bit (codes "x") dir.Input ∷ [] } ∷ [];
+}
+
+abbrev pub renamed : Hier
+renamed = with_inverter (record inverter { vars = bit (codes "x") dir.Input ∷ bit (codes "z") dir.Output ∷ [] })
 
 -- what each inverter is in the flattening
 abbrev pub inverts : ℕ → ℕ → BlockCode

@@ -10,13 +10,14 @@ ghost use Rattle.scc_hier_spec.specs.Sound.{AreModulesNamed};
 ghost use Rattle.scc_hier_spec.specs.Text.{HierReads, hier_text};
 ghost use Rattle.scc_hier_spec.specs.Homes.{IsSplitUp};
 ghost use Rattle.scc_hier_spec.specs.LaidOut.{IsLaidOut};
+ghost use Rattle.scc_hier_spec.specs.Ports.{ArePorted};
 ghost use Rattle.scc_core_spec.specs.Program as core;
 ghost use Rattle.scc_core_spec.specs.WorkedRun.{counting};
 ghost use Rattle.scc_elab_spec.specs.Program.{Plain};
 ghost use Rattle.scc_elab_spec.specs.Design as plain;
 ghost use Rattle.scc_hier_spec.specs.Homed.{AreHomesOf, IsSplitByObjects, home_in, paths_of, processes_of};
 ghost use Rattle.scc_hier_spec.specs.WorkedHomes.{program, loose, design};
-ghost use Rattle.scc_hier_spec.specs.Worked.{inverts, misnamed, outer, turned, two, written};
+ghost use Rattle.scc_hier_spec.specs.Worked.{exchanged, inverts, misnamed, outer, ports, renamed, together, turned, two, written};
 
 /// Two inverters in a row: the variables are those of the top, and each instance has its block.
 pub fn two_inverters_are_flattened()
@@ -31,6 +32,13 @@ pub fn two_inverters_are_laid_out()
     ensures right { IsLaidOut (codes "Two") two }
     ensures turned { IsLaidOut (codes "Two") turned → ⊥ }
     ensures named { IsLaidOut (codes "Two") misnamed → ⊥ }
+{}
+
+/// The ports of the two inverters have their names and their order. With the ports in another order, or with another name of one, they haven't.
+pub fn two_inverters_have_their_ports()
+    ensures right { ArePorted ports together two }
+    ensures exchanged { ArePorted ports together exchanged → ⊥ }
+    ensures renamed { ArePorted ports together renamed → ⊥ }
 {}
 
 /// The text of modules is read as one list of modules that can be flattened, and what they show is what their flattening shows.
