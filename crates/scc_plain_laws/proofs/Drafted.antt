@@ -54,7 +54,7 @@ walk-is w f y e = by w.value refl e
     by None h e = absurd cc
     by (Some x) h e = (x, h, e)
 
-converted-is : (k : Kind) (a x : Draft) → IsTyped a.term → (converted k a).value ≡ Some x → (kind_in x ≡ k) × IsTyped x.term
+pub converted-is : (k : Kind) (a x : Draft) → IsTyped a.term → (converted k a).value ≡ Some x → (kind_in x ≡ k) × IsTyped x.term
 converted-is k a x t e = by (same_kind (kind_in a) k) refl (is_convertible (kind_in a) k) e
   where
     by : (b : Bool) → same_kind (kind_in a) k ≡ b → (c : Bool) → (if b then pure a else (if c then pure (wrapped (place_of a.term) k a) else fault reason.Mismatch a.place)).value ≡ Some x → (kind_in x ≡ k) × IsTyped x.term

@@ -62,7 +62,7 @@ taken-is p Words x t e = absurd cc
 meant-is : (m n : Meant) → IsTypedMeant m → Some m ≡ Some n → IsTypedMeant n
 meant-is m n t e = subst IsTypedMeant (some-is e) t
 
-some-bits-is : (p : Place) (k : Kind) (j : Pick) (s : Subject) (m : Meant) → IsTypedPick j → IsTypedSubject s → (some_bits p k j s).value ≡ Some m → IsTypedMeant m
+pub some-bits-is : (p : Place) (k : Kind) (j : Pick) (s : Subject) (m : Meant) → IsTypedPick j → IsTypedSubject s → (some_bits p k j s).value ≡ Some m → IsTypedMeant m
 some-bits-is p k j (OfDraft x) m i t e = meant-is (Valued (drafted p (picked p k x.term j))) m (picked-is p k x.term j t i) e
 some-bits-is p k j (OfLoc l) m i t e = by l.form.base e
   where

@@ -1,0 +1,11 @@
+pub mod Walks
+pub mod Things
+pub mod Calls
+pub mod Expressions
+pub mod Kept
+pub mod Simple
+pub mod Single
+pub mod Bodies
+pub mod Inits
+pub mod Program
+pub mod Different
