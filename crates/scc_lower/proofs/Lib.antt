@@ -3,3 +3,6 @@ pub mod Terms
 pub mod Worded
 pub mod Reading
 pub mod Located
+pub mod Codes
+pub mod Outcomes
+pub mod Steps

@@ -27,7 +27,8 @@ use Rattle.scc_lower.specs.declared.convert.Lowered.{Lowered}
 use Rattle.scc_lower.specs.declared.convert.Lowered.TheVariants.{Known, Made}
 use Rattle.scc_lower.specs.declared.operator.Operand.{Operand}
 use Rattle.scc_lower.specs.Lowered.{text_of, text_in, Converts, HasWord, IsText}
-use Rattle.scc_lower.specs.Operated.{IsAnswer, Makes, joined_text, right_text, between_text, is_plus, alone_text, before_text, Operated, OperatedAlone, choice_text, Chosen}
+use Rattle.scc_lower_laws.specs.Outcome.{alone_text, is_plus, joined_text}
+use Rattle.scc_lower.specs.Operated.{IsAnswer, Makes, right_text, between_text, before_text, Operated, OperatedAlone, choice_text, Chosen}
 
 same_kind : (j k : Kind) → ◌≡◌ {A = Option Kind} (Some j) (Some k) → j ≡ k
 same_kind j k e = cc

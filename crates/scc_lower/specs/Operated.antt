@@ -1,15 +1,15 @@
 -- The text of operators on lowered operands.
-use Rattle.std.specs.Prelude.{◌≡◌, nat_eq, not, Bool, true, false, if◌then◌else◌, Option, Some, None, option_map, option_and_then}
+use Rattle.std.specs.Prelude.{◌≡◌, nat_eq, not, if◌then◌else◌, Option, Some, None, option_map, option_and_then}
 use Rattle.scc_bits_kinds.specs.declared.kind.Kind.{Kind}
 use Rattle.scc_bits_kinds.specs.declared.kind.Kind.TheVariants as kind
 use Rattle.scc_bits_kinds.specs.declared.op.Op.{Op}
-use Rattle.scc_bits_kinds.specs.declared.op.Op.TheVariants as op
 use Rattle.scc_bits_kinds.specs.Kinds.{is_signed}
 use Rattle.scc_bits.specs.Placed.{operands_of}
 use Rattle.scc_bits.specs.Value.{Number}
 use Rattle.scc_bits.specs.Values.{applied, kind_of}
-use Rattle.scc_svtree.specs.Term.{Term, Unary, Cond, term_of}
-use Rattle.scc_lower_spec.specs.Operating.{binary_of, is_shift, operated_term, unary_of}
+use Rattle.scc_svtree.specs.Term.{Term, Cond, term_of}
+use Rattle.scc_lower_spec.specs.Operating.{is_shift}
+use Rattle.scc_lower_laws.specs.Outcome.{alone_text, joined_text}
 use Rattle.scc_lower.specs.declared.convert.Lowered.{Lowered}
 use Rattle.scc_lower.specs.declared.convert.Lowered.TheVariants.{Known, Made}
 use Rattle.scc_lower.specs.declared.operator.Operand.{Operand}
@@ -25,24 +25,12 @@ abbrev pub Makes : Option Term → Lowered → Type 0
 Makes t (Known n) = ⊥
 Makes t (Made e) = t ≡ Some (term_of e)
 
--- the text of an operator on converted operands
-abbrev pub joined_text : Op → Bool → Term → Term → Option Term
-joined_text o s t u = option_map (λ text. operated_term o s text t u) (binary_of o s)
-
 -- the right operand: the amount of a shift stands as it is
 abbrev pub right_text : Op → Kind → Operand → Term
 right_text o to r = if is_shift o then text_of r.of else text_in r.kind to r.of
 
 abbrev pub between_text : Op → Operand → Operand → Option Term
 between_text o l r = option_and_then (λ p. joined_text o (is_signed p.left) (text_in l.kind p.left l.of) (right_text o p.right r)) (operands_of o l.kind r.kind)
-
-abbrev pub is_plus : Op → Bool
-is_plus op.Plus = true
-is_plus _ = false
-
--- `+` has no text
-abbrev pub alone_text : Op → Term → Option Term
-alone_text o t = if is_plus o then Some t else option_map (λ text. Unary text t) (unary_of o)
 
 abbrev pub before_text : Op → Operand → Option Term
 before_text o l = option_and_then (λ p. alone_text o (text_in l.kind p.left l.of)) (operands_of o l.kind l.kind)

@@ -1,20 +1,34 @@
 //! Expressions. A chain of operators is as deep as it is long, so first operands are walked by a loop.
-ghost use Rattle.std.specs.Prelude.{◌≡◌, IfOk};
+ghost use Rattle.std.specs.Prelude.{◌≡◌, IfOk, List, Some, map, option_map};
+ghost use Rattle.std.specs.Option.{option_copied};
+ghost use Rattle.scc_bits_kinds.specs.declared.kind.Kind.{Kind};
+ghost use Rattle.scc_core.specs.declared.expr.CoreExpr.{CoreExpr};
+ghost use Rattle.scc_core.specs.declared.expr.CoreLeft.{CoreLeft};
+ghost use Rattle.scc_core.specs.Numbers.{small};
 ghost use Rattle.scc_svtree.specs.Term as term;
 ghost use Rattle.scc_svtree.specs.Term.{term_of};
 ghost use Rattle.scc_svtree.specs.declared.expr.SvLeft.TheVariants as place;
 ghost use Rattle.scc_lower_spec.specs.Selected.{bit_term};
+ghost use Rattle.scc_lower_laws.specs.Joins.{joined_text};
+ghost use Rattle.scc_lower_laws.specs.Outcome as outcome;
+ghost use Rattle.scc_lower_laws.specs.Outcome.{Outcome};
+ghost use Rattle.scc_bits.specs.Value.{Number};
+ghost use Rattle.scc_lower_tree_laws.specs.Becoming.{Becomes};
+ghost use Rattle.scc_lower_tree_laws.specs.Finding as finding;
+ghost use Rattle.scc_lower_tree_laws.specs.Finding.{BitAt, IsFoundAt, IsKnownBit, LoweringAll, Opening, Picking, Reading, location_of};
+ghost use Rattle.scc_lower_tree_laws.specs.States.{State};
+ghost use Rattle.scc_lower.specs.Becoming.{IsLowered, IsPath, first_of, found_of, given_of, opened_of, outcome_of, seen_of, state_of};
 
-use crate::built::{binary, cast, literal};
-use crate::convert::{Lowered, converted, expression, stored};
-use crate::index::{Index, indexed, opened};
+use crate::built::{binary, cast, literal, node};
+use crate::convert::{Lowered, converted, expression};
+use crate::index::{Index, Open, indexed, opened};
 use crate::lowering::{Cells, Lowering};
 use crate::operator::{Operand, chosen, operated, operated_alone};
-use crate::place::{Found, Picked, bits_taken, locate};
+use crate::place::{Found, locate};
 use crate::select::Bits;
 use crate::tree::{CHOICES, element};
 use scc_base::{List, NoMemory, lost, push};
-use scc_bits::{Kind, Value, width};
+use scc_bits::{Kind, Value, Word, width};
 use scc_core::{CoreExpr, CoreExprNode, CoreLeft, CorePick};
 use scc_svtree::{SvBinary, SvExpr, SvExprNode};
 use std::alloc::Global;
@@ -23,7 +37,9 @@ use std::alloc::Global;
 pub const LEVELS: u32 = 4_096;
 
 // The operand that is walked first, if there is one.
-fn first(e: &CoreExpr) -> Option<&CoreExpr> {
+fn first(e: &CoreExpr) -> Option<&CoreExpr>
+    ensures { option_copied result ≡ first_of e.now }
+{
     match e.node.get() {
         CoreExprNode::Convert(of) => Some(of),
         CoreExprNode::Operate { left, .. } => Some(left),
@@ -36,15 +52,19 @@ fn first(e: &CoreExpr) -> Option<&CoreExpr> {
     }
 }
 
-// An expression and its first operands, from the outermost on.
-fn spine(alloc: Global, e: &CoreExpr) -> Result<Vec<&CoreExpr>, NoMemory> {
+// An expression and its first operands, from the outermost on, and the innermost of them.
+fn spine(alloc: Global, e: &CoreExpr) -> Result<(Vec<&CoreExpr>, &CoreExpr), NoMemory>
+    ensures { IfOk result (λ r. IsPath e.now (map (λ x. x.now) r.0.items) r.1.now) }
+{
     let mut found = Vec::new(alloc);
     let mut here = e;
     for _ in 0..usize::MAX {
-        push(&mut found, here)?;
         match first(here) {
-            Some(inner) => here = inner,
-            None => return Ok(found),
+            Some(inner) => {
+                push(&mut found, here)?;
+                here = inner;
+            }
+            None => return Ok((found, here)),
         }
     }
     Err(lost())
@@ -58,16 +78,15 @@ pub fn lowered(
     cells: Cells<'_>,
     cx: &mut Lowering<'_>,
     levels: u32,
-) -> Result<Lowered, NoMemory> {
+) -> Result<Lowered, NoMemory>
+    ensures { IfOk result (λ o. IsLowered cells.entry e.now cx.old o cx.new) }
+{
     if levels == 0 {
         return Err(lost());
     }
-    let mut chain = spine(alloc, e)?;
-    let Some(innermost) = chain.pop() else {
-        return Err(lost());
-    };
+    let (mut chain, innermost) = spine(alloc, e)?;
     let mut made = leaf(alloc, innermost, cells, cx, levels - 1)?;
-    for outer in chain.iter().rev() {
+    while let Some(outer) = chain.pop() {
         made = over(alloc, outer, made, cells, cx, levels - 1)?;
     }
     Ok(made)
@@ -81,30 +100,51 @@ fn leaf(
     cells: Cells<'_>,
     cx: &mut Lowering<'_>,
     levels: u32,
-) -> Result<Lowered, NoMemory> {
+) -> Result<Lowered, NoMemory>
+    ensures { IfOk result (λ o. IsLowered cells.entry e.now cx.old o cx.new) }
+{
     match e.node.get() {
-        CoreExprNode::Lit(word) => match Value::of(e.kind, *word) {
-            Some(v) => Ok(Lowered::Known(v)),
-            None => Err(lost()),
-        },
-        CoreExprNode::Load(of) | CoreExprNode::Read(of) => match cells.known.value(e) {
+        CoreExprNode::Lit(word) => number(e.kind, *word),
+        CoreExprNode::Load(of) => match cells.known.value(e) {
             Some(v) => Ok(Lowered::Known(v)),
             None => {
-                let pick = of.pick.as_ref();
-                let e = read(alloc, of, pick, e.kind, cells, cx, levels)?;
-                Ok(Lowered::Made(e))
+                let t = read(alloc, of, of.pick.as_ref(), e.kind, cells, cx, levels)?;
+                Ok(Lowered::Made(t))
+            }
+        },
+        CoreExprNode::Read(of) => match cells.known.value(e) {
+            Some(v) => Ok(Lowered::Known(v)),
+            None => {
+                let t = read(alloc, of, of.pick.as_ref(), e.kind, cells, cx, levels)?;
+                Ok(Lowered::Made(t))
             }
         },
         CoreExprNode::Pick { of, pick } => match cells.known.value(e) {
             Some(v) => Ok(Lowered::Known(v)),
             None => {
-                let e = pick_of(alloc, of, pick, e.kind, cells, cx, levels)?;
-                Ok(Lowered::Made(e))
+                let t = pick_of(alloc, of, pick, e.kind, cells, cx, levels)?;
+                Ok(Lowered::Made(t))
             }
         },
-        CoreExprNode::Join(parts) => joined(alloc, parts.as_slice(), e.kind, cells, cx, levels),
+        CoreExprNode::Join(parts) => match cells.known.value(e) {
+            Some(v) => Ok(Lowered::Known(v)),
+            None => {
+                let t = joined(alloc, parts.as_slice(), cells, cx, levels)?;
+                Ok(Lowered::Made(t))
+            }
+        },
         CoreExprNode::Convert(_) | CoreExprNode::Operate { .. } | CoreExprNode::Choose { .. } =>
             Err(lost()),
+    }
+}
+
+// A literal, which is of its kind.
+fn number(kind: Kind, word: Word) -> Result<Lowered, NoMemory>
+    ensures { IfOk result (λ o. (v : Number) × (outcome_of o ≡ outcome.Known v) × (v.kind ≡ kind) × (v.word ≡ word.bits)) }
+{
+    match Value::of(kind, word) {
+        Some(v) => Ok(Lowered::Known(v)),
+        None => Err(lost()),
     }
 }
 
@@ -117,7 +157,9 @@ fn over(
     cells: Cells<'_>,
     cx: &mut Lowering<'_>,
     levels: u32,
-) -> Result<Lowered, NoMemory> {
+) -> Result<Lowered, NoMemory>
+    ensures { (f : CoreExpr) → (a : State) → first_of e.now ≡ Some f → Becomes (given_of cells.entry) f a (outcome_of inner) (state_of cx.old) → IfOk result (λ o. Becomes (given_of cells.entry) e.now a (outcome_of o) (state_of cx.new)) }
+{
     match e.node.get() {
         CoreExprNode::Convert(of) => converted(alloc, inner, of.kind, e.kind),
         CoreExprNode::Operate { op, left, right } => {
@@ -157,46 +199,31 @@ fn operand(
     cells: Cells<'_>,
     cx: &mut Lowering<'_>,
     levels: u32,
-) -> Result<Operand, NoMemory> {
+) -> Result<Operand, NoMemory>
+    ensures kind { IfOk result (λ o. o.kind ≡ e.now.kind) }
+    ensures of { IfOk result (λ o. IsLowered cells.entry e.now cx.old o.of cx.new) }
+{
     let of = lowered(alloc, e, cells, cx, levels)?;
     Ok(Operand { of, kind: e.kind })
 }
 
-// A concatenation; one number where all its parts are.
+// A concatenation.
 #[cycle(lowering)]
 fn joined(
     alloc: Global,
     parts: &[CoreExpr],
-    kind: Kind,
     cells: Cells<'_>,
     cx: &mut Lowering<'_>,
     levels: u32,
-) -> Result<Lowered, NoMemory> {
+) -> Result<SvExpr, NoMemory>
+    ensures { IfOk result (λ t. (os : List Outcome) × (term_of t ≡ joined_text os) × LoweringAll (given_of cells.entry) parts.now (state_of cx.old) os (state_of cx.new)) }
+{
     let mut texts = List::new(alloc);
-    let mut known = Some(None);
     for part in parts {
         let x = lowered(alloc, part, cells, cx, levels)?;
-        known = match (known, &x) {
-            (Some(before), Lowered::Known(v)) => Some(Some(behind(before, *v)?)),
-            _ => None,
-        };
         texts.push(expression(alloc, x)?)?;
     }
-    match known {
-        Some(Some(v)) => Ok(Lowered::Known(stored(v, kind)?)),
-        Some(None) => Err(lost()),
-        None => {
-            let node = SvExprNode::Concat(texts);
-            Ok(Lowered::Made(crate::built::node(alloc, node)?))
-        }
-    }
-}
-
-fn behind(before: Option<Value>, v: Value) -> Result<Value, NoMemory> {
-    match before {
-        None => Ok(v),
-        Some(high) => high.joined(v).map_err(|_| lost()),
-    }
+    node(alloc, SvExprNode::Concat(texts))
 }
 
 // Bits of a value: of what is read, or of a number under an index that isn't static.
@@ -209,17 +236,31 @@ fn pick_of(
     cells: Cells<'_>,
     cx: &mut Lowering<'_>,
     levels: u32,
-) -> Result<SvExpr, NoMemory> {
-    match (of.node.get(), pick) {
-        (CoreExprNode::Load(left) | CoreExprNode::Read(left), _) => {
-            read(alloc, left, Some(pick), kind, cells, cx, levels)
-        }
-        (_, CorePick::Bit { at, .. }) => {
-            let x = lowered(alloc, of, cells, cx, levels)?;
-            let e = expression(alloc, x)?;
-            bit_at(alloc, e, at, cells, cx, levels)
-        }
-        (_, CorePick::Range { .. }) => Err(lost()),
+) -> Result<SvExpr, NoMemory>
+    ensures { IfOk result (λ t. Picking (given_of cells.entry) of.now pick.now kind (state_of cx.old) (term_of t) (state_of cx.new)) }
+{
+    match location(of) {
+        Some(left) => read(alloc, left, Some(pick), kind, cells, cx, levels),
+        None => match pick {
+            CorePick::Bit { at, .. } => {
+                let x = lowered(alloc, of, cells, cx, levels)?;
+                let e = expression(alloc, x)?;
+                bit_at(alloc, e, at, cells, cx, levels)
+            }
+            CorePick::Range { .. } => Err(lost()),
+        },
+    }
+}
+
+// The location that an expression reads.
+fn location(e: &CoreExpr) -> Option<&CoreLeft>
+    ensures { option_copied result ≡ location_of e.now }
+{
+    match e.node.get() {
+        CoreExprNode::Load(left) => Some(left),
+        CoreExprNode::Read(left) => Some(left),
+        CoreExprNode::Lit(_) | CoreExprNode::Convert(_) | CoreExprNode::Operate { .. } => None,
+        CoreExprNode::Choose { .. } | CoreExprNode::Pick { .. } | CoreExprNode::Join(_) => None,
     }
 }
 
@@ -233,24 +274,82 @@ fn read(
     cells: Cells<'_>,
     cx: &mut Lowering<'_>,
     levels: u32,
-) -> Result<SvExpr, NoMemory> {
-    let Some(Found { first, dims }) = locate(alloc, cells, left)? else {
-        return literal(alloc, width(kind), 0);
-    };
-    let opens = opened(alloc, dims.as_slice(), cells, cx, levels)?;
+) -> Result<SvExpr, NoMemory>
+    ensures { IfOk result (λ t. Reading (given_of cells.entry) left.now (option_copied pick.entry) kind (state_of cx.old) (term_of t) (state_of cx.new)) }
+{
+    match locate(alloc, cells, left)? {
+        Some(found) => read_found(alloc, found, pick, cells, cx, levels),
+        None => literal(alloc, width(kind), 0),
+    }
+}
+
+// A read of what was found of a location.
+#[cycle(lowering)]
+fn read_found(
+    alloc: Global,
+    found: Found<'_>,
+    pick: Option<&CorePick>,
+    cells: Cells<'_>,
+    cx: &mut Lowering<'_>,
+    levels: u32,
+) -> Result<SvExpr, NoMemory>
+    ensures { (l : CoreLeft) → (k : Kind) → IsFoundAt (given_of cells.entry) l (found_of found.entry) → IfOk result (λ t. Reading (given_of cells.entry) l (option_copied pick.entry) k (state_of cx.old) (term_of t) (state_of cx.new)) }
+{
+    let opens = opened(alloc, found.dims.as_slice(), cells, cx, levels)?;
+    read_open(alloc, opens.as_slice(), found.first, pick, cells, cx, levels)
+}
+
+// The same under indices that stand in variables.
+#[cycle(lowering)]
+fn read_open(
+    alloc: Global,
+    opens: &[Open],
+    first: u32,
+    pick: Option<&CorePick>,
+    cells: Cells<'_>,
+    cx: &mut Lowering<'_>,
+    levels: u32,
+) -> Result<SvExpr, NoMemory>
+    ensures { (l : CoreLeft) → (k : Kind) → (f : finding.Found) → (a : State) → f.first ≡ first → IsFoundAt (given_of cells.entry) l f → Opening (given_of cells.entry) f.dims a (map opened_of opens.now) (state_of cx.old) → IfOk result (λ t. Reading (given_of cells.entry) l (option_copied pick.entry) k a (term_of t) (state_of cx.new)) }
+{
     let all = Bits::all(width(cells.cell(first)?.kind))?;
-    let bits = match pick.map(|p| bits_taken(cells, p)) {
-        None | Some(Picked::Open) => all,
-        Some(Picked::Range(bits)) => bits,
-        Some(Picked::Bit(i)) if i <= all.h => Bits { h: i, l: i },
-        Some(Picked::Bit(_)) | Some(Picked::Nowhere) => return literal(alloc, 1, 0),
-    };
-    let e = element(alloc, opens.as_slice(), first, bits, cells, cx, CHOICES)?;
     match pick {
-        Some(CorePick::Bit { at, .. }) if cells.known.value(at).is_none() => {
-            bit_at(alloc, e, at, cells, cx, levels)
+        None => element(alloc, opens, first, all, cells, cx, CHOICES),
+        Some(CorePick::Range { h, l, .. }) => {
+            let bits = Bits { h: *h, l: *l };
+            element(alloc, opens, first, bits, cells, cx, CHOICES)
         }
-        _ => Ok(e),
+        Some(CorePick::Bit { at, .. }) => match cells.known.value(at) {
+            Some(v) => known_bit(alloc, opens, first, all.h, v, cells, cx),
+            None => {
+                let e = element(alloc, opens, first, all, cells, cx, CHOICES)?;
+                bit_at(alloc, e, at, cells, cx, levels)
+            }
+        },
+    }
+}
+
+// The bit of a static number; 0 past the highest.
+fn known_bit(
+    alloc: Global,
+    opens: &[Open],
+    first: u32,
+    high: u32,
+    at: Value,
+    cells: Cells<'_>,
+    cx: &Lowering<'_>,
+) -> Result<SvExpr, NoMemory>
+    ensures { IfOk result (λ t. IsKnownBit (given_of cells.entry) (map seen_of cx.now.views.now) (small at) high (map opened_of opens.now) first (term_of t)) }
+{
+    match at.small() {
+        Some(i) => {
+            if i <= high {
+                element(alloc, opens, first, Bits { h: i, l: i }, cells, cx, CHOICES)
+            } else {
+                literal(alloc, 1, 0)
+            }
+        }
+        None => literal(alloc, 1, 0),
     }
 }
 
@@ -263,7 +362,9 @@ fn bit_at(
     cells: Cells<'_>,
     cx: &mut Lowering<'_>,
     levels: u32,
-) -> Result<SvExpr, NoMemory> {
+) -> Result<SvExpr, NoMemory>
+    ensures { IfOk result (λ r. BitAt (given_of cells.entry) (term_of e) at.now (state_of cx.old) (term_of r) (state_of cx.new)) }
+{
     let at = indexed(alloc, at, cells, cx, levels)?;
     bit_text(alloc, e, at)
 }

@@ -1,8 +1,12 @@
 //! Indices that aren't static, each as one variable.
-ghost use Rattle.std.specs.Prelude.{◌≡◌, IfOk};
+ghost use Rattle.std.specs.Prelude.{◌≡◌, ◌^◌, IfOk, IfSome, length, map, min, nat_lt};
 ghost use Rattle.scc_svtree.specs.Term as term;
 ghost use Rattle.scc_svtree.specs.Term.{term_of};
 ghost use Rattle.scc_svtree.specs.declared.expr.SvLeft.TheVariants as place;
+ghost use Rattle.scc_lower_laws.specs.Elements.{index_kind};
+ghost use Rattle.scc_lower_laws.specs.Outcome as outcome;
+ghost use Rattle.scc_lower_tree_laws.specs.Finding.{Indexing, Keeping, Opening};
+ghost use Rattle.scc_lower.specs.Becoming.{chosen_of, given_of, opened_of, slot_of, state_of};
 
 use crate::built::whole;
 use crate::convert::{converted, expression};
@@ -24,12 +28,16 @@ pub struct Index {
 
 impl Index {
     /// Whether the index can be `n` or more.
-    pub fn can_reach(self, n: u32) -> bool {
+    pub fn can_reach(self, n: u32) -> bool
+        ensures { result ≡ nat_lt n (2 ^ self.width) }
+    {
         32 <= self.width || u64::from(n) < 1 << self.width
     }
 
     /// How many of `n` elements the index can name.
-    pub fn reach(self, n: u32) -> u32 {
+    pub fn reach(self, n: u32) -> u32
+        ensures { result ≡ min n (2 ^ self.width) }
+    {
         if self.width < 32 {
             n.min(1 << self.width)
         } else {
@@ -65,17 +73,46 @@ pub fn indexed(
     cells: Cells<'_>,
     cx: &mut Lowering<'_>,
     levels: u32,
-) -> Result<Index, NoMemory> {
+) -> Result<Index, NoMemory>
+    ensures { IfOk result (λ v. Indexing (given_of cells.entry) e.now (state_of cx.old) (slot_of v) (state_of cx.new)) }
+{
     let of = lowered(alloc, e, cells, cx, levels)?;
-    let kind = if signed(e.kind) { UNSIGNED } else { e.kind };
+    let kind = index_kind(e.kind);
     let of = converted(alloc, of, e.kind, kind)?;
     let of = expression(alloc, of)?;
-    let width = width(kind);
-    let var = match of.node.get() {
-        SvExprNode::Left(SvLeft::Whole(var)) => *var,
-        _ => temporary(cells, cx, width, of)?,
-    };
-    Ok(Index { var, width })
+    kept(cells, cx, width(kind), of)
+}
+
+// An index is read without sign.
+fn index_kind(kind: Kind) -> Kind
+    ensures { result ≡ index_kind kind }
+{
+    if signed(kind) { UNSIGNED } else { kind }
+}
+
+// The variable that an expression is, or a new temporary that holds it.
+fn kept(
+    cells: Cells<'_>,
+    cx: &mut Lowering<'_>,
+    width: u32,
+    of: SvExpr,
+) -> Result<Index, NoMemory>
+    ensures { IfOk result (λ v. Keeping (length cells.entry.cells.now) (outcome.Made (term_of of)) width (state_of cx.old) (slot_of v) (state_of cx.new)) }
+{
+    match variable(&of) {
+        Some(var) => Ok(Index { var, width }),
+        None => temporary(cells, cx, width, of),
+    }
+}
+
+// The variable that an expression is.
+fn variable(e: &SvExpr) -> Option<VarId>
+    ensures { IfSome result (λ v. term_of e.now ≡ term.Part (place.Whole v)) }
+{
+    match e.node.get() {
+        SvExprNode::Left(SvLeft::Whole(var)) => Some(*var),
+        _ => None,
+    }
 }
 
 /// The indices of open dimensions, outermost first.
@@ -86,7 +123,9 @@ pub fn opened(
     cells: Cells<'_>,
     cx: &mut Lowering<'_>,
     levels: u32,
-) -> Result<Vec<Open>, NoMemory> {
+) -> Result<Vec<Open>, NoMemory>
+    ensures { IfOk result (λ os. Opening (given_of cells.entry) (map chosen_of dims.now) (state_of cx.old) (map opened_of os.items) (state_of cx.new)) }
+{
     let mut opens = Vec::new(alloc);
     for dim in dims {
         let at = indexed(alloc, dim.at, cells, cx, levels)?;
@@ -106,12 +145,14 @@ fn temporary(
     cx: &mut Lowering<'_>,
     width: u32,
     value: SvExpr,
-) -> Result<VarId, NoMemory> {
+) -> Result<Index, NoMemory>
+    ensures { IfOk result (λ v. Keeping (length cells.entry.cells.now) (outcome.Made (term_of value)) width (state_of cx.old) (slot_of v) (state_of cx.new)) }
+{
     let var = cells.temporary(cx.temporaries.len())?;
     cx.temporaries.push(width)?;
     cx.before.push(SvStmt::Assign {
         left: SvLeft::Whole(var),
         value,
     })?;
-    Ok(var)
+    Ok(Index { var, width })
 }

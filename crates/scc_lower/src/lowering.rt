@@ -1,5 +1,5 @@
 //! What a lowering is given, and what it leaves beside its text.
-ghost use Rattle.std.specs.Prelude.{◌≡◌, ◌+◌, ◌*◌, IfOk, Some, slice_get};
+ghost use Rattle.std.specs.Prelude.{◌≡◌, ◌+◌, ◌*◌, [], IfOk, Some, length, slice_get};
 ghost use Rattle.scc_lower.specs.Reads.{constant_of, var_read};
 
 use scc_base::{List, NoMemory, lost};
@@ -37,7 +37,12 @@ pub struct Lowering<'a> {
 
 impl<'a> Lowering<'a> {
     /// The state at the beginning, without temporaries. It takes no memory.
-    pub fn new(alloc: Global, views: &'a [View], exit: u32) -> Lowering<'a> {
+    pub fn new(alloc: Global, views: &'a [View], exit: u32) -> Lowering<'a>
+        ensures views { result.views.now ≡ views.now }
+        ensures exit { result.exit ≡ exit }
+        ensures before { result.before ≡ [] }
+        ensures temporaries { result.temporaries ≡ [] }
+    {
         Lowering {
             views,
             exit,
@@ -98,7 +103,9 @@ impl<'a> Cells<'a> {
     }
 
     /// The variable that holds the number of the block that is being left.
-    pub fn leaving(&self) -> Result<VarId, NoMemory> {
+    pub fn leaving(&self) -> Result<VarId, NoMemory>
+        ensures { IfOk result (λ v. v.0 ≡ length self.now.cells.now * 2 + 0) }
+    {
         match u32::try_from(self.cells.len()) {
             Ok(n) => twice(n, 0),
             Err(_) => Err(lost()),
@@ -106,7 +113,9 @@ impl<'a> Cells<'a> {
     }
 
     /// The variable of the temporary of that number.
-    pub fn temporary(&self, number: usize) -> Result<VarId, NoMemory> {
+    pub fn temporary(&self, number: usize) -> Result<VarId, NoMemory>
+        ensures { IfOk result (λ v. v.0 ≡ 2 * length self.now.cells.now + 1 + number) }
+    {
         let VarId(leaving) = self.leaving()?;
         let Ok(number) = u32::try_from(number) else {
             return Err(lost());

@@ -3,7 +3,8 @@ ghost use Rattle.std.specs.Prelude.{◌≡◌, IfOk, Some};
 ghost use Rattle.scc_svtree.specs.Term.{term_of};
 ghost use Rattle.scc_lower_spec.specs.Operating.{binary_of, is_shift, operated_term, unary_of, with_signs};
 ghost use Rattle.scc_lower.specs.Lowered.{number_in};
-ghost use Rattle.scc_lower.specs.Operated.{Chosen, IsAnswer, Makes, Operated, OperatedAlone, alone_text, before_text, between_text, both_known, choice_text, is_plus, joined_text, picked, right_text};
+ghost use Rattle.scc_lower_laws.specs.Outcome.{alone_text, is_plus, joined_text};
+ghost use Rattle.scc_lower.specs.Operated.{Chosen, IsAnswer, Makes, Operated, OperatedAlone, before_text, between_text, both_known, choice_text, picked, right_text};
 ghost use Rattle.scc_lower.specs.declared.convert.Lowered.TheVariants as lowered;
 
 use crate::built::{binary, choice, sign, unary};

@@ -1,8 +1,12 @@
 //! What locations name: a cell, or the cells of an array under indices that aren't static.
+ghost use Rattle.std.specs.Prelude.{◌≡◌, IfOk};
+ghost use Rattle.scc_lower_tree_laws.specs.Finding.{IsChosen};
+ghost use Rattle.scc_lower.specs.Becoming.{IsLocated, chosen_of, given_of};
+
 use crate::lowering::Cells;
 use crate::select::Bits;
 use scc_base::{NoMemory, lost, push};
-use scc_core::{CoreExpr, CoreLeft, CorePart, CorePick};
+use scc_core::{CoreExpr, CoreLeft, CorePart, CorePick, Dim};
 use std::alloc::Global;
 
 /// A dimension under an index that isn't static.
@@ -51,24 +55,32 @@ pub fn locate<'a>(
     alloc: Global,
     cells: Cells<'_>,
     left: &'a CoreLeft,
-) -> Result<Option<Found<'a>>, NoMemory> {
+) -> Result<Option<Found<'a>>, NoMemory>
+    ensures { IfOk result (λ o. IsLocated (given_of cells.entry) left.now o) }
+{
     let Some(named) = cells.known.named(alloc, left)? else {
         return Ok(None);
     };
     let mut dims = Vec::new(alloc);
     for dim in named.dims.as_slice() {
-        let Some(CorePart::Index { at, .. }) = left.parts.get(dim.part as usize) else {
-            return Err(lost());
-        };
-        let chosen = Chosen {
-            at,
-            size: dim.size,
-            stride: dim.stride,
-        };
-        push(&mut dims, chosen)?;
+        push(&mut dims, chosen_in(left, *dim)?)?;
     }
     Ok(Some(Found {
         first: named.base,
         dims,
     }))
+}
+
+// A dimension of an array, with the index that stands in a part of the location.
+fn chosen_in<'a>(left: &'a CoreLeft, dim: Dim) -> Result<Chosen<'a>, NoMemory>
+    ensures { IfOk result (λ c. IsChosen left.now.parts dim (chosen_of c)) }
+{
+    match left.parts.get(dim.part as usize) {
+        Some(CorePart::Index { at, .. }) => Ok(Chosen {
+            at,
+            size: dim.size,
+            stride: dim.stride,
+        }),
+        Some(CorePart::Member(_)) | None => Err(lost()),
+    }
 }

@@ -21,7 +21,10 @@ pub struct Bits {
 
 impl Bits {
     /// All of so many.
-    pub fn all(width: u32) -> Result<Bits, NoMemory> {
+    pub fn all(width: u32) -> Result<Bits, NoMemory>
+        ensures high { IfOk result (λ b. b.h + 1 ≡ width) }
+        ensures low { IfOk result (λ b. b.l ≡ 0) }
+    {
         match width.checked_sub(1) {
             Some(h) => Ok(Bits { h, l: 0 }),
             None => Err(lost()),
@@ -30,7 +33,8 @@ impl Bits {
 
     /// How many there are.
     pub fn count(self) -> Result<u32, NoMemory>
-        ensures { IfOk result (λ n. n ≡ min (self.h - self.l + 1) 4294967295) }
+        ensures count { IfOk result (λ n. n ≡ min (self.h - self.l + 1) 4294967295) }
+        ensures exactly { IfOk result (λ n. n ≡ self.h - self.l + 1) }
     {
         match self.h.checked_sub(self.l).and_then(|n| n.checked_add(1)) {
             Some(n) => Ok(n),

@@ -1,4 +1,11 @@
 //! Reads of elements under indices that aren't static: a tree of choices.
+ghost use Rattle.std.specs.Prelude.{◌≡◌, ◌+◌, ◌*◌, IfOk, map};
+ghost use Rattle.scc_svtree.specs.Term.{term_of};
+ghost use Rattle.scc_lower_laws.specs.Elements.{variable_of, within_text};
+ghost use Rattle.scc_lower_spec.specs.Selected.{below_term, halves_term};
+ghost use Rattle.scc_lower_tree_laws.specs.Choosing.{ReadsElement, ReadsSpan};
+ghost use Rattle.scc_lower.specs.Becoming.{given_of, opened_of, seen_of, slot_of};
+
 use crate::built::{binary, choice, literal};
 use crate::index::Open;
 use crate::lowering::{Cells, Lowering};
@@ -21,7 +28,9 @@ pub fn element(
     cells: Cells<'_>,
     cx: &Lowering<'_>,
     levels: u32,
-) -> Result<SvExpr, NoMemory> {
+) -> Result<SvExpr, NoMemory>
+    ensures { IfOk result (λ t. ReadsElement (given_of cells.entry) (map seen_of cx.now.views.now) (map opened_of opens.now) first bits.h bits.l (term_of t)) }
+{
     let Some((open, inner)) = opens.split_first() else {
         return read_part(alloc, cells, cx, first, bits);
     };
@@ -43,10 +52,17 @@ pub fn element(
         cx,
         levels - 1,
     )?;
+    within(alloc, *open, bits, chosen)
+}
+
+// An element of a dimension, 0 past its end.
+fn within(alloc: Global, open: Open, bits: Bits, chosen: SvExpr) -> Result<SvExpr, NoMemory>
+    ensures { IfOk result (λ t. term_of t ≡ within_text (slot_of open.at) open.size bits.h bits.l (term_of chosen)) }
+{
     if !open.at.can_reach(open.size) {
         return Ok(chosen);
     }
-    let inside = below(alloc, *open, open.size)?;
+    let inside = below(alloc, open, open.size)?;
     let zero = literal(alloc, bits.count()?, 0)?;
     choice(alloc, inside, chosen, zero)
 }
@@ -59,7 +75,9 @@ pub struct Span {
 }
 
 // Whether an index is below a number.
-fn below(alloc: Global, open: Open, n: u32) -> Result<SvExpr, NoMemory> {
+fn below(alloc: Global, open: Open, n: u32) -> Result<SvExpr, NoMemory>
+    ensures { IfOk result (λ t. term_of t ≡ below_term open.at.width (variable_of open.at.var.0) n) }
+{
     let at = open.at.read(alloc)?;
     let n = literal(alloc, open.at.width, u128::from(n))?;
     binary(alloc, SvBinary::Lt, at, n)
@@ -77,7 +95,9 @@ fn between(
     cells: Cells<'_>,
     cx: &Lowering<'_>,
     levels: u32,
-) -> Result<SvExpr, NoMemory> {
+) -> Result<SvExpr, NoMemory>
+    ensures { IfOk result (λ t. ReadsSpan (given_of cells.entry) (map seen_of cx.now.views.now) (opened_of open) (map opened_of inner.now) first span.low span.high bits.h bits.l (term_of t)) }
+{
     if levels == 0 || span.high <= span.low {
         return Err(lost());
     }
@@ -87,7 +107,6 @@ fn between(
         return element(alloc, inner, at, bits, cells, cx, levels - 1);
     }
     let middle = span.low + half;
-    let test = below(alloc, open, middle)?;
     let low = Span {
         low: span.low,
         high: middle,
@@ -98,11 +117,27 @@ fn between(
         high: span.high,
     };
     let no = between(alloc, inner, open, first, high, bits, cells, cx, levels - 1)?;
+    halves(alloc, open, middle, yes, no)
+}
+
+// One of two, by whether an index is below a number.
+fn halves(
+    alloc: Global,
+    open: Open,
+    middle: u32,
+    yes: SvExpr,
+    no: SvExpr,
+) -> Result<SvExpr, NoMemory>
+    ensures { IfOk result (λ t. term_of t ≡ halves_term open.at.width (variable_of open.at.var.0) middle (term_of yes) (term_of no)) }
+{
+    let test = below(alloc, open, middle)?;
     choice(alloc, test, yes, no)
 }
 
 /// The cell of element `i` of a dimension.
-pub fn element_at(first: u32, i: u32, stride: u32) -> Result<u32, NoMemory> {
+pub fn element_at(first: u32, i: u32, stride: u32) -> Result<u32, NoMemory>
+    ensures { IfOk result (λ c. c ≡ first + i * stride) }
+{
     match i.checked_mul(stride).and_then(|n| n.checked_add(first)) {
         Some(cell) => Ok(cell),
         None => Err(lost()),

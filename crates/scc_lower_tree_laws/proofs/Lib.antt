@@ -5,3 +5,5 @@ pub mod Opening
 pub mod Picks
 pub mod Nodes
 pub mod Literals
+pub mod Assigning
+pub mod Stating

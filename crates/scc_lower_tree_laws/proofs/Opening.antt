@@ -99,7 +99,7 @@ module _ (g : Given) where
 -- ---- many indices
 
 module _ (s : Sight) (width : ℕ → ℕ) where
-  each-extended : (n m k : ℕ) (cs : List Chosen) (c d : Code) (os : List Opened) → IndexEach s width n m cs c os → m ≤ k → Makes s m k d → IndexEach s width n k cs (then_code c d) os
+  pub each-extended : (n m k : ℕ) (cs : List Chosen) (c d : Code) (os : List Opened) → IndexEach s width n m cs c os → m ≤ k → Makes s m k d → IndexEach s width n k cs (then_code c d) os
   each-extended n m k [] c d [] h l p = h
   each-extended n m k [] c d (o ∷ os) h l p = absurd h
   each-extended n m k (x ∷ cs) c d [] h l p = absurd h

@@ -46,10 +46,10 @@ use Rattle.scc_lower_tree_laws.proofs.Opening.{matched}
 use Rattle.scc_lower_tree_laws.proofs.Trees.{cell-wide}
 
 -- what is known of the indices of a location
-abbrev SoundParts : Given → Sight → CoreLeft → Type 0
+abbrev pub SoundParts : Given → Sight → CoreLeft → Type 0
 SoundParts g s l = (i : CoreExpr) (n size : ℕ) (x : CorePart) → slice_get l.parts n ≡ Some x → out-CorePart x ≡ tree.Index size i → IsSound g s i
 
-chosen-sound : (g : Given) (s : Sight) (l : CoreLeft) (ds : List Dim) (cs : List Chosen) → AreChosen l.parts ds cs → SoundParts g s l → AreSound g s cs
+pub chosen-sound : (g : Given) (s : Sight) (l : CoreLeft) (ds : List Dim) (cs : List Chosen) → AreChosen l.parts ds cs → SoundParts g s l → AreSound g s cs
 chosen-sound g s l [] [] h f = tt
 chosen-sound g s l [] (c ∷ cs) h f = absurd h
 chosen-sound g s l (d ∷ ds) [] h f = absurd h
@@ -124,13 +124,13 @@ module _ (g : Given) where
 
   -- ---- a bit under a known index
 
-  knows-index : (s : Sight) (i : CoreExpr) (v : Number) (b : ℕ) → value_in (facts_in g.known) i ≡ Some v → IsSound g s i → index_of v.kind v.word ≡ b → KnowsIndex s (term_of i) b
+  pub knows-index : (s : Sight) (i : CoreExpr) (v : Number) (b : ℕ) → value_in (facts_in g.known) i ≡ Some v → IsSound g s i → index_of v.kind v.word ≡ b → KnowsIndex s (term_of i) b
   knows-index s i v b e sound told a x w fits shows is =
       let fine = sound-here g s i sound in
       let value = fine.value v e in
       (λ n. index_of (fine.kind n) (value.1.is a x w fits shows is n)) ∙ ap (λ k. index_of k v.word) (sym value.0) ∙ told
 
-  index-number : (s : Sight) (i : CoreExpr) (v : Number) → value_in (facts_in g.known) i ≡ Some v → IsSound g s i → ((m : ℕ) × (small v ≡ Some m) × (index_of v.kind v.word ≡ m)) ⊎ ((small v ≡ None) × (4294967296 ≤ index_of v.kind v.word))
+  pub index-number : (s : Sight) (i : CoreExpr) (v : Number) → value_in (facts_in g.known) i ≡ Some v → IsSound g s i → ((m : ℕ) × (small v ≡ Some m) × (index_of v.kind v.word ≡ m)) ⊎ ((small v ≡ None) × (4294967296 ≤ index_of v.kind v.word))
   index-number s i v e sound =
       let fine = sound-here g s i sound in
       let value = fine.value v e in
@@ -146,7 +146,7 @@ module _ (g : Given) where
       let P : emitted.Term → Type 0 = λ u. Lowers s width from (length b.temporaries) (core.Bit p r i) op.leaves.front (Made u) in
       subst P (sym e) (extended s width from from (length b.temporaries) (core.Bit p r i) End op.leaves.front (Made (emitted.Literal 1 0)) (bit-past s width from p r i n knows past) y.grows y.makes)
 
-  some_index : (i m : ℕ) → ◌≡◌ {A = Option ℕ} (Some i) (Some m) → i ≡ m
+  pub some_index : (i m : ℕ) → ◌≡◌ {A = Option ℕ} (Some i) (Some m) → i ≡ m
   some_index i m e = cc
 
   pub reading-known : (l : CoreLeft) (k : Kind) (f : Found) (os : List Opened) (a b : State) (q : CorePick) (kind : Kind) (i : CoreExpr) (v : Number) (hi : ℕ) (t : emitted.Term) (cell : Held) → out-CorePick q ≡ tree.Bit kind i → value_in (facts_in g.known) i ≡ Some v → IsFoundAt g l f → Opening g f.dims a os b

@@ -3,3 +3,5 @@ pub mod Sound
 pub mod Becoming
 pub mod Choosing
 pub mod Finding
+pub mod Assigning
+pub mod Stating

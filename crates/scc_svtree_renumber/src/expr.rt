@@ -1,4 +1,9 @@
 //! Expressions. A chain of operators is as deep as it is long, so first operands are walked by a loop.
+ghost use Rattle.std.specs.Prelude.{◌≡◌, IfOk, Some, true, map};
+ghost use Rattle.std.specs.Option.{option_copied};
+ghost use Rattle.scc_svtree.specs.declared.expr.SvExpr.{SvExpr};
+ghost use Rattle.scc_svtree_renumber.specs.Copies.{IsPath, first_of};
+
 use scc_base::{Boxed, List, NoMemory, lost, push};
 use scc_svtree::{SvExpr, SvExprNode, SvLeft, VarId};
 use std::alloc::Global;
@@ -19,7 +24,9 @@ pub const UNDECLARED: u32 = u32::MAX;
 
 impl<'a> Ids<'a> {
     /// The numbers as they are.
-    pub fn same() -> Ids<'a> {
+    pub fn same() -> Ids<'a>
+        ensures { result.same ≡ true }
+    {
         Ids {
             same: true,
             first: &[],
@@ -29,7 +36,9 @@ impl<'a> Ids<'a> {
     }
 
     /// The new number of a variable.
-    pub fn of(&self, var: VarId) -> Result<VarId, NoMemory> {
+    pub fn of(&self, var: VarId) -> Result<VarId, NoMemory>
+        ensures { self.now.same ≡ true → IfOk result (λ v. v ≡ var) }
+    {
         if self.same {
             return Ok(var);
         }
@@ -49,7 +58,9 @@ impl<'a> Ids<'a> {
     }
 }
 
-pub fn renumbered_left(left: &SvLeft, ids: Ids<'_>) -> Result<SvLeft, NoMemory> {
+pub fn renumbered_left(left: &SvLeft, ids: Ids<'_>) -> Result<SvLeft, NoMemory>
+    ensures { ids.entry.same ≡ true → IfOk result (λ l. l ≡ left.now) }
+{
     Ok(match left {
         SvLeft::Whole(var) => SvLeft::Whole(ids.of(*var)?),
         SvLeft::Bit { var, at } => SvLeft::Bit {
@@ -65,25 +76,32 @@ pub fn renumbered_left(left: &SvLeft, ids: Ids<'_>) -> Result<SvLeft, NoMemory> 
 }
 
 // The operand that is copied first, if there is one.
-fn first(e: &SvExpr) -> Option<&SvExpr> {
+fn first(e: &SvExpr) -> Option<&SvExpr>
+    ensures { option_copied result ≡ first_of e.now }
+{
     match e.node.get() {
-        SvExprNode::Unary { of, .. } | SvExprNode::Cast { of, .. } | SvExprNode::Sign { of, .. } =>
-            Some(of),
+        SvExprNode::Unary { of, .. } => Some(of),
+        SvExprNode::Cast { of, .. } => Some(of),
+        SvExprNode::Sign { of, .. } => Some(of),
         SvExprNode::Binary { left, .. } => Some(left),
         SvExprNode::Cond { test, .. } => Some(test),
         SvExprNode::Literal(_) | SvExprNode::Left(_) | SvExprNode::Concat(_) => None,
     }
 }
 
-// An expression and its first operands, from the outermost on.
-fn spine(alloc: Global, e: &SvExpr) -> Result<Vec<&SvExpr>, NoMemory> {
+// An expression and its first operands, from the outermost on, and the innermost of them.
+fn spine(alloc: Global, e: &SvExpr) -> Result<(Vec<&SvExpr>, &SvExpr), NoMemory>
+    ensures { IfOk result (λ r. IsPath e.now (map (λ x. x.now) r.0.items) r.1.now) }
+{
     let mut found = Vec::new(alloc);
     let mut here = e;
     for _ in 0..usize::MAX {
-        push(&mut found, here)?;
         match first(here) {
-            Some(inner) => here = inner,
-            None => return Ok(found),
+            Some(inner) => {
+                push(&mut found, here)?;
+                here = inner;
+            }
+            None => return Ok((found, here)),
         }
     }
     Err(lost())
@@ -96,23 +114,24 @@ pub fn renumbered_expr(
     e: &SvExpr,
     ids: Ids<'_>,
     levels: u32,
-) -> Result<SvExpr, NoMemory> {
+) -> Result<SvExpr, NoMemory>
+    ensures { ids.entry.same ≡ true → IfOk result (λ r. r ≡ e.now) }
+{
     if levels == 0 {
         return Err(lost());
     }
-    let mut chain = spine(alloc, e)?;
-    let Some(innermost) = chain.pop() else {
-        return Err(lost());
-    };
+    let (mut chain, innermost) = spine(alloc, e)?;
     let mut made = leaf(alloc, innermost, ids, levels - 1)?;
-    for outer in chain.iter().rev() {
+    while let Some(outer) = chain.pop() {
         made = over(alloc, outer, made, ids, levels - 1)?;
     }
     Ok(made)
 }
 
 #[cycle(renumbered)]
-fn leaf(alloc: Global, e: &SvExpr, ids: Ids<'_>, levels: u32) -> Result<SvExpr, NoMemory> {
+fn leaf(alloc: Global, e: &SvExpr, ids: Ids<'_>, levels: u32) -> Result<SvExpr, NoMemory>
+    ensures { ids.entry.same ≡ true → IfOk result (λ r. r ≡ e.now) }
+{
     let made = match e.node.get() {
         SvExprNode::Literal(l) => SvExprNode::Literal(*l),
         SvExprNode::Left(l) => SvExprNode::Left(renumbered_left(l, ids)?),
@@ -137,7 +156,9 @@ fn over(
     inner: SvExpr,
     ids: Ids<'_>,
     levels: u32,
-) -> Result<SvExpr, NoMemory> {
+) -> Result<SvExpr, NoMemory>
+    ensures { ids.entry.same ≡ true → first_of e.now ≡ Some inner → IfOk result (λ r. r ≡ e.now) }
+{
     let made = match e.node.get() {
         SvExprNode::Unary { op, .. } => SvExprNode::Unary { op: *op, of: inner },
         SvExprNode::Cast { width, .. } => SvExprNode::Cast {
