@@ -1,6 +1,6 @@
 -- Names of cells by their steps, and where cells stand.
 use Rattle.std.specs.Prelude.{ℕ, suc, Bool, true, false, not, ◌&&◌, nat_eq, nat_lt, if◌then◌else◌, List, [], ◌∷◌, length, map, take, drop, slice_get, Option, Some, None, option_map, option_and_then}
-use Rattle.std.specs.Option.{option_eq}
+use Rattle.std.specs.Option.{option_eq, unwrap_or}
 use Rattle.std.specs.Cmp.Lexicographic.{pointwise}
 use Rattle.std.specs.Map.{lookup}
 use Rattle.scc_base.specs.declared.names.Name.{Name}
@@ -110,6 +110,27 @@ name_spot p name = option_and_then (λ at. walk p at (of_indices name.indices)) 
 -- the cell that has a whole name
 abbrev pub cell_at : Places → Spot → Option ℕ
 cell_at p at = option_and_then (λ n. n.cell) (slice_get p.named.items at.0)
+
+-- the pointer or reference that has a whole name
+abbrev pub pointer_at : Places → Spot → Option ℕ
+pointer_at p at = option_and_then (λ n. n.pointer) (slice_get p.named.items at.0)
+
+-- the number of elements of the vector that has a whole name
+abbrev pub size_at : Places → Spot → Option ℕ
+size_at p at = option_and_then (λ n. n.vector) (slice_get p.named.items at.0)
+
+-- the cell of the signal that a port of this path is bound to; where the table has none, the port's own
+abbrev pub root_of_sort : Places → ℕ → CellSort → ℕ
+root_of_sort p cell (sort.Port path) = unwrap_or (option_and_then (cell_at p) (walk p (record { 0 = 0 }) (of_path path))) cell
+root_of_sort p cell _ = cell
+
+abbrev pub root_in : Places → ℕ → Option Cell → ℕ
+root_in p cell None = cell
+root_in p cell (Some c) = root_of_sort p cell c.sort
+
+-- the root of a cell by the table of names
+abbrev pub root_at : Places → List Cell → ℕ → ℕ
+root_at p cells cell = root_in p cell (slice_get cells cell)
 
 -- the cell of a name with these steps behind it, by the table
 unfoldable pub placed : Places → List (Option NameStep) → CellName → Option ℕ

@@ -1,5 +1,5 @@
 //! The cells that a location may name.
-ghost use Rattle.std.specs.Prelude.{◌≡◌, IfOk, Some, [], map};
+ghost use Rattle.std.specs.Prelude.{◌≡◌, IfOk, Some, [], length, map, nat_eq};
 ghost use Rattle.scc_core.specs.Known.{facts_in};
 ghost use Rattle.scc_core.specs.Located.{alone, array_from, array_in, between, named_in, row_from, single};
 ghost use Rattle.scc_core.specs.Statics.{part_in};
@@ -42,7 +42,9 @@ impl Named {
     }
 
     /// Whether no open index chooses among several.
-    pub fn is_single(&self) -> bool {
+    pub fn is_single(&self) -> bool
+        ensures { result ≡ nat_eq (length self.now.dims) 0 }
+    {
         self.dims.is_empty()
     }
 

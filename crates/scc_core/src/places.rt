@@ -2,7 +2,7 @@
 ghost use Rattle.std.specs.Prelude.{◌≡◌, ◌<◌, ◌++◌, List, [], ◌∷◌, None, IfOk, OnOk, length, map, option_and_then};
 ghost use Rattle.scc_core.specs.declared.places.NameStep.{NameStep};
 ghost use Rattle.scc_core.specs.declared.places.NameStep.TheVariants as step;
-ghost use Rattle.scc_core.specs.Names.{cell_at, is_pointer, leads, name_spot, of_indices, of_path, step_of, walk};
+ghost use Rattle.scc_core.specs.Names.{cell_at, is_pointer, leads, name_spot, of_indices, of_path, pointer_at, root_at, size_at, step_of, walk};
 ghost use Rattle.scc_core.specs.Tables.{Adds, AddsVector, Changes, Entered, Grows, IsTable, IsTree, Reaches, nothing, own_steps, steps_of, with_cell, with_size};
 
 use crate::{Cell, CellName, CellSort, VectorSize2};
@@ -303,17 +303,23 @@ impl Places {
     }
 
     /// The pointer or reference of that whole name.
-    pub fn pointer(&self, at: Spot) -> Option<u32> {
+    pub fn pointer(&self, at: Spot) -> Option<u32>
+        ensures { result ≡ pointer_at self.now at }
+    {
         self.named.get(at.0 as usize).and_then(|n| n.pointer)
     }
 
     /// How many elements the vector of that name has; None where no vector has the name.
-    pub fn vector(&self, at: Spot) -> Option<u32> {
+    pub fn vector(&self, at: Spot) -> Option<u32>
+        ensures { result ≡ size_at self.now at }
+    {
         self.named.get(at.0 as usize).and_then(|n| n.vector)
     }
 
     /// The root of a port's cell; each other cell is its own.
-    pub fn root(&self, cells: &List<Cell>, cell: u32) -> u32 {
+    pub fn root(&self, cells: &List<Cell>, cell: u32) -> u32
+        ensures { result ≡ root_at self.now cells.now cell }
+    {
         let Some(
             Cell {
                 sort: CellSort::Port(path),

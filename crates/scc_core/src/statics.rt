@@ -90,6 +90,8 @@ impl<'a> Known<'a> {
     /// What is known by the fixed cells alone.
     pub fn new(cells: &'a List<Cell>, places: &'a Places) -> Known<'a>
         ensures cells { result.cells.now ≡ cells.now }
+        ensures places { result.places ≡ Some places.entry }
+        ensures counters { result.counters ≡ None }
     {
         Known {
             cells,
@@ -113,6 +115,8 @@ impl<'a> Known<'a> {
     /// The same where these counters stand as literals.
     pub fn with(self, counters: &'a Counters) -> Known<'a>
         ensures cells { result.cells.now ≡ self.entry.cells.now }
+        ensures places { result.places ≡ self.entry.places }
+        ensures counters { result.counters ≡ Some counters.entry }
     {
         Known {
             cells: self.cells,
