@@ -84,8 +84,8 @@ ports_by es all s =
     map (λ e. (e.name, e.variable)) given ++ name_others s.path 0 (others given (filter (λ v. list_any (bytes_eq v) s.given) all))
 
 abbrev pub zipped : List (List ℕ) → List (List ℕ) → List (List ℕ × List ℕ)
-zipped (a ∷ as) (b ∷ bs) = (a, b) ∷ zipped as bs
-zipped as bs = []
+zipped (x ∷ xs) (y ∷ ys) = (x, y) ∷ zipped xs ys
+zipped xs ys = []
 
 abbrev pub ports_in : Seen → List (List ℕ × List ℕ)
 ports_in s = zipped (map (λ v. v.name) (ports_of s.inside)) s.given

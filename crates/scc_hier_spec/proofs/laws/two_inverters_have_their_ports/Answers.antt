@@ -1,5 +1,5 @@
 -- The ports of the two inverters; other names and another order are told.
-use Rattle.std.proofs.Common.{◌≡◌, ℕ, Bool, true, false, ◌&&◌, ◌||◌, refl, ap}
+use Rattle.std.proofs.Common.{◌≡◌, ℕ, zero, suc, Bool, true, false, ◌&&◌, ◌||◌, List, [], ◌∷◌, refl, ap, arith}
 use Rattle.scc_svtree.specs.Code.{Code}
 use Rattle.scc_svtree.specs.Mentions.{mentions}
 use Rattle.scc_hier_spec.proofs.Worked.{inverter_code}
@@ -18,8 +18,26 @@ returns-clause-right c = record {
   wanted = ap (λ k. (told k 0 && (told k 1 && true)) && both (told k 0 && (told k 1 && true))) inverter_code;
 }
 
+-- the first byte of a text, and of the name of a port, counted from 0
+byte : List ℕ → ℕ
+byte [] = 0
+byte (b ∷ bs) = b
+
+letter : ℕ → List (List ℕ × List ℕ) → ℕ
+letter n [] = 0
+letter zero (p ∷ ps) = byte p.0
+letter (suc n) (p ∷ ps) = letter n ps
+
+x_is_not_y : ◌≡◌ {A = ℕ} 121 120 → ⊥
+x_is_not_y e = omega (arith, e)
+
+y_is_not_z : ◌≡◌ {A = ℕ} 122 121 → ⊥
+y_is_not_z e = omega (arith, e)
+
 pub returns-clause-exchanged : goal.returns-clause-exchanged
-returns-clause-exchanged c a = let e = a.named.0 in absurd cc
+unfolding letter byte
+returns-clause-exchanged c a = x_is_not_y (ap (letter 0) a.named.0)
 
 pub returns-clause-renamed : goal.returns-clause-renamed
-returns-clause-renamed c a = let e = a.named.0 in absurd cc
+unfolding letter byte
+returns-clause-renamed c a = y_is_not_z (ap (letter 1) a.named.0)
