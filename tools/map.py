@@ -3,8 +3,8 @@
 
     tools/map.py [--check]
 
-With --check nothing is written: it says where the page isn't what the repository has, and ends with 1. What the tables below
-name is looked up, so that a name that is gone is a fault.
+With --check nothing is written: it says where the page isn't what the repository has, which code's number stands beside no
+line that raises it, and ends with 1. What the tables below name is looked up, so that a name that is gone is a fault.
 """
 import re
 import sys
@@ -110,15 +110,26 @@ def codes():
 
 
 def raisers():
-    """Where each code is named in the code of a stage: the first line of each file."""
+    """Where each code is raised in the code of a stage: the first line of each file. A line that compares codes raises none."""
     found = {}
     for path in sorted(CRATES.glob("*/src/**/*.rt")):
         if path.relative_to(CRATES).parts[0] in NO_RAISERS or path.relative_to(CRATES).parts[0].endswith("_tests"):
             continue
         for number, line in enumerate(path.read_text().splitlines(), 1):
-            for name in re.findall(r"\bCode::(\w+)", line.split("//")[0]):
+            for name in re.findall(r"(?<!== )\bCode::(\w+)\b(?!\.number)", line.split("//")[0]):
                 found.setdefault(name, {}).setdefault(path.relative_to(CRATES), number)
     return found
+
+
+def without_number(raised):
+    """Codes whose number stands beside no line that raises them, so that searching for it doesn't lead there."""
+    for number, name, _ in codes():
+        beside = []
+        for path, line in raised.get(name, {}).items():
+            lines = (CRATES / path).read_text().splitlines()
+            beside += [text.split("//", 1)[1] for text in lines[max(line - 2, 0):line] if "//" in text]
+        if not any(f"E{number}" in text for text in beside):
+            yield f"no comment says E{number} where Code::{name} is raised"
 
 
 def predicates():
@@ -161,8 +172,12 @@ def main():
         sys.exit(f"tools/map.py: there is no {gone}")
     if "--check" not in sys.argv[1:]:
         PAGE.write_text(text)
-    elif not PAGE.is_file() or PAGE.read_text() != text:
-        sys.exit("docs/MAP.md isn't what the repository has: run tools/map.py")
+        return
+    faults = list(without_number(raisers()))
+    if not PAGE.is_file() or PAGE.read_text() != text:
+        faults.append("docs/MAP.md isn't what the repository has: run tools/map.py")
+    if faults:
+        sys.exit("\n".join(faults))
 
 
 if __name__ == "__main__":

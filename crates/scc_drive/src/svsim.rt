@@ -96,7 +96,7 @@ fn module_in(alloc: Global, top: &[u8], text: &Source) -> Result<SvModule, Stopp
                 Ok(module)
             } else {
                 // the name stands behind the word `module` and a blank
-                Err(refused(alloc, text, Code::SvName, 7))
+                Err(refused(alloc, text, Code::SvName, 7)) // E703
             }
         }
         Err(stop) => Err(stopped_in(alloc, text, stop)),

@@ -53,7 +53,7 @@ fn fault(halt: Halt, end: Place) -> Stop
 {
     match halt {
         Halt::NoMemory => Stop::NoMemory,
-        Halt::Unexpected(place) => refused(Code::Unexpected, place.unwrap_or(end)),
-        Halt::TooDeep(place) => refused(Code::TooDeep, place.unwrap_or(end)),
+        Halt::Unexpected(place) => refused(Code::Unexpected, place.unwrap_or(end)), // E201
+        Halt::TooDeep(place) => refused(Code::TooDeep, place.unwrap_or(end)), // E202
     }
 }

@@ -353,7 +353,7 @@ impl Growing {
                 if let CorePart::Index { at, .. } = part
                     && known.value(at).is_none()
                 {
-                    return Err(Stop::refused(Code::StaticIndex, left.place));
+                    return Err(Stop::refused(Code::StaticIndex, left.place)); // E512
                 }
             }
         }

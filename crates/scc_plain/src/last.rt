@@ -79,7 +79,7 @@ impl Calls {
                 && on == CallOn::Class
                 && users.has(to.0)
             {
-                return refuse(Code::Mismatch, place);
+                return refuse(Code::Mismatch, place); // E304
             }
         }
         Ok(())
@@ -135,7 +135,7 @@ impl<'a> Cycles<'a> {
         if !reaches_itself(w.alloc, self.graph, k)? {
             return gone();
         }
-        refuse(Code::Recursion, place)
+        refuse(Code::Recursion, place) // E309
     }
 }
 

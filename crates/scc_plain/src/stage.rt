@@ -105,7 +105,7 @@ fn walked(tree: &FileTree, w: &mut Walk) -> Result<Order, Stop>
         return sooner(stop, w.late);
     }
     match w.late {
-        Some(late) => refuse(Code::CallPlace, late),
+        Some(late) => refuse(Code::CallPlace, late), // E313
         None => Ok(order),
     }
 }

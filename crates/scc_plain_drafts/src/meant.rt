@@ -158,7 +158,7 @@ impl Meant {
     {
         match self.subject() {
             Some(of) => of.value(alloc, place),
-            None => refuse(Code::Mismatch, place),
+            None => refuse(Code::Mismatch, place), // E304
         }
     }
 

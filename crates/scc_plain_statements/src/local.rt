@@ -52,7 +52,7 @@ fn local(
     let shape = w.shape_of(&declared.ty, &d.decl, tree, b)?;
     let form = Form::of(&shape)?;
     if !is_local_form(form) {
-        return refuse(Code::Mismatch, place);
+        return refuse(Code::Mismatch, place); // E304
     }
     let n = b.declare(d.decl.name, place, shape)?;
     let node = match &d.value {

@@ -98,7 +98,7 @@ pub(crate) fn selector(
 {
     let x = w.value(of, tree, flow, b)?;
     if !is_small(x.expr.kind) {
-        return refuse(Code::Mismatch, of.place);
+        return refuse(Code::Mismatch, of.place); // E304
     }
     b.flush(out)?;
     let kind = promoted(x.expr.kind);
@@ -123,7 +123,7 @@ impl Tests {
         ensures stop { IfErr result MayStop }
     {
         if let Some(first) = self.seen.get(&label).copied() {
-            return Err(Stop::refused_beside(Code::DuplicateName, place, first));
+            return Err(Stop::refused_beside(Code::DuplicateName, place, first)); // E302
         }
         self.keep(label, place)?;
         Ok(())

@@ -79,6 +79,7 @@ fn alias(s: &CoreStmt, to: &Pointed, of: &CoreLeft, r: &mut Resolver<'_>) -> Res
             if let Some(t) = &found
                 && is_chosen(t, r)
             {
+                // E512.
                 return Err(Stop::refused(Code::StaticIndex, of.place));
             }
             r.hold(*cell, found)?;
@@ -113,5 +114,6 @@ fn assigned(s: &CoreStmt, left: &CoreLeft, r: &Resolver<'_>) -> Stop
             Err(Stop::Refused(_)) | Ok(_) => {}
         }
     }
+    // E511.
     Stop::refused(Code::PointerAssigned, s.place)
 }

@@ -42,6 +42,7 @@ pub fn pointer_cell(r: &Resolver<'_>, left: &CoreLeft) -> Result<Option<u32>, St
         CoreBase::Follow { pointer, soft } => {
             match pointer_value(r, pointer.get(), *soft, LEVELS)? {
                 Some(t) => Some(t),
+                // E405.
                 None => return Err(Stop::refused(Code::EmptyPointer, left.place)),
             }
         }
@@ -219,6 +220,7 @@ fn resolved(
     };
     let (way, made) = folded(r, made)?;
     if way.chooses_object {
+        // E512.
         return Err(Stop::refused(Code::StaticIndex, left.place));
     }
     Ok(Some(made))

@@ -80,6 +80,7 @@ fn next<'a>(
     match &s.node {
         CoreNode::Wait { .. } => return Ok(false),
         CoreNode::If { test, yes, no } => match known.goes(test) {
+            // E514.
             None => return Err(Stop::refused(Code::ResetValue, s.place)),
             Some(true) => enter(yes.as_slice(), line.inner.as_slice(), Sort::List, turns)?,
             Some(false) => enter(no.as_slice(), line.other.as_slice(), Sort::List, turns)?,

@@ -42,9 +42,11 @@ pub fn split_known(alloc: Global, known: Known<'_>, c: &Core, process: u32) -> R
     let lines = outlines(body.as_slice(), alloc)?;
     let points = points_of(alloc, body.as_slice(), lines.as_slice())?;
     if let Some(wait) = points.waits.get(WAITS) {
+        // E603.
         return Err(Stop::refused(Code::TooManyStates, wait.place));
     }
     if let Some(place) = too_large(alloc, &points)? {
+        // E604.
         return Err(Stop::refused(Code::SegmentsTooLarge, place));
     }
     let mut split = built(alloc, &points)?;

@@ -75,7 +75,7 @@ impl Templates {
         ensures stop { IfErr result MayStop }
     {
         let Some(kind) = self.taken_type()?.kind() else {
-            return refuse(Code::Mismatch, own);
+            return refuse(Code::Mismatch, own); // E304
         };
         let place = value.place;
         tasks.value(ValueTask::Convert { kind, place })?;
@@ -143,7 +143,7 @@ impl Templates {
     {
         match self.taken()?.held(INT) {
             Some(v) => self.give(v),
-            None => refuse(Code::ConstRange, place),
+            None => refuse(Code::ConstRange, place), // E306
         }
     }
 

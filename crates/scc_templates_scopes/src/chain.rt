@@ -37,7 +37,7 @@ impl Chain {
         ensures stop { IfErr result MayStop }
     {
         if self.length >= CHAIN {
-            return refuse(Code::TemplateDepth, at);
+            return refuse(Code::TemplateDepth, at); // E308
         }
         let length = self.length + 1;
         Ok(Chain { length, last })

@@ -53,7 +53,7 @@ fn bad_directive(hash: Token) -> Halt
     ensures { result ≡ Halt.Refused Code.Directive hash.place }
 {
     Halt::Refused {
-        code: Code::Directive,
+        code: Code::Directive, // E105
         place: hash.place,
     }
 }
@@ -162,13 +162,13 @@ fn admit(
     let skipped = is_once(state.once.as_slice(), number);
     if !skipped && below == 0 {
         return Err(Halt::Refused {
-            code: Code::IncludeDepth,
+            code: Code::IncludeDepth, // E106
             place: hash,
         });
     }
     if state.includes >= INCLUDES || (number.is_none() && sources.len() >= FILES) {
         return Err(Halt::Refused {
-            code: Code::TooManyFiles,
+            code: Code::TooManyFiles, // E109
             place: hash,
         });
     }

@@ -15,7 +15,7 @@ fn bad_directive(hash: Token) -> Halt
     ensures { result ≡ Halt.Refused Code.Directive hash.place }
 {
     Halt::Refused {
-        code: Code::Directive,
+        code: Code::Directive, // E105
         place: hash.place,
     }
 }

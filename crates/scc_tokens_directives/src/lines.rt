@@ -14,7 +14,7 @@ fn bad_directive(hash: Token) -> Halt
     ensures { result ≡ Halt.Refused Code.Directive hash.place }
 {
     Halt::Refused {
-        code: Code::Directive,
+        code: Code::Directive, // E105
         place: hash.place,
     }
 }
@@ -59,7 +59,7 @@ pub fn open_side(
     }
     if is_at(unclosed, hash.place.at) {
         return Err(Halt::Refused {
-            code: Code::OpenConditional,
+            code: Code::OpenConditional, // E107
             place: hash.place,
         });
     }

@@ -58,7 +58,7 @@ impl Out {
     {
         if self.tokens.len() >= TOKENS {
             return Err(Halt::Refused {
-                code: Code::TooManyTokens,
+                code: Code::TooManyTokens, // E110
                 place: t.place,
             });
         }

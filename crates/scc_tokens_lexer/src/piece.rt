@@ -184,7 +184,7 @@ fn hash_piece(line: Line) -> Piece
             line: Line::Directive,
         },
         Line::Middle | Line::Directive => Piece::Fault {
-            code: Code::BadByte,
+            code: Code::BadByte, // E101
             at: 0,
         },
     }
@@ -202,7 +202,7 @@ fn comment_piece(line: Line, bytes: &[u8]) -> Piece
             line,
         },
         None => Piece::Fault {
-            code: Code::OpenComment,
+            code: Code::OpenComment, // E102
             at: 0,
         },
     }
@@ -226,7 +226,7 @@ fn flaw_of(form: Form, token: &[u8]) -> Option<(Code, usize)>
             let at = unprintable(token)?;
             Some((Code::BadByte, at))
         }
-        Form::Ident if token.len() > IDENT_BYTES => Some((Code::BadLiteral, 0)),
+        Form::Ident if token.len() > IDENT_BYTES => Some((Code::BadLiteral, 0)), // E103
         _ => None,
     }
 }

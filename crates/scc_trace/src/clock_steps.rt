@@ -69,13 +69,13 @@ fn clock_step(
 {
     let (word, rest) = line.first_word();
     if word.bytes != b"step".as_slice() {
-        return refuse(file, Code::StimText, line.at);
+        return refuse(file, Code::StimText, line.at); // E801
     }
     let Some(step) = masked_values(alloc, clocks, ports, rest)? else {
         return refuse(file, Code::StimText, line.at);
     };
     if let Some(wide) = step.found.wide {
-        return refuse(file, Code::StimValue, wide);
+        return refuse(file, Code::StimValue, wide); // E803
     }
     Ok(ClockStep {
         mask: step.mask,
