@@ -9,7 +9,7 @@ What is looked at:
 - a word `NAME.rt` in backticks is a file of the crate of the heading, or of any crate where the heading names none;
 - below a heading of a crate, names in round brackets, as (`ok`, `err`), are clauses or public functions of it;
 - a path in backticks that begins with a folder of the repository, but what is built, below `out`;
-- the table of docs/ARCHITECTURE.md has a row for each crate of crates.txt;
+- docs/ARCHITECTURE.md says of each crate of crates.txt what it does, in a line of a list;
 - docs/MAP.md is what tools/map.py writes.
 Lines of tables and of code aren't measured. The status is 1 where something is wrong.
 """
@@ -105,11 +105,11 @@ def faults_of(document):
             yield f"{document.relative_to(REPOSITORY)}:{number}: {fault}"
 
 
-def crates_without_row():
+def crates_without_line():
     page = REPOSITORY / "docs" / "ARCHITECTURE.md"
-    rows = " ".join(line.split(" | ")[0] for line in page.read_text().splitlines() if line.startswith("| `"))
-    for crate in sorted(CRATES - set(CODE.findall(rows))):
-        yield f"{page.relative_to(REPOSITORY)}: no row for {crate}"
+    named = re.findall(r"((?:`scc\w*`(?:,\s+)?)+)(?=:| reads)", page.read_text())
+    for crate in sorted(CRATES - set(re.findall(r"`(scc\w*)`", " ".join(named)))):
+        yield f"{page.relative_to(REPOSITORY)}: no line for {crate}"
 
 
 def map_faults():
@@ -122,7 +122,7 @@ def main():
     documents = names or [*REPOSITORY.glob("*.md"), *sorted((REPOSITORY / "docs").rglob("*.md")),
                           *sorted((REPOSITORY / "examples").rglob("*.md"))]
     faults = [fault for document in documents for fault in faults_of(document)]
-    faults += [] if names else [*crates_without_row(), *map_faults()]
+    faults += [] if names else [*crates_without_line(), *map_faults()]
     for fault in faults:
         print(fault)
     print(f"{len(documents)} documents, {len(faults)} faults")
