@@ -7,7 +7,8 @@ What is looked at:
 - a link to a file beside the document, and to a heading in it;
 - a word `scc_..` in backticks is a crate of crates.txt, unless its line says `not yet` or [CHECK;
 - a word `NAME.rt` in backticks is a file of the crate of the heading, or of any crate where the heading names none;
-- below a heading of a crate, names in round brackets, as (`ok`, `err`), are clauses or public functions of it;
+- below a heading of a crate, names in round brackets, as (`ok`, `err`), are clauses or public functions of it, and so are
+  those in the second column of a table of docs/PROMISES.md; the last column there is a mark;
 - a path in backticks that begins with a folder of the repository, but what is built, below `out`;
 - docs/ARCHITECTURE.md says of each crate of crates.txt what it does, in a line of a list;
 - docs/MAP.md is what tools/map.py writes.
@@ -29,6 +30,7 @@ COLUMNS = 120
 LINK = re.compile(r"\]\(([^)#\s]*)(?:#([^)\s]*))?\)")
 CODE = re.compile(r"`([^`]+)`")
 CLAUSES = re.compile(r"\(((?:`[a-z_]+`, )*`[a-z_]+`)\)")
+MARKS = {"mark", "proved", "tested", "open", "not claimed"}
 LATER = re.compile(r"not yet|\[CHECK")
 DECLARED = re.compile(r"\b(?:ensures|requires|fn|mod|ghost) +([a-z_]\w*)")
 
@@ -83,7 +85,13 @@ def faults_of_line(document, line, heading):
         elif word.startswith(FOLDERS) and re.fullmatch(r"[a-z0-9_./-]+", word) and "/out/" not in word \
                 and not (REPOSITORY / word).exists():
             yield f"no file {word}"
-    for group in CLAUSES.findall(line) if heading else []:
+    groups = CLAUSES.findall(line) if heading else []
+    if heading and document.name == "PROMISES.md" and line.startswith("| ") and not line.startswith("|-"):
+        clauses, mark = [cell.strip() for cell in re.split(r"(?<!\\)\|", line)[-3:-1]]
+        groups.append(", ".join(f"`{name}`" for name in re.findall(r"`([a-z_]+)`", clauses)))
+        if mark not in MARKS:
+            yield f"no mark {mark}"
+    for group in groups:
         for name in CODE.findall(group):
             if name not in CRATES and name not in PARTS and not any(name in declared(crate) for crate in heading):
                 yield f"no clause {name} in {', '.join(heading)}"
