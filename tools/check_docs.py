@@ -7,6 +7,7 @@ What is looked at:
 - a link to a file beside the document, and to a heading in it;
 - a word `scc_..` in backticks is a crate of crates.txt, unless its line says `not yet` or [CHECK;
 - a word `NAME.rt` in backticks is a file of the crate of the heading, or of any crate where the heading names none;
+- a word `specs/NAME` or `proofs/NAME` in backticks is a file of some crate;
 - below a heading of a crate, names in round brackets, as (`ok`, `err`), are clauses or public functions of it, and so are
   those in the second column of a table of docs/PROMISES.md; the last column there is a mark;
 - a path in backticks that begins with a folder of the repository, but what is built, below `out`;
@@ -82,6 +83,8 @@ def faults_of_line(document, line, heading):
             yield f"no crate {word}"
         elif re.fullmatch(r"[a-z_/]+\.rt", word) and not has_file(heading or CRATES, word) and not has_file(CRATES, word):
             yield f"no file {word} in {', '.join(heading) or 'any crate'}"
+        elif re.fullmatch(r"(specs|proofs)/[A-Za-z]+", word) and not has_file(CRATES, word + ".antt"):
+            yield f"no file {word} in any crate"
         elif word.startswith(FOLDERS) and re.fullmatch(r"[a-z0-9_./-]+", word) and "/out/" not in word \
                 and not (REPOSITORY / word).exists():
             yield f"no file {word}"
