@@ -94,7 +94,8 @@ fn reached(top: Name, tree: &FileTree, w: &mut Walk) -> Result<Plain, Stop>
     Ok(program)
 }
 
-// The walk over all that is needed.
+// The walk over all that is needed, for refusals, instances and order. `write` walks the bodies again, with the final numbers of
+// functions, so that no call is patched.
 fn walked(tree: &FileTree, w: &mut Walk) -> Result<Order, Stop>
     ensures stop { IfErr result MayStop }
 {
