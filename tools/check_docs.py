@@ -12,6 +12,7 @@ What is looked at:
   those in the second column of a table of docs/PROMISES.md; the last column there is a mark;
 - a path in backticks that begins with a folder of the repository, but what is built, below `out`;
 - docs/ARCHITECTURE.md says of each crate of crates.txt what it does, in a line of a list;
+- where README.md or docs/PROMISES.md says how many answers the pages of cases have, it is the sum of their counts;
 - docs/MAP.md is what tools/map.py writes.
 Lines of tables and of code aren't measured. The status is 1 where something is wrong.
 """
@@ -123,6 +124,15 @@ def crates_without_line():
         yield f"{page.relative_to(REPOSITORY)}: no line for {crate}"
 
 
+def wrong_counts():
+    counts = (REPOSITORY / "crates" / "scc_drive_cases" / "stdout").read_text()
+    answers = sum(int(number) for number in re.findall(r": (\d+) as told", counts))
+    for page in (REPOSITORY / "README.md", REPOSITORY / "docs" / "PROMISES.md"):
+        for number in re.findall(r"([\d,]+) answers of\s+the\s+command", page.read_text()):
+            if int(number.replace(",", "")) != answers:
+                yield f"{page.relative_to(REPOSITORY)}: {number} answers, the pages of cases have {answers}"
+
+
 def map_faults():
     made = subprocess.run([REPOSITORY / "tools" / "map.py", "--check"], capture_output=True, text=True)
     return made.stderr.splitlines()
@@ -133,7 +143,7 @@ def main():
     documents = names or [*REPOSITORY.glob("*.md"), *sorted((REPOSITORY / "docs").rglob("*.md")),
                           *sorted((REPOSITORY / "examples").rglob("*.md"))]
     faults = [fault for document in documents for fault in faults_of(document)]
-    faults += [] if names else [*crates_without_line(), *map_faults()]
+    faults += [] if names else [*crates_without_line(), *wrong_counts(), *map_faults()]
     for fault in faults:
         print(fault)
     print(f"{len(documents)} documents, {len(faults)} faults")
