@@ -47,7 +47,7 @@ fn refused(code: Code, place: Place) -> Stop
     })
 }
 
-// A halt as the refusal that it is; the end of the last file stands for a place behind all tokens.
+// A halt as the refusal that it is; the end of the last file stands for a place after all tokens.
 fn fault(halt: Halt, end: Place) -> Stop
     ensures { result ≡ stop_of end halt }
 {

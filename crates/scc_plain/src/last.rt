@@ -169,7 +169,7 @@ fn class_place(i: InstanceId, tree: &FileTree, w: &Walk) -> Result<Place, NoMemo
     Ok(tree.items.get(class.0 as usize).ok_or(lost())?.place)
 }
 
-// Looks at the functions of an instance, or at one of the file, from the walk's one of that number on; gives the number behind.
+// Looks at the functions of an instance, or at one of the file, from the walk's one of that number on; gives the number after.
 fn functions_of(
     scope: Option<InstanceId>,
     from: usize,

@@ -111,7 +111,7 @@ fn walked(tree: &FileTree, w: &mut Walk) -> Result<Order, Stop>
     }
 }
 
-// A call that stands where none may is refused behind all else, but for what stands at its place with a smaller number.
+// A call that stands where none may is refused after all else, but for what stands at its place with a smaller number.
 fn sooner<T>(stop: Stop, late: Option<Place>) -> Result<T, Stop>
     requires { MayStop stop }
     ensures stop { IfErr result MayStop }

@@ -170,7 +170,7 @@ impl Meant {
         }
     }
 
-    /// What brackets with so many arguments are behind it.
+    /// What brackets with so many arguments are after it.
     pub fn call(self, count: usize) -> Call {
         match self {
             Meant::Function {

@@ -8,7 +8,7 @@ use scc_plain_bodies::{Body, Flow, Form, Walk, convert, refuse};
 use scc_plain_tree::{Base, PlainBase, PlainLeft, PlainNode, PlainStmt, Reach};
 use scc_tree::{Expr, FileTree, LocalDecl, LocalTree};
 
-/// Declares local variables. Each is known behind its declarator.
+/// Declares local variables. Each is known after its declarator.
 pub(crate) fn locals(
     declared: &LocalTree,
     tree: &FileTree,

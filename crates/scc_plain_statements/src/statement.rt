@@ -141,7 +141,7 @@ fn switch(
     switched(items, &mut cases, place, tree, flow, w, b, out)
 }
 
-// A `switch` behind its selector: its statements, by the labels that they stand behind.
+// A `switch` after its selector: its statements, by the labels that they stand after.
 #[cycle(statement)]
 fn switched(
     items: &[SwitchItem],

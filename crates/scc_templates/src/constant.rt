@@ -108,7 +108,7 @@ impl Templates {
         }
     }
 
-    // The value that is written, else that behind the one before.
+    // The value that is written, else that after the one before.
     fn enumerated<'t>(
         &mut self,
         scope: Option<InstanceId>,
@@ -147,7 +147,7 @@ impl Templates {
         }
     }
 
-    /// The number behind that of the enumerator before.
+    /// The number after that of the enumerator before.
     pub(crate) fn successor(&mut self, place: Place) -> Result<(), Stop>
         ensures stop { IfErr result MayStop }
     {

@@ -1,4 +1,4 @@
-//! What stands behind an expression: indices, members and calls. No constant has bits to pick or functions of its own to
+//! What stands after an expression: indices, members and calls. No constant has bits to pick or functions of its own to
 //! call, but numbers have the calls of the language.
 ghost use Rattle.std.specs.Prelude.{IfErr};
 ghost use Rattle.scc_templates_scopes.specs.Refusals.{MayStop};

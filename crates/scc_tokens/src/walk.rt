@@ -39,7 +39,7 @@ pub struct Joining {
     pub includes: u32,
 }
 
-// The directive of a line, with what stands behind its word.
+// The directive of a line, with what stands after its word.
 fn split_line<'a>(words: &Words, line: &'a [Token]) -> (Directive, &'a [Token])
     ensures { (result.0, result.1.now) ≡ split_line words.now line.now }
 {
@@ -207,7 +207,7 @@ fn take_front(
     Ok((1, None))
 }
 
-// A line of a directive behind its `#`.
+// A line of a directive after its `#`.
 fn take_line(
     alloc: Global,
     state: &mut Joining,

@@ -30,7 +30,7 @@ fn copied(alloc: Global, tokens: &[Token]) -> Result<Tokens, NoMemory>
     Ok(copy)
 }
 
-// Whether a `(` stands right behind a name.
+// Whether a `(` stands right after a name.
 fn adjoins(name: Token, body: &[Token]) -> bool
     ensures { result ≡ adjoins name body.now }
 {

@@ -16,14 +16,14 @@ use scc_base::{Code, List, NoMemory, Stop, Text};
 use scc_bits::Word;
 use std::alloc::Global;
 
-/// A mask of clocks and the values behind it.
+/// A mask of clocks and the values after it.
 #[derive(Drop)]
 pub struct Masked {
     mask: Word,
     found: Found,
 }
 
-// The mask of a line and its values, from behind the word before them. None where they are of no form, or more or fewer.
+// The mask of a line and its values, from after the word before them. None where they are of no form, or more or fewer.
 #[tactic(auto, unfolding(crate::specs::Clocks::masked_of))]
 fn masked_values(
     alloc: Global,

@@ -11,7 +11,7 @@ use crate::span::{Span, before};
 use crate::stim::Version;
 use scc_base::{Code, Stop, Text};
 
-/// The next line, and what is behind it.
+/// The next line, and what is after it.
 #[tactic(auto, unfolding(crate::specs::Head::next_line))]
 pub fn next_line<'a>(file: u32, text: Span<'a>) -> Result<(Span<'a>, Span<'a>), Stop>
     ensures next { Answers (λ x. (piece_of x.0, lines_in x.1)) result (head.next_line file (end_of text.entry) (lines_in text.entry)) }
