@@ -3,8 +3,8 @@
 
     tools/map.py [--check]
 
-With --check nothing is written: it says where the page isn't what the repository has, which code's number stands beside no
-line that raises it, and ends with 1. What the tables below name is looked up, so that a name that is gone is a fault.
+With --check nothing is written: it says where the page isn't what the repository has, which code's number stands in no file
+that raises it, and ends with 1. What the tables below name is looked up, so that a name that is gone is a fault.
 """
 import re
 import sys
@@ -122,14 +122,11 @@ def raisers():
 
 
 def without_number(raised):
-    """Codes whose number stands beside no line that raises them, so that searching for it doesn't lead there."""
+    """Codes whose number stands in no comment of a file that raises them, so that searching for it doesn't lead there."""
     for number, name, _ in codes():
-        beside = []
-        for path, line in raised.get(name, {}).items():
-            lines = (CRATES / path).read_text().splitlines()
-            beside += [text.split("//", 1)[1] for text in lines[max(line - 2, 0):line] if "//" in text]
-        if not any(f"E{number}" in text for text in beside):
-            yield f"no comment says E{number} where Code::{name} is raised"
+        lines = [line for path in raised.get(name, {}) for line in (CRATES / path).read_text().splitlines()]
+        if not any(f"E{number}" in line.split("//", 1)[1] for line in lines if "//" in line):
+            yield f"no comment says E{number} in a file that raises Code::{name}"
 
 
 def predicates():

@@ -1,4 +1,4 @@
-//! Statements.
+//! Statements. A pointer that is assigned after its declaration is refused as E511, an index before a member as E512.
 ghost use Rattle.std.specs.Prelude.{◌≡◌, Err};
 ghost use Rattle.scc_base.specs.declared.refusal.Refusal.{Refusal};
 ghost use Rattle.scc_base.specs.declared.refusal.Stop.TheVariants as stop;
@@ -79,7 +79,6 @@ fn alias(s: &CoreStmt, to: &Pointed, of: &CoreLeft, r: &mut Resolver<'_>) -> Res
             if let Some(t) = &found
                 && is_chosen(t, r)
             {
-                // E512.
                 return Err(Stop::refused(Code::StaticIndex, of.place));
             }
             r.hold(*cell, found)?;
@@ -114,6 +113,5 @@ fn assigned(s: &CoreStmt, left: &CoreLeft, r: &Resolver<'_>) -> Stop
             Err(Stop::Refused(_)) | Ok(_) => {}
         }
     }
-    // E511.
     Stop::refused(Code::PointerAssigned, s.place)
 }

@@ -1,4 +1,4 @@
-//! Expressions and locations. First operands, and pointers in one another, are as many as a source is long, so they are walked by
+//! Expressions and locations (E405, E512). First operands, and pointers in one another, are as many as a source is long, so they are walked by
 //! loops.
 ghost use Rattle.std.specs.Prelude.{◌≡◌, Err};
 ghost use Rattle.scc_base.specs.declared.refusal.Refusal.{Refusal};
@@ -42,7 +42,6 @@ pub fn pointer_cell(r: &Resolver<'_>, left: &CoreLeft) -> Result<Option<u32>, St
         CoreBase::Follow { pointer, soft } => {
             match pointer_value(r, pointer.get(), *soft, LEVELS)? {
                 Some(t) => Some(t),
-                // E405.
                 None => return Err(Stop::refused(Code::EmptyPointer, left.place)),
             }
         }
@@ -220,7 +219,6 @@ fn resolved(
     };
     let (way, made) = folded(r, made)?;
     if way.chooses_object {
-        // E512.
         return Err(Stop::refused(Code::StaticIndex, left.place));
     }
     Ok(Some(made))

@@ -1,10 +1,7 @@
 //! Threads as states: waits, and the segments between them.
 //!
-//! `thread` has `split`, the order of what it looks at and its limits; `types` has `Split`; `outline` says what
-//! each statement holds, `points` at which points a segment can stand, made from the end of the body; `measure` and
-//! `over` count the sizes of segments before any is built; `segment` builds them; `reset` says what an asynchronous
-//! reset may do, `kept` which cells live across a wait; `elements` and `sum` count elements under indices
-//! (`index_sum`).
+//! `thread` has `split`, the order of what it looks at and its limits; `reset` says what an asynchronous reset may do,
+//! `kept` which cells live across a wait; `elements` and `sum` count elements under indices (`index_sum`).
 #![tactic(auto)]
 
 mod elements;

@@ -7,6 +7,8 @@ use scc_base::{Code, NoMemory, Stop, lost, push};
 use scc_core::{CoreExpr, CoreLeft, CoreNode, CoreStmt, Known};
 use std::alloc::Global;
 
+// What may not stand there is refused as E514.
+
 /// A list of statements, and how far it was walked.
 #[derive(Clone, Copy)]
 struct Turn<'a> {
@@ -80,7 +82,6 @@ fn next<'a>(
     match &s.node {
         CoreNode::Wait { .. } => return Ok(false),
         CoreNode::If { test, yes, no } => match known.goes(test) {
-            // E514.
             None => return Err(Stop::refused(Code::ResetValue, s.place)),
             Some(true) => enter(yes.as_slice(), line.inner.as_slice(), Sort::List, turns)?,
             Some(false) => enter(no.as_slice(), line.other.as_slice(), Sort::List, turns)?,

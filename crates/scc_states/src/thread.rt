@@ -23,7 +23,7 @@ const STATEMENTS: u32 = 65_536;
 const DEEPEST: u32 = 1_024;
 
 /// The segments of a thread of a checked core, by its number. It refuses a wait too many (TooManyStates), segments that are too
-/// large or too deep (SegmentsTooLarge), and what an asynchronous reset may not do.
+/// large or too deep (SegmentsTooLarge), and what an asynchronous reset may not do: E603, E604, E514.
 pub fn split(alloc: Global, c: &Core, process: u32) -> Result<Split, Stop>
     ensures stop { IfErr result MayStop }
 {
@@ -42,11 +42,9 @@ pub fn split_known(alloc: Global, known: Known<'_>, c: &Core, process: u32) -> R
     let lines = outlines(body.as_slice(), alloc)?;
     let points = points_of(alloc, body.as_slice(), lines.as_slice())?;
     if let Some(wait) = points.waits.get(WAITS) {
-        // E603.
         return Err(Stop::refused(Code::TooManyStates, wait.place));
     }
     if let Some(place) = too_large(alloc, &points)? {
-        // E604.
         return Err(Stop::refused(Code::SegmentsTooLarge, place));
     }
     let mut split = built(alloc, &points)?;
