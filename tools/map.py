@@ -3,7 +3,7 @@
 
     tools/map.py [--check]
 
-With --check nothing is written: it says where the page isn't what the repository has, which code's number stands in no file
+With --check nothing is written: it says where the page isn't what the repository has, which code's number stands in no crate
 that raises it, and ends with 1. What the tables below name is looked up, so that a name that is gone is a fault.
 """
 import re
@@ -122,11 +122,12 @@ def raisers():
 
 
 def without_number(raised):
-    """Codes whose number stands in no comment of a file that raises them, so that searching for it doesn't lead there."""
+    """Codes whose number stands in no comment of a crate that raises them, so that searching for it doesn't lead there."""
     for number, name, _ in codes():
-        lines = [line for path in raised.get(name, {}) for line in (CRATES / path).read_text().splitlines()]
+        crates = {path.parts[0] for path in raised.get(name, {})}
+        lines = [line for crate in crates for path in sources(crate) for line in path.read_text().splitlines()]
         if not any(f"E{number}" in line.split("//", 1)[1] for line in lines if "//" in line):
-            yield f"no comment says E{number} in a file that raises Code::{name}"
+            yield f"no comment says E{number} in a crate that raises Code::{name}"
 
 
 def predicates():

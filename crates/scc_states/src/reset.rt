@@ -7,8 +7,6 @@ use scc_base::{Code, NoMemory, Stop, lost, push};
 use scc_core::{CoreExpr, CoreLeft, CoreNode, CoreStmt, Known};
 use std::alloc::Global;
 
-// What may not stand there is refused as E514.
-
 /// A list of statements, and how far it was walked.
 #[derive(Clone, Copy)]
 struct Turn<'a> {
