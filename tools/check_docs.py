@@ -7,9 +7,12 @@ What is looked at:
 - a link to a file beside the document, and to a heading in it;
 - a word `scc_..` in backticks is a crate of crates.txt, unless its line says `not yet` or [CHECK;
 - a word `NAME.rt` in backticks is a file of the crate of the heading, or of any crate where the heading names none;
-- below a heading of a crate, names in round brackets, as (`ok`, `err`), are clauses or public functions of it;
+- a word `specs/NAME` or `proofs/NAME` in backticks is a file of some crate;
+- below a heading of a crate, names in round brackets, as (`ok`, `err`), are clauses or public functions of it, and so are
+  those in the second column of a table of docs/PROMISES.md; the last column there is a mark;
 - a path in backticks that begins with a folder of the repository, but what is built, below `out`;
-- the table of docs/ARCHITECTURE.md has a row for each crate of crates.txt;
+- docs/ARCHITECTURE.md says of each crate of crates.txt what it does, in a line of a list;
+- where README.md or docs/PROMISES.md says how many answers the pages of cases have, it is the sum of their counts;
 - docs/MAP.md is what tools/map.py writes.
 Lines of tables and of code aren't measured. The status is 1 where something is wrong.
 """
@@ -29,6 +32,7 @@ COLUMNS = 120
 LINK = re.compile(r"\]\(([^)#\s]*)(?:#([^)\s]*))?\)")
 CODE = re.compile(r"`([^`]+)`")
 CLAUSES = re.compile(r"\(((?:`[a-z_]+`, )*`[a-z_]+`)\)")
+MARKS = {"mark", "proved", "tested", "open", "not claimed"}
 LATER = re.compile(r"not yet|\[CHECK")
 DECLARED = re.compile(r"\b(?:ensures|requires|fn|mod|ghost) +([a-z_]\w*)")
 
@@ -80,10 +84,18 @@ def faults_of_line(document, line, heading):
             yield f"no crate {word}"
         elif re.fullmatch(r"[a-z_/]+\.rt", word) and not has_file(heading or CRATES, word) and not has_file(CRATES, word):
             yield f"no file {word} in {', '.join(heading) or 'any crate'}"
+        elif re.fullmatch(r"(specs|proofs)/[A-Za-z]+", word) and not has_file(CRATES, word + ".antt"):
+            yield f"no file {word} in any crate"
         elif word.startswith(FOLDERS) and re.fullmatch(r"[a-z0-9_./-]+", word) and "/out/" not in word \
                 and not (REPOSITORY / word).exists():
             yield f"no file {word}"
-    for group in CLAUSES.findall(line) if heading else []:
+    groups = CLAUSES.findall(line) if heading else []
+    if heading and document.name == "PROMISES.md" and line.startswith("| ") and not line.startswith("|-"):
+        clauses, mark = [cell.strip() for cell in re.split(r"(?<!\\)\|", line)[-3:-1]]
+        groups.append(", ".join(f"`{name}`" for name in re.findall(r"`([a-z_]+)`", clauses)))
+        if mark not in MARKS:
+            yield f"no mark {mark}"
+    for group in groups:
         for name in CODE.findall(group):
             if name not in CRATES and name not in PARTS and not any(name in declared(crate) for crate in heading):
                 yield f"no clause {name} in {', '.join(heading)}"
@@ -105,11 +117,20 @@ def faults_of(document):
             yield f"{document.relative_to(REPOSITORY)}:{number}: {fault}"
 
 
-def crates_without_row():
+def crates_without_line():
     page = REPOSITORY / "docs" / "ARCHITECTURE.md"
-    rows = " ".join(line.split(" | ")[0] for line in page.read_text().splitlines() if line.startswith("| `"))
-    for crate in sorted(CRATES - set(CODE.findall(rows))):
-        yield f"{page.relative_to(REPOSITORY)}: no row for {crate}"
+    named = re.findall(r"((?:`scc\w*`(?:,\s+)?)+)(?=:| reads)", page.read_text())
+    for crate in sorted(CRATES - set(re.findall(r"`(scc\w*)`", " ".join(named)))):
+        yield f"{page.relative_to(REPOSITORY)}: no line for {crate}"
+
+
+def wrong_counts():
+    counts = (REPOSITORY / "crates" / "scc_drive_cases" / "stdout").read_text()
+    answers = sum(int(number) for number in re.findall(r": (\d+) as told", counts))
+    for page in (REPOSITORY / "README.md", REPOSITORY / "docs" / "PROMISES.md"):
+        for number in re.findall(r"([\d,]+) answers of\s+the\s+command", page.read_text()):
+            if int(number.replace(",", "")) != answers:
+                yield f"{page.relative_to(REPOSITORY)}: {number} answers, the pages of cases have {answers}"
 
 
 def map_faults():
@@ -122,7 +143,7 @@ def main():
     documents = names or [*REPOSITORY.glob("*.md"), *sorted((REPOSITORY / "docs").rglob("*.md")),
                           *sorted((REPOSITORY / "examples").rglob("*.md"))]
     faults = [fault for document in documents for fault in faults_of(document)]
-    faults += [] if names else [*crates_without_row(), *map_faults()]
+    faults += [] if names else [*crates_without_line(), *wrong_counts(), *map_faults()]
     for fault in faults:
         print(fault)
     print(f"{len(documents)} documents, {len(faults)} faults")

@@ -202,7 +202,7 @@ fn states(
     one(alloc, SvStmt::Case { of, arms })
 }
 
-// The code of a state: its segment, behind as many edges as its wait counts.
+// The code of a state: its segment, after as many edges as its wait counts.
 fn state(
     alloc: Global,
     k: usize,
@@ -280,7 +280,7 @@ fn segment_stmt(
     }
 }
 
-// The state and the counter behind the wait of that number.
+// The state and the counter after the wait of that number.
 fn wait(alloc: Global, k: u32, thread: Thread<'_>) -> Result<List<SvStmt>, NoMemory> {
     let Some(count) = thread.split.waits.get(k as usize) else {
         return Err(lost());

@@ -1,4 +1,7 @@
 //! Designs of several clocks: the part of each clock, and the module that joins the parts' modules.
+//!
+//! `homes` says to which part each process belongs, `cutting` makes the parts (`domains`), `merging` joins their
+//! modules (`merge`) over the names in `joined`, and `clocked` does all three (`clocked_module`).
 #![tactic(auto)]
 
 mod clocked;

@@ -125,7 +125,7 @@ fn cursors_of(alloc: Global, joined: &Joined, parts: &[SvModule]) -> Result<Vec<
     Ok(cursors)
 }
 
-// Adds the variables that belong to a process, which stand from a cursor on in its part, and gives the cursor behind them.
+// Adds the variables that belong to a process, which stand from a cursor on in its part, and gives the cursor after them.
 fn own(
     alloc: Global,
     names: &Names,

@@ -7,7 +7,7 @@ use scc_core::Core;
 pub struct Domains {
     /// The clocks' cells in the order in which they are declared.
     pub clocks: List<u32>,
-    /// For each clock, in the same order, a core with its processes; behind them one with the combinational methods. What another
+    /// For each clock, in the same order, a core with its processes; after them one with the combinational methods. What another
     /// part writes of signals and outputs is an input, and the locals of processes of other parts are of the process `ELSEWHERE`.
     pub parts: List<Core>,
 }

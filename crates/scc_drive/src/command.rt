@@ -11,7 +11,7 @@ use crate::say::{no_memory, output_failed, tell};
 use scc_base::{Files, Sink, SinkFault, Status, put_all};
 use std::alloc::Global;
 
-/// Does all that the program does: reads the words, which are those behind the program's name, and the files that they name, and
+/// Does all that the program does: reads the words, which are those after the program's name, and the files that they name, and
 /// writes the command's output to `out`, or says on `err` why there is none. Each is handed whole to one `put_all`. It answers the
 /// status with which the program ends:
 ///

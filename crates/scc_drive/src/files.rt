@@ -49,7 +49,7 @@ fn too_long(name: Text) -> Stopped
     ensures { StopsAt code.FileTooLong (first_spot name) result }
 {
     Stopped::Refused {
-        code: Code::FileTooLong,
+        code: Code::FileTooLong, // E108
         spot: Spot {
             file: name,
             line: 1,

@@ -1,4 +1,4 @@
-//! What the stages behind the grammar answer, as a command says it.
+//! What the stages after the grammar answer, as a command says it.
 ghost use Rattle.std.specs.Prelude.{◌≡◌, true, IfOk, IfErr};
 ghost use Rattle.scc_drive_stages.specs.Refusals.{is_later};
 ghost use Rattle.scc_drive_errors.specs.Spots.{IsOtherOf};
@@ -12,7 +12,7 @@ use scc_drive_stages::{Front, front_of, name_of};
 use scc_tokens::Source;
 use std::alloc::Global;
 
-/// A refusal of a stage behind the grammar.
+/// A refusal of a stage after the grammar.
 pub fn refused_later(alloc: Global, many: bool, sources: &[Source], refusal: Refusal) -> Stopped
     requires { is_later many refusal.code ≡ true }
     ensures { IsLater many sources.now result }

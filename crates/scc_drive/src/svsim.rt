@@ -95,8 +95,8 @@ fn module_in(alloc: Global, top: &[u8], text: &Source) -> Result<SvModule, Stopp
             if module.name.bytes() == top {
                 Ok(module)
             } else {
-                // the name stands behind the word `module` and a blank
-                Err(refused(alloc, text, Code::SvName, 7))
+                // the name stands after the word `module` and a blank
+                Err(refused(alloc, text, Code::SvName, 7)) // E703
             }
         }
         Err(stop) => Err(stopped_in(alloc, text, stop)),

@@ -15,7 +15,7 @@ pub struct Spot {
     pub column: usize,
 }
 
-// The line and the column behind these bytes.
+// The line and the column after these bytes.
 fn behind(front: &[u8]) -> (usize, usize)
     ensures { (result.0, result.1) ≡ moved 1 1 front.now }
 {

@@ -52,7 +52,7 @@ fn named(top: &[u8], m: SvModule, many: bool) -> Result<Runnable, Stop>
     ensures refused { IfErr result (λ e. may_stop e ≡ true) }
 {
     if m.name.bytes() != top {
-        return Err(Stop::refused(Code::SvName, Place { file: 0, at: 7 }));
+        return Err(Stop::refused(Code::SvName, Place { file: 0, at: 7 })); // E703
     }
     if m.vars.len() > MOST {
         return Err(Stop::from(lost()));

@@ -1,4 +1,7 @@
 //! The commands of the source side as functions: a design's trace for a stimulus, and the list of its registers and bounds.
+//!
+//! `simulation` has `Simulation`, `steps` the stimulus, `ports` the ports, `order` other orders of processes,
+//! `bounds` and `constants` bounds and constants, `list` lists.
 #![tactic(auto)]
 
 mod bounds;

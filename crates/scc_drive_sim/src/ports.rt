@@ -31,7 +31,7 @@ impl Drop for SimPorts {
 }
 
 impl SimPorts {
-    /// Those of a design. A port of an array has its indices behind its name.
+    /// Those of a design. A port of an array has its indices after its name.
     pub fn of(alloc: Global, names: &Names, d: &Design) -> Result<SimPorts, NoMemory> {
         let clocks = clocks_of(alloc, d)?;
         let mut ports = SimPorts {

@@ -67,7 +67,7 @@ impl<'a> Simulation<'a> {
         })
     }
 
-    /// The next piece of the trace; None behind the last one. The pieces in a row are the trace.
+    /// The next piece of the trace; None after the last one. The pieces in a row are the trace.
     pub fn next(&mut self) -> Result<Option<Text>, RunStop> {
         let mut out = Text::new(self.alloc);
         if self.next.is_none() {

@@ -22,11 +22,11 @@ use std::alloc::Global;
 pub struct Front {
     /// The program without templates.
     pub plain: Plain,
-    /// Its objects and processes, behind the top's constructor.
+    /// Its objects and processes, after the top's constructor.
     pub design: Design,
     /// What the processes do, without calls, counted loops and pointers.
     pub core: Core,
-    /// The combinational methods, each behind those that write what it reads.
+    /// The combinational methods, each after those that write what it reads.
     pub order: Order,
     /// The segments of each thread, in process order.
     pub splits: List<Split>,

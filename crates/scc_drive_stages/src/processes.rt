@@ -43,7 +43,7 @@ fn check_size(known: Known<'_>, core: &Core, splits: &[Split]) -> Result<(), Sto
         return Ok(());
     }
     match core.processes.get(0) {
-        Some(process) => Err(Stop::refused(Code::IndexTooWide, process.place)),
+        Some(process) => Err(Stop::refused(Code::IndexTooWide, process.place)), // E605
         None => Ok(()),
     }
 }

@@ -19,7 +19,7 @@ pub fn svsim(alloc: Global, name: &[u8], text: &[u8], stimulus: &[u8]) -> Result
 {
     let m = read(alloc, text)?;
     if m.name.bytes() != name {
-        return Err(Stop::refused(Code::SvName, Place { file: 0, at: 7 }));
+        return Err(Stop::refused(Code::SvName, Place { file: 0, at: 7 })); // E703
     }
     let trace = module_trace(alloc, &m, 1, stimulus)?;
     Ok(trace)

@@ -277,7 +277,7 @@ fn behind(words: &[String], n: usize) -> &[String]
     &words[n..]
 }
 
-// The options that stand behind the plain ones of some words, the last of so many.
+// The options that stand after the plain ones of some words, the last of so many.
 #[tactic(auto, using(crate::proofs::Mapped::drop_of_map))]
 fn options_behind(count: usize, words: &[String]) -> Option<Options>
     ensures { result ≡ options_behind count (map string_bytes words.now) }

@@ -1,4 +1,6 @@
 //! The words of all commands.
+//!
+//! `command` has `Command` and `command_of`, `options` and `classes` what words are; `parsed` reads them by `clap`.
 #![tactic(auto)]
 
 mod classes;

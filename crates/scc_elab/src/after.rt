@@ -10,6 +10,7 @@ pub fn check_ports(g: &Grown) -> Result<(), Stop> {
         if let ThingSort::Port { bound: None, .. } = thing.sort
             && g.module_of(thing.spot)? != Some(TOP)
         {
+            // E401.
             return Err(Stop::refused(Code::Unbound, thing.place));
         }
     }

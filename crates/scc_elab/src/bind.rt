@@ -46,9 +46,11 @@ pub fn bind(
         bound,
     } = g.thing(number)?.sort
     else {
+        // E403.
         return Err(Stop::refused(Code::BindKind, place));
     };
     if let Some(first) = bound {
+        // E402.
         return Err(Stop::refused_beside(Code::BoundTwice, place, first.at));
     }
     let Some(to) = what else {

@@ -52,6 +52,7 @@ fn process_of(r: &Record, clocks: &mut Clocks, g: &Grown) -> Result<Process, Sto
     }
     let reset = reset_of(r, g)?;
     if r.thread && reset.is_none() {
+        // E409.
         return Err(Stop::refused(Code::NoReset, r.place));
     }
     Ok(Process {
@@ -81,6 +82,7 @@ fn may_have(thread: bool, senses: &[Sensed]) -> bool {
 
 fn check_senses(r: &Record) -> Result<(), Stop> {
     if !may_have(r.thread, r.senses.as_slice()) {
+        // E406.
         return Err(Stop::refused(Code::Sensitivity, r.place));
     }
     for sense in r.senses.as_slice() {
@@ -147,6 +149,7 @@ fn is_input(root: u32, g: &Grown) -> Result<bool, NoMemory> {
 
 fn check_clock(edge: Edge, place: Place, clocks: &mut Clocks, g: &Grown) -> Result<(), Stop> {
     if !is_input(edge.root, g)? {
+        // E407.
         return Err(Stop::refused(Code::ClockPort, place));
     }
     let known = if clocks.many {
@@ -169,6 +172,7 @@ fn add_clock(clock: Clock, clocks: &mut Clocks) -> Result<(), Stop> {
         return Ok(());
     }
     if clocks.by_root.len() >= MOST_CLOCKS {
+        // E413.
         return Err(Stop::refused(Code::TooManyClocks, clock.place));
     }
     let _old = clocks

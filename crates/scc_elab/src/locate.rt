@@ -79,6 +79,7 @@ fn follow(pointer: Located, place: Place, way: Way, g: &Grown) -> Result<Located
         None => None,
     };
     if to.is_none() && !way.soft {
+        // E405.
         return Err(Stop::refused(Code::EmptyPointer, place));
     }
     Ok(Located {

@@ -122,6 +122,7 @@ pub fn make_new<'t>(
         return Err(Stop::from(lost()));
     };
     if g.spots.local_of(at)?.is_some() {
+        // E404.
         return Err(Stop::refused(Code::Constructor, place));
     }
     let Some(pointer) = g.spots.pointer(at)? else {

@@ -19,6 +19,7 @@ pub fn declare(
 ) -> Result<(), Stop> {
     let declared = function_of(p, function)?;
     if declared.params != 0 || declared.result.is_some() {
+        // E404.
         return Err(Stop::refused(Code::Constructor, place));
     }
     let object = g.frame()?.object;
@@ -53,6 +54,7 @@ fn set_process(number: u32, g: &mut Grown) -> Result<(), NoMemory> {
 fn last_process(place: Place, g: &Grown) -> Result<u32, Stop> {
     match g.frame()?.process {
         Some(number) => Ok(number),
+        // E406.
         None => Err(Stop::refused(Code::Sensitivity, place)),
     }
 }

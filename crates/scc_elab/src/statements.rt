@@ -166,6 +166,7 @@ fn building(s: &PlainStmt, p: &Plain, g: &mut Grown) -> Result<(), Stop> {
             level,
             asynchronous,
         } => reset(signal, level, *asynchronous, s.place, p, g),
+        // E404.
         _ => Err(Stop::refused(Code::Constructor, s.place)),
     }
 }

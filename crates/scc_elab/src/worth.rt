@@ -9,6 +9,7 @@ use scc_plain_tree::{Plain, PlainExpr, PlainExprNode, PlainLeft, PlainPick};
 /// Begins an expression: its parts from left to right, then the expression itself. Refused as E404 where it reads a port or signal.
 pub fn enter<'t>(e: &'t PlainExpr, w: &mut Walk<'t>) -> Result<(), Stop> {
     if let PlainExprNode::Read(_) = e.node.get() {
+        // E404.
         return Err(Stop::refused(Code::Constructor, e.place));
     }
     Ok(begin(e, w)?)

@@ -39,6 +39,7 @@ fn check_function(
         return Ok(());
     }
     match first_constructing(alloc, function.body.as_slice())? {
+        // E404.
         Some(place) => Err(Stop::refused(Code::Constructor, place)),
         None => Ok(()),
     }

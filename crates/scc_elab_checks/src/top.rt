@@ -48,6 +48,7 @@ pub fn check_top(p: &Plain) -> Result<(), Stop>
         return Ok(());
     };
     match first_other(function.params, function.locals.as_slice()) {
+        // E404.
         Some(place) => Err(Stop::refused(Code::Constructor, place)),
         None => Ok(()),
     }

@@ -74,10 +74,12 @@ impl Grown {
     // Makes an object within the limits; its number.
     fn add(&mut self, at: SpotId, place: Place, sort: ThingSort) -> Result<u32, Stop> {
         if self.things.is_full() || MOST_PARTS < self.spots.depth(at)? {
+            // E410.
             return Err(Stop::refused(Code::TooManyObjects, place));
         }
         match self.things.add(Thing::new(at, place, sort))? {
             Some(number) => Ok(number),
+            // E411.
             None => Err(Stop::refused(Code::StorageTooLarge, place)),
         }
     }
@@ -100,6 +102,7 @@ impl Grown {
     pub fn turn(&mut self, place: Place) -> Result<(), Stop> {
         self.turns = self.turns.plus(1);
         if self.turns.is_over() {
+            // E412.
             return Err(Stop::refused(Code::ConstructionTurns, place));
         }
         Ok(())

@@ -58,6 +58,7 @@ fn led(
                     vector,
                 })
             } else {
+                // E405.
                 Err(Stop::refused(Code::EmptyPointer, place))
             }
         }

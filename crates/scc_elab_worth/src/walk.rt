@@ -89,6 +89,7 @@ fn leaf(s: &Site, e: &PlainExpr, room: u32) -> Result<Value, Stop>
     match e.node.get() {
         PlainExprNode::Lit(word) => number(e.kind, word.bits),
         PlainExprNode::Load(left) => load(s, left, e.kind, room),
+        // E404.
         PlainExprNode::Read(_) => Err(Stop::refused(Code::Constructor, e.place)),
         PlainExprNode::Join(parts) => joined(s, parts.as_slice(), e.kind, room),
         _ => Err(Stop::from(lost())),

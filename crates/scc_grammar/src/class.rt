@@ -64,7 +64,7 @@ fn class_item(
     }
 }
 
-// A module, behind its word.
+// A module, after its word.
 #[tactic(auto, unfolding(scc_grammar_spec::specs::ParseFile::module_class))]
 fn module_class<'a>(
     alloc: Global,
@@ -83,7 +83,7 @@ fn module_class<'a>(
     Ok((class_item(x, params, None, true, found, alloc), rest))
 }
 
-// A class, behind its word.
+// A class, after its word.
 #[tactic(auto, unfolding(scc_grammar_spec::specs::ParseFile::plain_class))]
 fn plain_class<'a>(
     alloc: Global,
@@ -107,7 +107,7 @@ fn plain_class<'a>(
     Ok((class_item(x, params, args, is_module, found, alloc), rest))
 }
 
-/// A class or a module, behind the parameters of a template where it has some.
+/// A class or a module, after the parameters of a template where it has some.
 #[tactic(auto, unfolding(scc_grammar_spec::specs::ParseFile::class_at))]
 pub fn class_at<'a>(
     alloc: Global,

@@ -1,4 +1,4 @@
-//! Functions and constructors, behind their names.
+//! Functions and constructors, after their names.
 ghost use Rattle.scc_grammar_terminals.specs.Answer.{Gives};
 ghost use Rattle.scc_grammar_spec.specs.ParseItems as p;
 
@@ -26,7 +26,7 @@ pub fn body<'a>(c: Reader, ts: &'a [Seen]) -> Read<'a, Option<List<Stmt>>>
     Ok((Some(of), rest))
 }
 
-/// The rest of a function, behind its name.
+/// The rest of a function, after its name.
 #[tactic(auto, unfolding(scc_grammar_spec::specs::ParseItems::function_rest))]
 pub fn function_rest<'a>(
     c: Reader,
@@ -47,7 +47,7 @@ pub fn function_rest<'a>(
     ))
 }
 
-/// The rest of a constructor, behind its name.
+/// The rest of a constructor, after its name.
 #[tactic(auto, unfolding(scc_grammar_spec::specs::ParseItems::constructor_rest))]
 pub fn constructor_rest<'a>(c: Reader, x: (Name, Place), ts: &'a [Seen]) -> Read<'a, Item>
     ensures { Gives (λ x. (x.0, x.1.now)) result (p.constructor_rest c.entry.levels c.entry.names.now x ts.now) }

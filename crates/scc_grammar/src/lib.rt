@@ -1,4 +1,7 @@
 //! The syntax tree of a source, by the grammar of the subset.
+//!
+//! `parsing` has `parse`, whose promise is `Claim` of the definitions; the other files read what they are named
+//! after.
 #![tactic(auto)]
 
 mod class;

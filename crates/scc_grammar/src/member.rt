@@ -57,7 +57,7 @@ impl Members {
     }
 }
 
-// A field of the type, behind the items so far.
+// A field of the type, after the items so far.
 fn push_field(members: &mut Members, names: &Table, ty: Ty, decl: Decl) -> Result<(), NoMemory>
     ensures items { members.new.items ≡ members.old.items }
     ensures field { IfOk result (λ u. members.new.fields ≡ members.old.fields ++ b.field_of (b.body_of names.now members.old.items members.old.fields) ty decl ∷ []) }
@@ -96,7 +96,7 @@ fn more_fields<'a>(c: Reader, members: &mut Members, typed: &[Seen], ts: &'a [Se
     Ok(((), rest))
 }
 
-/// The rest of fields of a type, which the tokens `typed` begin with, behind the first one.
+/// The rest of fields of a type, which the tokens `typed` begin with, after the first one.
 #[tactic(auto, unfolding(scc_grammar_spec::specs::ParseFile::fields_rest))]
 fn fields_rest<'a>(
     c: Reader,
@@ -115,7 +115,7 @@ fn fields_rest<'a>(
     Ok(((), rest))
 }
 
-// Fields of a type, behind the first one's name.
+// Fields of a type, after the first one's name.
 #[tactic(auto, unfolding(scc_grammar_spec::specs::ParseFile::fields_named))]
 fn fields_named<'a>(
     c: Reader,
@@ -177,7 +177,7 @@ fn no_front(found: &[bool]) -> bool
     }
 }
 
-// Behind the name behind a type.
+// After the name that follows a type.
 #[tactic(auto, unfolding(scc_grammar_spec::specs::ParseFile::member_named))]
 fn member_named<'a>(
     c: Reader,
@@ -237,7 +237,7 @@ fn is_held(found: &[bool], ts: &[Seen]) -> bool
     }
 }
 
-// Behind a type.
+// After a type.
 #[tactic(auto, unfolding(scc_grammar_spec::specs::ParseFile::member_typed))]
 fn member_typed<'a>(
     c: Reader,
@@ -257,7 +257,7 @@ fn member_typed<'a>(
     named_member(c, members, found, typed, of, ts)
 }
 
-// Behind a `const`, which stands at the place and before these tokens.
+// After a `const`, which stands at the place and before these tokens.
 #[tactic(auto, using(crate::proofs::TypeAgain::again_constant), unfolding(scc_grammar_spec::specs::ParseFile::constant_member))]
 fn constant_member<'a>(
     c: Reader,
@@ -299,7 +299,7 @@ fn member_name<'a>(c: Reader, members: &mut Members, ts: &'a [Seen]) -> Read<'a,
     Err(Halt::Unexpected(place_of(rest)))
 }
 
-// Behind `static` and `inline`.
+// After `static` and `inline`.
 #[tactic(auto, using(crate::proofs::TypeAgain::again_base), unfolding(scc_grammar_spec::specs::ParseFile::member_fronted))]
 fn member_fronted<'a>(
     c: Reader,
@@ -325,7 +325,7 @@ fn member_fronted<'a>(
     member_typed(c, members, found, ts, of, rest)
 }
 
-// Behind `public`, `private` or `protected`.
+// After `public`, `private` or `protected`.
 #[tactic(auto, unfolding(scc_grammar_spec::specs::ParseFile::member_by))]
 fn access<'a>(c: Reader, members: &mut Members, w: Place, ts: &'a [Seen]) -> Read<'a, ()>
     ensures { Gives (λ r. (b.body_of c.entry.names.now members.new.items members.new.fields, r.1.now)) result (p.member_by c.entry.levels (b.body_of c.entry.names.now members.old.items members.old.fields) i.access_start w ts.now) }
@@ -334,7 +334,7 @@ fn access<'a>(c: Reader, members: &mut Members, w: Place, ts: &'a [Seen]) -> Rea
     Ok(((), rest))
 }
 
-// Behind `SC_HAS_PROCESS`.
+// After `SC_HAS_PROCESS`.
 #[tactic(auto, unfolding(scc_grammar_spec::specs::ParseFile::member_by))]
 fn has_process<'a>(c: Reader, members: &mut Members, w: Place, ts: &'a [Seen]) -> Read<'a, ()>
     ensures { Gives (λ r. (b.body_of c.entry.names.now members.new.items members.new.fields, r.1.now)) result (p.member_by c.entry.levels (b.body_of c.entry.names.now members.old.items members.old.fields) i.has_process_start w ts.now) }
@@ -346,7 +346,7 @@ fn has_process<'a>(c: Reader, members: &mut Members, w: Place, ts: &'a [Seen]) -
     Ok(((), rest))
 }
 
-// Behind `SC_CTOR`.
+// After `SC_CTOR`.
 #[tactic(auto, unfolding(scc_grammar_spec::specs::ParseFile::member_by))]
 fn module_constructor<'a>(
     c: Reader,
@@ -366,7 +366,7 @@ fn module_constructor<'a>(
     Ok(((), rest))
 }
 
-// Behind `explicit`.
+// After `explicit`.
 #[tactic(auto, unfolding(scc_grammar_spec::specs::ParseFile::member_by))]
 fn explicit<'a>(c: Reader, members: &mut Members, w: Place, ts: &'a [Seen]) -> Read<'a, ()>
     ensures { Gives (λ r. (b.body_of c.entry.names.now members.new.items members.new.fields, r.1.now)) result (p.member_by c.entry.levels (b.body_of c.entry.names.now members.old.items members.old.fields) i.explicit_start w ts.now) }
@@ -377,7 +377,7 @@ fn explicit<'a>(c: Reader, members: &mut Members, w: Place, ts: &'a [Seen]) -> R
     Ok(((), rest))
 }
 
-// Behind `typedef`.
+// After `typedef`.
 #[tactic(auto, unfolding(scc_grammar_spec::specs::ParseFile::member_by, scc_grammar_spec::specs::ParseItems::item_by))]
 fn member_alias<'a>(
     alloc: Global,
@@ -394,7 +394,7 @@ fn member_alias<'a>(
     Ok(((), rest))
 }
 
-// Behind `enum`.
+// After `enum`.
 #[tactic(auto, unfolding(scc_grammar_spec::specs::ParseFile::member_by, scc_grammar_spec::specs::ParseItems::item_by))]
 fn member_enumeration<'a>(
     alloc: Global,

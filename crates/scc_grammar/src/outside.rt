@@ -28,7 +28,7 @@ use scc_grammar_terminals::terminal::Seen;
 use scc_grammar_terminals::words::{constant, inline_word, void_word};
 use scc_tree::{Item, Param, Ty, TyArg};
 
-/// The rest of a function outside its class, behind the class's name.
+/// The rest of a function outside its class, after the class's name.
 #[tactic(auto, unfolding(scc_grammar_spec::specs::ParseItems::outside_function))]
 fn outside_function<'a>(
     c: Reader,
@@ -52,7 +52,7 @@ fn outside_function<'a>(
     Ok((outside_item(x.1, of_template, x.0, args, function), rest))
 }
 
-/// The rest of a constructor outside its class, behind the class's name and its arguments.
+/// The rest of a constructor outside its class, after the class's name and its arguments.
 #[tactic(auto, unfolding(scc_grammar_spec::specs::ParseItems::outside_constructor))]
 fn outside_constructor<'a>(
     c: Reader,
@@ -75,7 +75,7 @@ fn outside_constructor<'a>(
     Ok((outside_item(x.1, of_template, x.0, args, function), rest))
 }
 
-// Behind the name behind a type, or `void`.
+// After the name that follows a type, or `void`.
 #[tactic(auto, unfolding(scc_grammar_spec::specs::ParseItems::named_function))]
 fn named_function<'a>(
     c: Reader,
@@ -95,7 +95,7 @@ fn named_function<'a>(
     function_rest(c, gives, x, ts)
 }
 
-// Behind a type.
+// After a type.
 #[tactic(auto, unfolding(scc_grammar_spec::specs::ParseItems::typed))]
 fn typed<'a>(c: Reader, found: &[bool], of: TypeRead, ts: &'a [Seen]) -> Read<'a, Item>
     ensures { Gives (λ x. (x.0, x.1.now)) result (p.typed c.entry.levels c.entry.names.now found.now of ts.now) }
@@ -110,7 +110,7 @@ fn typed<'a>(c: Reader, found: &[bool], of: TypeRead, ts: &'a [Seen]) -> Read<'a
     named_function(c, found, Some(of.ty), x, rest)
 }
 
-// Behind a `const`, which stands at the place.
+// After a `const`, which stands at the place.
 #[tactic(auto, unfolding(scc_grammar_spec::specs::ParseItems::constant_by))]
 fn constant_by<'a>(c: Reader, found: &[bool], q: Place, ts: &'a [Seen]) -> Read<'a, Item>
     ensures { Gives (λ x. (x.0, x.1.now)) result (p.constant_by c.entry.levels c.entry.names.now found.now q ts.now) }
@@ -139,7 +139,7 @@ fn by_name<'a>(c: Reader, ts: &'a [Seen]) -> Read<'a, Item>
     Err(Halt::Unexpected(place_of(rest)))
 }
 
-/// A function, a constant or a body outside its class, behind `static` and `inline`.
+/// A function, a constant or a body outside its class, after `static` and `inline`.
 #[tactic(auto, unfolding(scc_grammar_spec::specs::ParseItems::fronted))]
 pub fn fronted<'a>(c: Reader, found: &[bool], ts: &'a [Seen]) -> Read<'a, Item>
     ensures { Gives (λ x. (x.0, x.1.now)) result (p.fronted c.entry.levels c.entry.names.now found.now ts.now) }
@@ -160,7 +160,7 @@ pub fn fronted<'a>(c: Reader, found: &[bool], ts: &'a [Seen]) -> Read<'a, Item>
     typed(c, found, of, rest)
 }
 
-// Behind the parameters of a template, and `inline`.
+// After the parameters of a template, and `inline`.
 #[tactic(auto, unfolding(scc_grammar_spec::specs::ParseItems::outside_result))]
 fn outside_result<'a>(c: Reader, params: List<Param>, ts: &'a [Seen]) -> Read<'a, Item>
     ensures { Gives (λ x. (x.0, x.1.now)) result (p.outside_result c.entry.levels c.entry.names.now params ts.now) }
@@ -192,7 +192,7 @@ fn outside_name<'a>(c: Reader, params: List<Param>, ts: &'a [Seen]) -> Read<'a, 
     Err(Halt::Unexpected(place_of(rest)))
 }
 
-/// A body outside its class, behind the parameters of a template.
+/// A body outside its class, after the parameters of a template.
 #[tactic(auto, unfolding(scc_grammar_spec::specs::ParseItems::outside))]
 pub fn outside<'a>(c: Reader, params: List<Param>, ts: &'a [Seen]) -> Read<'a, Item>
     ensures { Gives (λ x. (x.0, x.1.now)) result (p.outside c.entry.levels c.entry.names.now params ts.now) }

@@ -47,13 +47,13 @@ fn refused(code: Code, place: Place) -> Stop
     })
 }
 
-// A halt as the refusal that it is; the end of the last file stands for a place behind all tokens.
+// A halt as the refusal that it is; the end of the last file stands for a place after all tokens.
 fn fault(halt: Halt, end: Place) -> Stop
     ensures { result ≡ stop_of end halt }
 {
     match halt {
         Halt::NoMemory => Stop::NoMemory,
-        Halt::Unexpected(place) => refused(Code::Unexpected, place.unwrap_or(end)),
-        Halt::TooDeep(place) => refused(Code::TooDeep, place.unwrap_or(end)),
+        Halt::Unexpected(place) => refused(Code::Unexpected, place.unwrap_or(end)), // E201
+        Halt::TooDeep(place) => refused(Code::TooDeep, place.unwrap_or(end)), // E202
     }
 }

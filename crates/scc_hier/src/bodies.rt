@@ -273,7 +273,7 @@ fn class_of(
     Ok(class)
 }
 
-// The module of a module object, behind those of the ones in it.
+// The module of a module object, after those of the ones in it.
 fn make(alloc: Global, k: usize, given: Given<'_>, making: &mut Making) -> Result<(), NoMemory> {
     let named = names_of(alloc, k, given, &mut making.places)?;
     note_wires(named.as_slice(), k, &mut making.wires)?;

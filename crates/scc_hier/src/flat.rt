@@ -21,7 +21,7 @@ struct Visit<'a> {
 struct Flat {
     vars: List<SvVar>,
     blocks: List<SvBlock>,
-    /// The path of the instance that is gone through, with a `$` behind it.
+    /// The path of the instance that is gone through, with a `$` after it.
     path: Vec<u8>,
 }
 

@@ -1,4 +1,8 @@
 //! From a module to modules that hold instances of one another (IEEE 1800-2017, section 23.3), and back.
+//!
+//! `tree` and `paths` have the module objects, `plan` and `ports` where they and their variables stand; `names` and
+//! `bodies` make a module for each object, equal ones once; `module` has `hier`, and `flat` has `flatten`, which
+//! makes one module again.
 #![tactic(auto)]
 
 mod block;

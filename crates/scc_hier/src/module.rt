@@ -125,7 +125,7 @@ fn modules(
 /// A variable belongs to the module object with the longest path such that its name begins with that path and `$`, else to the top.
 /// It is declared in the lowest module object around the one that it belongs to and the homes of all blocks that mention it, a port
 /// of the module in the top; and is a port of each below that on the way to one of them: an output where a block of that module object
-/// or of one in it assigns it, else an input. Where it is declared, its name stands without the path and the `$` behind it. As a port
+/// or of one in it assigns it, else an input. Where it is declared, its name stands without the path and the `$` after it. As a port
 /// it has the name that the plan gives; else its name without the path; else `outer$$K`, counted from 0.
 ///
 /// The only error is want of memory. The plans are as `HierPlan` says, each number is in range, and the module is one that the reader of

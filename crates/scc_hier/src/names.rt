@@ -142,7 +142,7 @@ fn others(
 }
 
 /// Those of a module object but the top: its ports, then what it declares. The list `places` has a 0 for each variable, before and
-/// behind.
+/// after.
 pub fn names_in(
     alloc: Global,
     m: &SvModule,

@@ -101,7 +101,7 @@ fn sizes(alloc: Global, parent: &[usize]) -> Result<Vec<usize>, NoMemory> {
     Ok(size)
 }
 
-// The place of each in the walk: behind the one around it and those before it there.
+// The place of each in the walk: after the one around it and those before it there.
 fn places(alloc: Global, parent: &[usize]) -> Result<Vec<usize>, NoMemory> {
     let size = sizes(alloc, parent)?;
     let mut place = vec![in alloc; 0; parent.len()]?;

@@ -6,7 +6,7 @@ use scc_svtree::{Dir, SvVar};
 use scc_svtree_order::{Rows, group_blocks};
 use std::alloc::Global;
 
-/// The groups of modules that lead to one another by their instances: a module that leads to others alone has a group behind theirs.
+/// The groups of modules that lead to one another by their instances: a module that leads to others alone has a group after theirs.
 pub fn groups(alloc: Global, h: &Hier) -> Result<Vec<usize>, NoMemory> {
     let modules = h.modules.as_slice();
     let mut rows = Rows::new(alloc);
@@ -95,7 +95,7 @@ pub fn first_unconnected(h: &Hier, list: &[RawHier], groups: &[usize]) -> Option
     None
 }
 
-/// The modules, each behind those whose instances it holds, where none leads to itself.
+/// The modules, each after those whose instances it holds, where none leads to itself.
 pub fn from_leaves(alloc: Global, groups: &[usize]) -> Result<Vec<usize>, NoMemory> {
     let mut order = Vec::new(alloc);
     for _ in groups {

@@ -83,7 +83,7 @@ fn wires(alloc: Global, whole: usize, ts: &[u8]) -> Result<(List<RawWire>, &[u8]
     Err(Halt::from(lost()))
 }
 
-// An instance from behind its blanks.
+// An instance from after its blanks.
 fn instance(alloc: Global, whole: usize, ts: &[u8]) -> Result<(RawInstance, &[u8]), Halt> {
     let (module, rest) = name_at(alloc, whole, ts)?;
     let (_, rest) = text(b" ", rest)?;
@@ -101,7 +101,7 @@ fn instance(alloc: Global, whole: usize, ts: &[u8]) -> Result<(RawInstance, &[u8
     ))
 }
 
-// Whether these bytes, which stand behind two blanks, begin with this word and no longer one.
+// Whether these bytes, which stand after two blanks, begin with this word and no longer one.
 fn begins(word: &[u8], ts: &[u8]) -> bool {
     let (found, _) = word_bytes(ts);
     found == word
@@ -119,7 +119,7 @@ fn begins_block(ts: &[u8]) -> bool {
     begins(b"always_comb", ts) || begins(b"always_ff", ts)
 }
 
-// What stands behind two blanks.
+// What stands after two blanks.
 fn behind_blanks(ts: &[u8]) -> Option<&[u8]> {
     match ts {
         [b' ', b' ', rest @ ..] => Some(rest),
@@ -195,7 +195,7 @@ fn blocks<'a>(
     Err(Halt::from(lost()))
 }
 
-// A module from behind its ports.
+// A module from after its ports.
 fn items_behind(
     alloc: Global,
     whole: usize,

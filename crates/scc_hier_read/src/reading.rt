@@ -28,18 +28,18 @@ struct Said {
 fn connected(alloc: Global, list: &[RawHier]) -> Result<Hier, Stop> {
     let found = first_wrong_of(alloc, list)?;
     if let Some(at) = found.size {
-        return Err(refusal(Code::SvSize, at));
+        return Err(refusal(Code::SvSize, at)); // E702
     }
     if let Some(at) = found.name {
-        return Err(refusal(Code::SvName, at));
+        return Err(refusal(Code::SvName, at)); // E703
     }
     let h = made(alloc, list)?;
     let groups = groups(alloc, &h)?;
     if let Some(at) = first_unconnected(&h, list, groups.as_slice()) {
-        return Err(refusal(Code::SvInstance, at));
+        return Err(refusal(Code::SvInstance, at)); // E707
     }
     if is_too_large(alloc, &h, groups.as_slice())? {
-        return Err(refusal(Code::HierTooLarge, 0));
+        return Err(refusal(Code::HierTooLarge, 0)); // E708
     }
     Ok(h)
 }

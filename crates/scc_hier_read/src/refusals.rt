@@ -15,8 +15,8 @@ pub fn refusal(code: Code, at: usize) -> Stop {
 pub fn stop_at(bytes: &[u8], h: Halt) -> Stop {
     match h {
         Halt::NoMemory => Stop::NoMemory,
-        Halt::Unexpected(left) => refusal(Code::SvUnexpected, bytes.len().saturating_sub(left)),
-        Halt::TooDeep(left) => refusal(Code::SvDepth, bytes.len().saturating_sub(left)),
+        Halt::Unexpected(left) => refusal(Code::SvUnexpected, bytes.len().saturating_sub(left)), // E701
+        Halt::TooDeep(left) => refusal(Code::SvDepth, bytes.len().saturating_sub(left)), // E706
     }
 }
 

@@ -74,7 +74,7 @@ impl Growing {
             return Err(lost().into());
         };
         if is_too_large(facts) {
-            return Err(Stop::refused(Code::TooLarge, process.place));
+            return Err(Stop::refused(Code::TooLarge, process.place)); // E601
         }
         let object = d.objects.get(process.object as usize).ok_or(lost())?;
         let here = Here {

@@ -197,7 +197,7 @@ impl Growing {
         })
     }
 
-    // The call of a function: its result is 0 at first, its parameters are set, and its body stands behind.
+    // The call of a function: its result is 0 at first, its parameters are set, and its body stands after these.
     #[cycle(copied)]
     #[inline(never)]
     fn call(
@@ -353,7 +353,7 @@ impl Growing {
                 if let CorePart::Index { at, .. } = part
                     && known.value(at).is_none()
                 {
-                    return Err(Stop::refused(Code::StaticIndex, left.place));
+                    return Err(Stop::refused(Code::StaticIndex, left.place)); // E512
                 }
             }
         }

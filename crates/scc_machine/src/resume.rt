@@ -15,9 +15,9 @@ pub struct ResetAt {
 pub enum Stage {
     /// Before its first statement.
     Fresh,
-    /// Behind a wait.
+    /// After a wait.
     Suspended,
-    /// Behind its last statement.
+    /// After its last statement.
     Ended,
 }
 

@@ -113,7 +113,7 @@ pub enum Act {
         at: Place,
         soft: bool,
     },
-    /// So many slots behind.
+    /// So many slots further on.
     Behind {
         spot: u32,
         by: u32,

@@ -1,5 +1,8 @@
 //! Flat code over slots: the form in which the runner of the source side runs statements. Expressions are acts on words of 128
 //! bits, statements end in jumps, and a call has a frame of slots of its own.
+//!
+//! `step` has the steps, `act` what each does, `machine` and `thread` run them; `store` and `place` hold words and
+//! places, `requests` what was asked of signals, `calls` frames; `forms` and `maker` make code.
 #![tactic(auto)]
 
 mod act;

@@ -9,9 +9,9 @@ pub const NOWHERE: u32 = 1 << 31;
 /// A slot, as code names it.
 #[derive(Clone, Copy)]
 pub enum Place {
-    /// So many slots behind the first of the running call.
+    /// So many slots after the first of the running call.
     Local(u32),
-    /// So many slots behind the first of the object whose function runs.
+    /// So many slots after the first of the object whose function runs.
     Member(u32),
     /// The slot whose number the location of that number holds.
     Spot(u32),
@@ -33,7 +33,7 @@ pub enum Operand {
 /// A call that runs.
 #[derive(Clone, Copy)]
 pub struct Frame {
-    /// The line behind the call.
+    /// The line after the call.
     pub back: u32,
     /// Its first slot.
     pub base: u32,

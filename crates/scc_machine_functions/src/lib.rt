@@ -1,4 +1,7 @@
 //! Flat code of a program's functions, in which names are slots.
+//!
+//! A function's code is made when it is first entered: `walk` and `statement` have statements, `value`, `convert`,
+//! `locate` and `target` expressions and locations, `layout` where things lie.
 #![tactic(auto)]
 
 mod code;

@@ -86,7 +86,7 @@ pub struct Valued {
     pub known: Option<u128>,
 }
 
-/// So many slots behind a place that is no location in between; nowhere for more than there may be.
+/// So many slots after a place that is no location in between; nowhere for more than there may be.
 pub fn beyond(at: Place, by: u32) -> Place {
     match at {
         Place::Local(first) => Place::Local(first.saturating_add(by).min(NOWHERE)),

@@ -1,4 +1,8 @@
 //! Emitted modules whose arrays of registers are memories.
+//!
+//! `module` has the types; `declared`, `rewrite` and `making` make a module with memories (`memories`); `printing`,
+//! `written` and `printed` print it (`print_memory`); `opened`, `address`, `opening` and `spread` make its memories
+//! arrays again (`expanded`).
 #![tactic(auto)]
 
 mod address;

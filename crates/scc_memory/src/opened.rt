@@ -11,7 +11,7 @@ pub struct Opened {
     pub vars: List<SvVar>,
     /// For each variable its number; none for those of memories.
     ids: Vec<Option<u32>>,
-    /// For each memory the number of its first element. Behind each element stands its next value.
+    /// For each memory the number of its first element. After each element stands its next value.
     firsts: Vec<u32>,
     /// For each variable the memory to which it belongs.
     pub of: Vec<Option<u32>>,

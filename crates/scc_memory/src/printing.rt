@@ -18,7 +18,7 @@ enum Part<'a> {
     Fixed(Fixed),
     Operator(SvBinary),
     Expr(&'a MemExpr),
-    /// Further parts of a concatenation, each behind a comma.
+    /// Further parts of a concatenation, each after a comma.
     More(&'a [MemExpr]),
 }
 
@@ -46,7 +46,7 @@ pub fn expr(
     Err(lost())
 }
 
-// Appends the first piece of an expression; the parts behind it go to the stack, the next one last.
+// Appends the first piece of an expression; the parts after it go to the stack, the next one last.
 fn begin<'a>(
     out: &mut Text,
     names: Spelled<'_>,
@@ -103,7 +103,7 @@ fn begin<'a>(
     }
 }
 
-// An expression, and a piece behind it.
+// An expression, and a piece after it.
 fn closed<'a>(parts: &mut Vec<Part<'a>>, end: Fixed, e: &'a MemExpr) -> Result<(), NoMemory> {
     push(parts, Part::Fixed(end))?;
     push(parts, Part::Expr(e))

@@ -1,4 +1,7 @@
 //! Arrays of registers in an emitted module that can be memories: at each edge at most one element gets a new value.
+//!
+//! `candidates` finds arrays by names and widths; `tree` reads and `write` writes by an index; `uses` and `paths`
+//! look for what a memory can't have; `verdict` has `taken`.
 #![tactic(auto)]
 
 mod array;

@@ -98,7 +98,7 @@ struct Under<'a> {
     width: u32,
 }
 
-// The number behind the last element of a tree that begins with the element `low`.
+// The number after the last element of a tree that begins with the element `low`.
 #[cycle(leaves)]
 fn leaves(e: &SvExpr, under: Under<'_>, low: u32, levels: u32) -> Option<u32> {
     match e.node.get() {

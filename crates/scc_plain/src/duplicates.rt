@@ -62,7 +62,7 @@ pub fn find_duplicates(alloc: Global, tree: &FileTree) -> Result<(), Stop>
 fn twice<T>(place: Place, first: Place) -> Result<T, Stop>
     ensures stop { IfErr result MayStop }
 {
-    Err(Stop::refused_beside(Code::DuplicateName, place, first))
+    Err(Stop::refused_beside(Code::DuplicateName, place, first)) // E302
 }
 
 impl Scopes {

@@ -222,7 +222,7 @@ impl Members {
         ensures stop { IfErr result MayStop }
     {
         if f.constructor && f.name != self.name {
-            return refuse(Code::UnknownName, f.place);
+            return refuse(Code::UnknownName, f.place); // E301
         }
         if w.templates.first_declared(self.i, f.name, f.constructor) != Some(k) {
             return Ok(());

@@ -79,7 +79,7 @@ impl Calls {
                 && on == CallOn::Class
                 && users.has(to.0)
             {
-                return refuse(Code::Mismatch, place);
+                return refuse(Code::Mismatch, place); // E304
             }
         }
         Ok(())
@@ -135,7 +135,7 @@ impl<'a> Cycles<'a> {
         if !reaches_itself(w.alloc, self.graph, k)? {
             return gone();
         }
-        refuse(Code::Recursion, place)
+        refuse(Code::Recursion, place) // E309
     }
 }
 
@@ -169,7 +169,7 @@ fn class_place(i: InstanceId, tree: &FileTree, w: &Walk) -> Result<Place, NoMemo
     Ok(tree.items.get(class.0 as usize).ok_or(lost())?.place)
 }
 
-// Looks at the functions of an instance, or at one of the file, from the walk's one of that number on; gives the number behind.
+// Looks at the functions of an instance, or at one of the file, from the walk's one of that number on; gives the number after.
 fn functions_of(
     scope: Option<InstanceId>,
     from: usize,

@@ -94,7 +94,8 @@ fn reached(top: Name, tree: &FileTree, w: &mut Walk) -> Result<Plain, Stop>
     Ok(program)
 }
 
-// The walk over all that is needed.
+// The walk over all that is needed, for refusals, instances and order. `write` walks the bodies again, with the final numbers of
+// functions, so that no call is patched.
 fn walked(tree: &FileTree, w: &mut Walk) -> Result<Order, Stop>
     ensures stop { IfErr result MayStop }
 {
@@ -105,12 +106,12 @@ fn walked(tree: &FileTree, w: &mut Walk) -> Result<Order, Stop>
         return sooner(stop, w.late);
     }
     match w.late {
-        Some(late) => refuse(Code::CallPlace, late),
+        Some(late) => refuse(Code::CallPlace, late), // E313
         None => Ok(order),
     }
 }
 
-// A call that stands where none may is refused behind all else, but for what stands at its place with a smaller number.
+// A call that stands where none may is refused after all else, but for what stands at its place with a smaller number.
 fn sooner<T>(stop: Stop, late: Option<Place>) -> Result<T, Stop>
     requires { MayStop stop }
     ensures stop { IfErr result MayStop }

@@ -14,12 +14,12 @@ pub fn make_top(top: Name, tree: &FileTree, w: &mut Walk) -> Result<(), Stop>
     ensures stop { IfErr result MayStop }
 {
     let Some(item) = w.templates.file_class(top) else {
-        return refuse(Code::UnknownName, tree.end);
+        return refuse(Code::UnknownName, tree.end); // E301
     };
     let class = class_at(tree, item).ok_or(lost())?;
     let place = tree.items.get(item).ok_or(lost())?.place;
     if !class.params.is_empty() {
-        return refuse(Code::Arguments, place);
+        return refuse(Code::Arguments, place); // E307
     }
     let number = u32::try_from(item).map_err(|_| lost())?;
     let none = List::new(w.alloc);

@@ -87,7 +87,7 @@ impl Body {
         self.forms.get(local as usize).copied()
     }
 
-    /// Puts the calls of the statement in work behind other statements.
+    /// Puts the calls of the statement in work after other statements.
     pub fn flush(&mut self, out: &mut List<PlainStmt>) -> Result<(), NoMemory> {
         if self.lifted.is_empty() {
             return Ok(());

@@ -33,7 +33,7 @@ impl Walk {
             constructor: false,
         };
         let Some(f) = self.function(key, own, tree)? else {
-            return refuse(Code::UnknownName, own);
+            return refuse(Code::UnknownName, own); // E301
         };
         self.sign(f, tree)?;
         Ok(f)

@@ -72,7 +72,7 @@ impl Walk {
             ExprNode::Null => Ok(Meant::Null),
             ExprNode::This => self.this(place, b),
             ExprNode::Text => Ok(Meant::Text),
-            ExprNode::Make { .. } => refuse(Code::Mismatch, place),
+            ExprNode::Make { .. } => refuse(Code::Mismatch, place), // E304
         }
     }
 

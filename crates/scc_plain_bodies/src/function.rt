@@ -172,7 +172,7 @@ impl Walk {
         let t = self.templates.type_in(cx, ty)?;
         match number_kind(t) {
             Some(kind) => Ok(Some(kind)),
-            None => refuse(Code::Mismatch, f.place),
+            None => refuse(Code::Mismatch, f.place), // E304
         }
     }
 

@@ -1,4 +1,8 @@
 //! What the bodies of functions say: their variables, expressions and calls (C++, [expr]; IEEE 1666-2011, section 7).
+//!
+//! `walk` has `Walk`, what is known of a program; `body` has `Body`, what is known of one body. `function` finds
+//! functions and their signatures when first asked for; `name` and `call` take names and calls; `expression` has
+//! the cycle of calls over them. Calls of functions go to `lifted`, before their statement.
 #![tactic(auto)]
 
 mod body;

@@ -26,7 +26,7 @@ impl Walk {
         ensures stop { IfErr result MayStop }
     {
         if b.scope.is_none() {
-            return refuse(Code::Mismatch, place);
+            return refuse(Code::Mismatch, place); // E304
         }
         self.note_this(b)?;
         Ok(Meant::This)
@@ -44,7 +44,7 @@ impl Walk {
     {
         match self.look_up(name, tree, b) {
             Some(found) => self.declared(found, name, place, None, tree, b),
-            None => refuse(Code::UnknownName, place),
+            None => refuse(Code::UnknownName, place), // E301
         }
     }
 

@@ -113,7 +113,7 @@ impl Walk {
         let v = self.templates.constant_in(cx, e)?;
         match v.small() {
             Some(n) if 1 <= n && n <= MOST => Ok(n),
-            _ => refuse(Code::Width, e.place),
+            _ => refuse(Code::Width, e.place), // E303
         }
     }
 

@@ -48,7 +48,7 @@ pub(crate) fn of_method(method: Method, of: Subject, count: usize) -> Call {
     }
 }
 
-// Brackets behind what is no function: a binding, or a range of bits.
+// Brackets after what is no function: a binding, or a range of bits.
 pub(crate) fn of_subject(of: Subject, is_port: bool, count: usize) -> Call {
     if is_port && count == 1 {
         let call = PortCall::Bind;

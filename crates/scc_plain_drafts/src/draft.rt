@@ -83,7 +83,7 @@ pub fn convert(alloc: Global, x: Draft, to: Kind) -> Result<Draft, Stop>
         return Ok(x);
     }
     if !converts(x.expr.kind, to) {
-        return refuse(Code::Mismatch, x.place);
+        return refuse(Code::Mismatch, x.place); // E304
     }
     let place = x.expr.place;
     Ok(wrapped(alloc, x, to, place)?)
@@ -159,10 +159,10 @@ pub fn operate(
         return refuse(Code::Mismatch, at);
     };
     if too_wide(op, left_kind, right_kind) {
-        return refuse(Code::WideLoss, at);
+        return refuse(Code::WideLoss, at); // E310
     }
     if !divides(op, b.known) {
-        return refuse(Code::Divisor, at);
+        return refuse(Code::Divisor, at); // E311
     }
     let a = convert(alloc, a, left_kind)?;
     let b = convert(alloc, b, right_kind)?;

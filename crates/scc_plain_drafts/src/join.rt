@@ -79,8 +79,8 @@ impl Joining {
         let Joining { parts, sum, known } = self;
         match sum {
             Sum::Of(kind) => Ok(made(alloc, place, kind, PlainExprNode::Join(parts), known)?),
-            Sum::TooWide => refuse(Code::Width, place),
-            Sum::Nothing | Sum::NoPart => refuse(Code::Mismatch, place),
+            Sum::TooWide => refuse(Code::Width, place), // E303
+            Sum::Nothing | Sum::NoPart => refuse(Code::Mismatch, place), // E304
         }
     }
 }

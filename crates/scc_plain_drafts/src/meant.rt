@@ -158,7 +158,7 @@ impl Meant {
     {
         match self.subject() {
             Some(of) => of.value(alloc, place),
-            None => refuse(Code::Mismatch, place),
+            None => refuse(Code::Mismatch, place), // E304
         }
     }
 
@@ -170,7 +170,7 @@ impl Meant {
         }
     }
 
-    /// What brackets with so many arguments are behind it.
+    /// What brackets with so many arguments are after it.
     pub fn call(self, count: usize) -> Call {
         match self {
             Meant::Function {

@@ -91,7 +91,7 @@ fn bit(alloc: Global, of: Subject, i: Draft, place: Place) -> Result<Meant, Stop
             };
             picked(alloc, of, pick, Kind::Bool, place)
         }
-        None => refuse(Code::Mismatch, place),
+        None => refuse(Code::Mismatch, place), // E304
     }
 }
 
@@ -178,7 +178,7 @@ pub fn ranged(
             };
             picked(alloc, of, pick, r.kind, place)
         }
-        None => refuse(Code::RangeOrder, place),
+        None => refuse(Code::RangeOrder, place), // E312
     }
 }
 

@@ -28,7 +28,7 @@ pub(crate) fn behind(alloc: Global, l: Loc, place: Place) -> Result<Loc, Stop>
     ensures stop { IfErr result MayStop }
 {
     if !l.form.is_pointer() || l.form.dims > 0 {
-        return refuse(Code::Mismatch, place);
+        return refuse(Code::Mismatch, place); // E304
     }
     let form = Form {
         base: l.form.base,

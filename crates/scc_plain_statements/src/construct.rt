@@ -20,7 +20,7 @@ fn process_function(
     ensures stop { IfErr result MayStop }
 {
     let Some(found) = w.look_up(name, tree, b) else {
-        return refuse(Code::UnknownName, at);
+        return refuse(Code::UnknownName, at); // E301
     };
     if found.entry != Entry::Function {
         return refuse(Code::UnknownName, at);
@@ -96,7 +96,7 @@ fn edge_sense(call: PortCall, of: Subject, is_bare: bool, place: Place) -> Resul
     let rising = match call {
         PortCall::Pos => true,
         PortCall::Neg => false,
-        _ => return refuse(Code::Mismatch, place),
+        _ => return refuse(Code::Mismatch, place), // E304
     };
     if !is_bare {
         return refuse(Code::Mismatch, place);

@@ -27,13 +27,13 @@ pub(crate) fn init(
     let Some(name) = i.name else {
         names(args, tree, w, b)?;
         if args.len() != 1 {
-            return refuse(Code::Mismatch, i.place);
+            return refuse(Code::Mismatch, i.place); // E304
         }
         return Ok(b.flush(out)?);
     };
     let scope = b.scope.ok_or(lost())?;
     let Some(found) = w.templates.member(scope, name) else {
-        return refuse(Code::UnknownName, i.place);
+        return refuse(Code::UnknownName, i.place); // E301
     };
     let Entry::Field(k) = found.entry else {
         return refuse(Code::Mismatch, i.place);

@@ -1,5 +1,9 @@
 //! The statements of bodies (C++, [stmt.stmt]; IEEE 1666-2011, 5.2): loops, `switch`, local variables, assignments, calls, and what
 //! stands in constructors.
+//!
+//! `statement` and `stmts` have statements that hold others and lists of statements; `loops`, `count` and `switch`
+//! have loops; `local`, `simple` and `port` local variables, assignments and calls; `construct`, `make` and `init`
+//! what constructors hold; `function` functions whole.
 #![tactic(auto)]
 
 mod construct;

@@ -8,7 +8,7 @@ use scc_plain_bodies::{Body, Flow, Form, Walk, convert, refuse};
 use scc_plain_tree::{Base, PlainBase, PlainLeft, PlainNode, PlainStmt, Reach};
 use scc_tree::{Expr, FileTree, LocalDecl, LocalTree};
 
-/// Declares local variables. Each is known behind its declarator.
+/// Declares local variables. Each is known after its declarator.
 pub(crate) fn locals(
     declared: &LocalTree,
     tree: &FileTree,
@@ -52,7 +52,7 @@ fn local(
     let shape = w.shape_of(&declared.ty, &d.decl, tree, b)?;
     let form = Form::of(&shape)?;
     if !is_local_form(form) {
-        return refuse(Code::Mismatch, place);
+        return refuse(Code::Mismatch, place); // E304
     }
     let n = b.declare(d.decl.name, place, shape)?;
     let node = match &d.value {

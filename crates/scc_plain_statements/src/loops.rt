@@ -56,7 +56,7 @@ pub(crate) fn looped(
     Ok(())
 }
 
-/// The head of a `for`: what stands before the loop, the test, and what stands behind a turn.
+/// The head of a `for`: what stands before the loop, the test, and what stands after a turn.
 #[derive(Drop)]
 pub(crate) struct Head {
     before: List<PlainStmt>,

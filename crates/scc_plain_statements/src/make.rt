@@ -35,7 +35,7 @@ pub(crate) fn made(
     let name = ty.place;
     let args = make_args(args, own, MadeAt { place, name }, tree, flow, w, b)?;
     if !own.is_like(form) {
-        return refuse(Code::Mismatch, place);
+        return refuse(Code::Mismatch, place); // E304
     }
     Ok(args)
 }
@@ -158,7 +158,7 @@ pub fn constructor_for(
     }
     match constructor(i, place, tree, w)? {
         Some(f) => Ok(Some(f)),
-        None => refuse(Code::UnknownName, place),
+        None => refuse(Code::UnknownName, place), // E301
     }
 }
 

@@ -78,7 +78,7 @@ pub(crate) fn write(
     let x = only_value(args, tree, flow, w, b)?;
     let kind = match port.form.base {
         Base::Output(kind) | Base::Signal(kind) => kind,
-        _ => return refuse(Code::Mismatch, place),
+        _ => return refuse(Code::Mismatch, place), // E304
     };
     let Some(x) = x else {
         return refuse(Code::Mismatch, place);

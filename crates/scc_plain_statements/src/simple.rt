@@ -74,7 +74,7 @@ fn assigned(
     match w.meant(e, tree, flow, b)?.loc() {
         Some(l) => {
             if l.form.dims != 0 || l.form.vector && !l.form.is_pointer() {
-                return refuse(Code::Mismatch, place);
+                return refuse(Code::Mismatch, place); // E304
             }
             Ok(l)
         }

@@ -141,7 +141,7 @@ fn switch(
     switched(items, &mut cases, place, tree, flow, w, b, out)
 }
 
-// A `switch` behind its selector: its statements, by the labels that they stand behind.
+// A `switch` after its selector: its statements, by the labels that they stand after.
 #[cycle(statement)]
 fn switched(
     items: &[SwitchItem],
@@ -221,7 +221,7 @@ fn exit(block: Option<u32>, place: Place, out: &mut List<PlainStmt>) -> Result<(
 {
     match block {
         Some(n) => Ok(put(out, place, PlainNode::Exit(n))?),
-        None => refuse(Code::Mismatch, place),
+        None => refuse(Code::Mismatch, place), // E304
     }
 }
 
@@ -263,7 +263,7 @@ fn wait(
     let n = match count {
         Some(e) => match w.constant(e, tree, b)?.small() {
             Some(n) if 1 <= n && n <= 65_535 => n,
-            _ => return refuse(Code::ConstRange, e.place),
+            _ => return refuse(Code::ConstRange, e.place), // E306
         },
         None => 1,
     };

@@ -15,7 +15,7 @@ pub(crate) fn put(
     out.push(PlainStmt { place, node })
 }
 
-/// Appends a statement behind the calls that it makes.
+/// Appends a statement after the calls that it makes.
 pub(crate) fn finish(
     b: &mut Body,
     out: &mut List<PlainStmt>,

@@ -36,7 +36,7 @@ pub(crate) struct Tests {
     default: Option<u32>,
 }
 
-// The statements behind a label, which stands at `place`.
+// The statements after a label, which stands at `place`.
 #[derive(Drop)]
 struct Group {
     place: Place,
@@ -56,7 +56,7 @@ pub(crate) struct Cases {
     tests: Tests,
     /// The statements before a label, from the first one on.
     groups: List<Group>,
-    /// The statements behind the last label so far.
+    /// The statements after the last label so far.
     last: Group,
     hidden: List<Hidden>,
     /// How many labels there are, and how many are still to come.
@@ -98,7 +98,7 @@ pub(crate) fn selector(
 {
     let x = w.value(of, tree, flow, b)?;
     if !is_small(x.expr.kind) {
-        return refuse(Code::Mismatch, of.place);
+        return refuse(Code::Mismatch, of.place); // E304
     }
     b.flush(out)?;
     let kind = promoted(x.expr.kind);
@@ -123,7 +123,7 @@ impl Tests {
         ensures stop { IfErr result MayStop }
     {
         if let Some(first) = self.seen.get(&label).copied() {
-            return Err(Stop::refused_beside(Code::DuplicateName, place, first));
+            return Err(Stop::refused_beside(Code::DuplicateName, place, first)); // E302
         }
         self.keep(label, place)?;
         Ok(())
@@ -173,14 +173,14 @@ impl Cases {
         self.left = labels;
     }
 
-    /// What stands round a statement behind the labels so far.
+    /// What stands round a statement after the labels so far.
     pub fn flow(&self, flow: Flow) -> Result<Flow, NoMemory> {
         let blocks = self.left.checked_add(1).ok_or(lost())?;
         let inner = flow.inside(blocks)?;
         Ok(inner.within(Some(self.left), inner.next))
     }
 
-    /// The statements behind the last label, to which more are to be put.
+    /// The statements after the last label, to which more are to be put.
     pub fn taken(&mut self, alloc: Global) -> List<PlainStmt> {
         mem::replace(&mut self.last.list, List::new(alloc))
     }
@@ -241,7 +241,7 @@ impl Cases {
     }
 }
 
-// The tests and the groups of statements, each group behind a block of what stands before it.
+// The tests and the groups of statements, each group after a block of what stands before it.
 fn nested(
     tests: List<PlainStmt>,
     groups: List<Group>,

@@ -1,4 +1,7 @@
 //! Pointers and references, replaced by the objects to which they lead.
+//!
+//! `pass` has `Resolve`; `held` says where pointers lead; `locate`, `walk` and `stmt` have locations, expressions
+//! and statements without them.
 #![tactic(auto)]
 
 mod held;

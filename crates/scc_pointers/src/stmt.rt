@@ -1,4 +1,4 @@
-//! Statements.
+//! Statements. A pointer that is assigned after its declaration is refused as E511, an index before a member as E512.
 ghost use Rattle.std.specs.Prelude.{◌≡◌, Err};
 ghost use Rattle.scc_base.specs.declared.refusal.Refusal.{Refusal};
 ghost use Rattle.scc_base.specs.declared.refusal.Stop.TheVariants as stop;

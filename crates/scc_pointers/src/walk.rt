@@ -1,4 +1,4 @@
-//! Expressions and locations. First operands, and pointers in one another, are as many as a source is long, so they are walked by
+//! Expressions and locations (E405, E512). First operands, and pointers in one another, are as many as a source is long, so they are walked by
 //! loops.
 ghost use Rattle.std.specs.Prelude.{◌≡◌, Err};
 ghost use Rattle.scc_base.specs.declared.refusal.Refusal.{Refusal};

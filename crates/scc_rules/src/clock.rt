@@ -41,6 +41,7 @@ pub fn clock_as_data(alloc: Global, f: &Facts<'_>) -> Result<Option<Refusal>, No
             used = used || has(is_clock, *cell);
         }
         if used {
+            // E408.
             return Ok(refusal(Code::ClockAsData, p.place));
         }
         for mark in marks.as_slice() {
@@ -88,6 +89,7 @@ pub fn missing_sensitivity(alloc: Global, f: &Facts<'_>) -> Result<Option<Refusa
         }
         for mark in marks.as_slice() {
             if !mark.write && is_unlisted(alloc, f, mark, listed.as_slice(), turn)? {
+                // E503.
                 return Ok(refusal(Code::MissingSensitivity, mark.place));
             }
         }

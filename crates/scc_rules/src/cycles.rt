@@ -276,6 +276,7 @@ pub fn comb_loop(alloc: Global, f: &Facts<'_>, r: &Readers) -> Result<Option<Ref
                 return Err(lost());
             };
             return Ok(Some(Refusal {
+                // E505.
                 code: Code::CombLoop,
                 place: first.place,
                 other: Some(second.place),

@@ -58,6 +58,7 @@ fn check_facts(alloc: Global, f: &Facts<'_>) -> Result<Order, Stop>
 fn check_paths(alloc: Global, f: &Facts<'_>, paths: &[Paths]) -> Result<Order, Stop>
     ensures stop { IfErr result MayStop }
 {
+    // E504.
     refuse(first_of(paths, Code::Latch))?;
     let readers = readers_of(alloc, f)?;
     check_readers(alloc, f, paths, &readers)
@@ -72,6 +73,7 @@ fn check_readers(
     ensures stop { IfErr result MayStop }
 {
     refuse(comb_loop(alloc, f, readers)?)?;
+    // E506.
     refuse(first_of(paths, Code::CombState))?;
     refuse(wait_in_method(f))?;
     refuse(loop_may_not_wait(alloc, f)?)?;
@@ -136,6 +138,7 @@ fn in_method(is_thread: bool, place: Option<Place>) -> Option<Refusal>
     if is_thread {
         None
     } else {
+        // E507.
         told(Code::WaitInMethod, place)
     }
 }
@@ -187,6 +190,7 @@ fn idling(alloc: Global, live: &[CoreStmt]) -> Result<Option<Refusal>, NoMemory>
     ensures found { IfOk result (λ found. found ≡ spec.idling live.now) }
 {
     let place = loop_without_wait(alloc, live)?;
+    // E509.
     Ok(told(Code::LoopMayNotWait, place))
 }
 
@@ -218,6 +222,7 @@ fn ending(p: &CoreProcess, ends: bool) -> Option<Refusal>
     ensures found { result ≡ spec.ending p.now ends }
 {
     if p.sort == Sort2::Thread && ends {
+        // E510.
         at(Code::EndReached, p.place)
     } else {
         None
@@ -229,6 +234,7 @@ fn signal_index(alloc: Global, f: &Facts<'_>) -> Result<Option<Refusal>, NoMemor
 {
     for p in f.core.processes.as_slice() {
         if let Some(place) = first_chosen_signal(p.body.as_slice(), alloc, f)? {
+            // E513.
             return Ok(at(Code::SignalIndex, place));
         }
     }

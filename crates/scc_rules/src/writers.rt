@@ -61,6 +61,7 @@ pub fn two_writers(alloc: Global, f: &Facts<'_>) -> Result<Option<Refusal>, NoMe
                 continue;
             }
             if let Some(first) = clash(alloc, f, mark, process, &mut firsts)? {
+                // E501.
                 return Ok(refused(Code::TwoWriters, mark.statement, first));
             }
         }
@@ -185,6 +186,7 @@ fn shared_by(
         if let Some((number, place, first)) = met
             && number != mark.number
         {
+            // E502.
             return Ok(refused(Code::SharedVariable, place, first));
         }
         if f.role(mark.named.base)? != Role::Variable {

@@ -1,4 +1,7 @@
 //! Threads as states: waits, and the segments between them.
+//!
+//! `thread` has `split`, the order of what it looks at and its limits; `reset` says what an asynchronous reset may do,
+//! `kept` which cells live across a wait; `elements` and `sum` count elements under indices (`index_sum`).
 #![tactic(auto)]
 
 mod elements;

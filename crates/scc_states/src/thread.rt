@@ -23,7 +23,7 @@ const STATEMENTS: u32 = 65_536;
 const DEEPEST: u32 = 1_024;
 
 /// The segments of a thread of a checked core, by its number. It refuses a wait too many (TooManyStates), segments that are too
-/// large or too deep (SegmentsTooLarge), and what an asynchronous reset may not do.
+/// large or too deep (SegmentsTooLarge), and what an asynchronous reset may not do: E603, E604, E514.
 pub fn split(alloc: Global, c: &Core, process: u32) -> Result<Split, Stop>
     ensures stop { IfErr result MayStop }
 {

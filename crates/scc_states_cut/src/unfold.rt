@@ -160,6 +160,7 @@ fn within(count: &Count) -> Result<(), Stop>
     ensures { IsWithin count.now result }
 {
     match count.past() {
+        // E604.
         Some(place) => Err(Stop::refused(Code::SegmentsTooLarge, place)),
         None => Ok(()),
     }

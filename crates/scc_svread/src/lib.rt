@@ -1,4 +1,7 @@
 //! Emitted text as the module that it says (IEEE 1800-2017).
+//!
+//! `reading` has `read` and `read_many`; `module` has `module_of`, with `tree` for expressions and statements and
+//! `names` for variables by their names.
 #![tactic(auto)]
 
 mod laws;

@@ -34,9 +34,9 @@ fn stop_of(w: Wrong) -> Stop
     ensures { result ≡ reading.stop_of w }
 {
     match w {
-        Wrong::Size(at) => refusal(Code::SvSize, at),
-        Wrong::Name(at) => refusal(Code::SvName, at),
-        Wrong::Driver(at) => refusal(Code::SvDriver, at),
+        Wrong::Size(at) => refusal(Code::SvSize, at), // E702
+        Wrong::Name(at) => refusal(Code::SvName, at), // E703
+        Wrong::Driver(at) => refusal(Code::SvDriver, at), // E704
     }
 }
 
@@ -45,8 +45,8 @@ fn stop_at(bytes: &[u8], h: Halt) -> Stop
 {
     match h {
         Halt::NoMemory => Stop::NoMemory,
-        Halt::Unexpected(left) => refusal(Code::SvUnexpected, bytes.len().saturating_sub(left)),
-        Halt::TooDeep(left) => refusal(Code::SvDepth, bytes.len().saturating_sub(left)),
+        Halt::Unexpected(left) => refusal(Code::SvUnexpected, bytes.len().saturating_sub(left)), // E701
+        Halt::TooDeep(left) => refusal(Code::SvDepth, bytes.len().saturating_sub(left)), // E706
     }
 }
 
@@ -56,7 +56,7 @@ fn refused_at(alloc: Global, raw: &RawModule, block: usize) -> Result<Stop, NoMe
 {
     let starts = starts(alloc, raw)?;
     match starts.as_slice().get(block) {
-        Some(at) => Ok(refusal(Code::SvLoop, *at)),
+        Some(at) => Ok(refusal(Code::SvLoop, *at)), // E705
         None => Ok(refusal(Code::SvLoop, 0)),
     }
 }

@@ -51,7 +51,7 @@ impl Templates {
             return Ok(());
         };
         let Some((p, params)) = params.split_first() else {
-            return refuse(Code::Arguments, place);
+            return refuse(Code::Arguments, place); // E307
         };
         tasks.class(ClassTask::Given {
             at,
@@ -95,7 +95,7 @@ impl Templates {
         if let Some(name) = name_of(a)
             && self.look(cx, at, name).is_none()
         {
-            return refuse(Code::UnknownName, place_of(a));
+            return refuse(Code::UnknownName, place_of(a)); // E301
         }
         refuse(Code::Arguments, place_of(a))
     }

@@ -117,7 +117,7 @@ impl Templates {
         ensures stop { IfErr result MayStop }
     {
         if self.busy.contains(&key) {
-            return refuse(Code::TemplateDepth, at);
+            return refuse(Code::TemplateDepth, at); // E308
         }
         Ok(())
     }

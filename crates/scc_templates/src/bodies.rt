@@ -253,7 +253,7 @@ impl Templates {
         }
         let own = class.params.as_slice();
         if !is_general(params.as_slice(), args.as_slice(), own) {
-            return refuse(Code::Arguments, item.place);
+            return refuse(Code::Arguments, item.place); // E307
         }
         let routine = Routine {
             class: Some(number(work.class)?),

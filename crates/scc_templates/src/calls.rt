@@ -167,7 +167,7 @@ impl Templates {
         match &class.special {
             Some(special) => {
                 if args.len() != 0 {
-                    return refuse(Code::Arguments, at);
+                    return refuse(Code::Arguments, at); // E307
                 }
                 let name = tree
                     .items

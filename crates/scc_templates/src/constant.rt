@@ -75,7 +75,7 @@ impl Templates {
         ensures stop { IfErr result MayStop }
     {
         let Some(kind) = self.taken_type()?.kind() else {
-            return refuse(Code::Mismatch, own);
+            return refuse(Code::Mismatch, own); // E304
         };
         let place = value.place;
         tasks.value(ValueTask::Convert { kind, place })?;
@@ -108,7 +108,7 @@ impl Templates {
         }
     }
 
-    // The value that is written, else that behind the one before.
+    // The value that is written, else that after the one before.
     fn enumerated<'t>(
         &mut self,
         scope: Option<InstanceId>,
@@ -143,11 +143,11 @@ impl Templates {
     {
         match self.taken()?.held(INT) {
             Some(v) => self.give(v),
-            None => refuse(Code::ConstRange, place),
+            None => refuse(Code::ConstRange, place), // E306
         }
     }
 
-    /// The number behind that of the enumerator before.
+    /// The number after that of the enumerator before.
     pub(crate) fn successor(&mut self, place: Place) -> Result<(), Stop>
         ensures stop { IfErr result MayStop }
     {

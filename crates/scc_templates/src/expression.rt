@@ -20,7 +20,7 @@ pub(crate) fn converted(v: Value, to: Kind, at: Place) -> Result<Value, Stop>
 {
     match v.converted(to) {
         Some(v) => Ok(v),
-        None => refuse(Code::Mismatch, at),
+        None => refuse(Code::Mismatch, at), // E304
     }
 }
 
@@ -133,7 +133,7 @@ impl Templates {
                 tasks.value(ValueTask::Items { at, rest, place })?;
             }
             ExprNode::Null | ExprNode::Text => self.thing = Some(Thing::Other),
-            ExprNode::This => return refuse(Code::NotConstant, place),
+            ExprNode::This => return refuse(Code::NotConstant, place), // E305
             ExprNode::Make { .. } => return refuse(Code::Mismatch, place),
         }
         Ok(())
@@ -151,7 +151,7 @@ impl Templates {
     {
         match self.look(cx, at, name) {
             Some(found) => self.meant(found, name, place, cx, tasks),
-            None => refuse(Code::UnknownName, place),
+            None => refuse(Code::UnknownName, place), // E301
         }
     }
 

@@ -1,4 +1,4 @@
-//! What stands behind an expression: indices, members and calls. No constant has bits to pick or functions of its own to
+//! What stands after an expression: indices, members and calls. No constant has bits to pick or functions of its own to
 //! call, but numbers have the calls of the language.
 ghost use Rattle.std.specs.Prelude.{IfErr};
 ghost use Rattle.scc_templates_scopes.specs.Refusals.{MayStop};
@@ -62,7 +62,7 @@ fn method(name: Name, of: Value, place: Place) -> Result<Value, Stop>
     ensures stop { IfErr result MayStop }
 {
     if !has_bits(of.kind()) {
-        return refuse(Code::Mismatch, place);
+        return refuse(Code::Mismatch, place); // E304
     }
     match name.0 {
         AND_REDUCE => operate_one(Op::AndReduce, of, place),
@@ -111,7 +111,7 @@ impl Templates {
             return refuse(Code::Mismatch, place);
         };
         if TO_UINT64 < name.0 {
-            return refuse(Code::UnknownName, own);
+            return refuse(Code::UnknownName, own); // E301
         }
         self.thing = Some(Thing::Method { name, of });
         Ok(())
@@ -226,7 +226,7 @@ impl Templates {
     {
         match self.body {
             None => refuse(Code::UnknownName, name),
-            Some(_) => refuse(Code::NotConstant, place),
+            Some(_) => refuse(Code::NotConstant, place), // E305
         }
     }
 

@@ -189,5 +189,5 @@ impl Templates {
 fn mismatch(place: scc_base::Place) -> Result<(), Stop>
     ensures stop { IfErr result MayStop }
 {
-    scc_templates_scopes::refuse::refuse(scc_base::Code::Mismatch, place)
+    scc_templates_scopes::refuse::refuse(scc_base::Code::Mismatch, place) // E304
 }

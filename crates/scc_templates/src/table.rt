@@ -95,7 +95,7 @@ impl Instances {
         ensures stop { IfErr result MayStop }
     {
         if self.rows.len() >= MOST {
-            return refuse(Code::TooManyInstances, at);
+            return refuse(Code::TooManyInstances, at); // E314
         }
         let n = number(self.rows.len())?;
         self.append(made, args, n)?;

@@ -72,7 +72,7 @@ impl Templates {
     {
         let width = self.taken()?.small();
         let Some(bits) = width else {
-            return refuse(Code::Width, place);
+            return refuse(Code::Width, place); // E303
         };
         match family_kind(family, bits) {
             Some(kind) => self.give_base(Base::Number(kind)),
@@ -84,7 +84,7 @@ impl Templates {
         ensures stop { IfErr result MayStop }
     {
         let Some(kind) = self.taken_type()?.kind() else {
-            return refuse(Code::Arguments, place);
+            return refuse(Code::Arguments, place); // E307
         };
         self.give_base(match port {
             Port::Input => Base::Input(kind),
@@ -117,7 +117,7 @@ impl Templates {
         ensures stop { IfErr result MayStop }
     {
         let Some(found) = self.look(cx, at, name) else {
-            return refuse(Code::UnknownName, place);
+            return refuse(Code::UnknownName, place); // E301
         };
         match (found.entry, args) {
             (Entry::Class { item }, Some(given)) => {
@@ -144,7 +144,7 @@ impl Templates {
             Entry::Numbers => self.give_base(Base::Number(INT)),
             Entry::Argument(Arg::Number(kind)) => self.give_base(Base::Number(kind)),
             Entry::Argument(Arg::Class(i)) => self.give_base(Base::Class(i)),
-            _ => refuse(Code::Mismatch, place),
+            _ => refuse(Code::Mismatch, place), // E304
         }
     }
 

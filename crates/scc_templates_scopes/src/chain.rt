@@ -10,7 +10,7 @@ use scc_base::{Code, Place, Stop};
 pub const CHAIN: u32 = 64;
 
 /// The members so far: instances whose constants are evaluated, and templates whose defaults are. An instance is no
-/// further member directly behind itself.
+/// further member directly after itself.
 #[derive(Clone, Copy)]
 pub struct Chain {
     length: u32,
@@ -18,7 +18,7 @@ pub struct Chain {
 }
 
 /// How many members an evaluation adds to a chain at most, and the first of them, where all that reach so far begin with
-/// one instance. Behind that instance it is one less.
+/// one instance. After that instance it is one less.
 #[derive(Clone, Copy)]
 pub struct Reach {
     most: u32,
@@ -37,13 +37,13 @@ impl Chain {
         ensures stop { IfErr result MayStop }
     {
         if self.length >= CHAIN {
-            return refuse(Code::TemplateDepth, at);
+            return refuse(Code::TemplateDepth, at); // E308
         }
         let length = self.length + 1;
         Ok(Chain { length, last })
     }
 
-    /// The chain behind which an instance stands.
+    /// The chain after which an instance stands.
     pub fn with(self, i: InstanceId, at: Place) -> Result<Chain, Stop>
         ensures stop { IfErr result MayStop }
     {
@@ -53,7 +53,7 @@ impl Chain {
         self.longer(Some(i), at)
     }
 
-    /// The chain behind which a template stands whose defaults are worked out.
+    /// The chain after which a template stands whose defaults are worked out.
     pub fn filling(self, at: Place) -> Result<Chain, Stop>
         ensures stop { IfErr result MayStop }
     {
@@ -77,7 +77,7 @@ impl Reach {
         }
     }
 
-    // What it adds behind a member.
+    // What it adds after a member.
     fn behind(self, last: Option<InstanceId>) -> u32 {
         if self.first.is_some() && self.first == last {
             self.most.saturating_sub(1)

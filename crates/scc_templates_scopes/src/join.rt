@@ -70,8 +70,8 @@ impl Joined {
     {
         match self.parts {
             Parts::Number => Ok(self.number),
-            Parts::TooWide => refuse(Code::Width, at),
-            Parts::Nothing | Parts::NoPart => refuse(Code::Mismatch, at),
+            Parts::TooWide => refuse(Code::Width, at), // E303
+            Parts::Nothing | Parts::NoPart => refuse(Code::Mismatch, at), // E304
         }
     }
 }

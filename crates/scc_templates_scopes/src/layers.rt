@@ -56,7 +56,7 @@ impl Layers {
         self.changes.len()
     }
 
-    /// Takes back the changes behind the first so many.
+    /// Takes back the changes after the first so many.
     pub fn close(&mut self, mark: usize) {
         for _ in mark..self.changes.len() {
             let Some(change) = self.changes.pop() else {

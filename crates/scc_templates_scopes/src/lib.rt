@@ -1,5 +1,8 @@
 //! What the evaluation of templates goes by: declarations by their names, types and arguments, chains of instances, and
 //! operators on constants (C++, [basic.lookup], [temp], [expr.const]).
+//!
+//! `entry` says what a name means, `index` puts the declarations of a file by name, once, `layers` has locals, `ty`
+//! types and arguments, `chain` the chains of instances, `kinds`, `operator` and `join` operators on constants.
 #![tactic(auto)]
 
 pub mod chain;

@@ -11,9 +11,9 @@ fn code_of(fault: Fault) -> Code
     ensures { is_refusal result ≡ true }
 {
     match fault {
-        Fault::NoRow => Code::Mismatch,
-        Fault::TooWide => Code::WideLoss,
-        Fault::Divisor => Code::Divisor,
+        Fault::NoRow => Code::Mismatch, // E304
+        Fault::TooWide => Code::WideLoss, // E310
+        Fault::Divisor => Code::Divisor, // E311
     }
 }
 

@@ -59,7 +59,7 @@ fn settle(out: &Out, halt: Halt) -> Halt
                 Halt::Refused { code, place }
             } else {
                 Halt::Refused {
-                    code: Code::TooManyTokens,
+                    code: Code::TooManyTokens, // E110
                     place: t.place,
                 }
             }

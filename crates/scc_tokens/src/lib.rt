@@ -1,4 +1,7 @@
 //! The tokens of a text, and the joined tokens of a program's files.
+//!
+//! `joining` has `join`; `walk` goes over a file and those that it includes, `read` reads files, each once. What
+//! the crates below have for others is given out here too.
 #![tactic(auto)]
 
 mod joining;

@@ -70,7 +70,7 @@ fn cut(
 {
     if bytes.len() as u64 >= ASKED_BYTES {
         return Err(Halt::Refused {
-            code: Code::FileTooLong,
+            code: Code::FileTooLong, // E108
             place: Place {
                 file: number,
                 at: 0,

@@ -39,7 +39,7 @@ pub struct Joining {
     pub includes: u32,
 }
 
-// The directive of a line, with what stands behind its word.
+// The directive of a line, with what stands after its word.
 fn split_line<'a>(words: &Words, line: &'a [Token]) -> (Directive, &'a [Token])
     ensures { (result.0, result.1.now) ≡ split_line words.now line.now }
 {
@@ -53,7 +53,7 @@ fn bad_directive(hash: Token) -> Halt
     ensures { result ≡ Halt.Refused Code.Directive hash.place }
 {
     Halt::Refused {
-        code: Code::Directive,
+        code: Code::Directive, // E105
         place: hash.place,
     }
 }
@@ -162,13 +162,13 @@ fn admit(
     let skipped = is_once(state.once.as_slice(), number);
     if !skipped && below == 0 {
         return Err(Halt::Refused {
-            code: Code::IncludeDepth,
+            code: Code::IncludeDepth, // E106
             place: hash,
         });
     }
     if state.includes >= INCLUDES || (number.is_none() && sources.len() >= FILES) {
         return Err(Halt::Refused {
-            code: Code::TooManyFiles,
+            code: Code::TooManyFiles, // E109
             place: hash,
         });
     }
@@ -207,7 +207,7 @@ fn take_front(
     Ok((1, None))
 }
 
-// A line of a directive behind its `#`.
+// A line of a directive after its `#`.
 fn take_line(
     alloc: Global,
     state: &mut Joining,

@@ -15,7 +15,7 @@ fn bad_directive(hash: Token) -> Halt
     ensures { result ≡ Halt.Refused Code.Directive hash.place }
 {
     Halt::Refused {
-        code: Code::Directive,
+        code: Code::Directive, // E105
         place: hash.place,
     }
 }
@@ -30,7 +30,7 @@ fn copied(alloc: Global, tokens: &[Token]) -> Result<Tokens, NoMemory>
     Ok(copy)
 }
 
-// Whether a `(` stands right behind a name.
+// Whether a `(` stands right after a name.
 fn adjoins(name: Token, body: &[Token]) -> bool
     ensures { result ≡ adjoins name body.now }
 {

@@ -136,8 +136,8 @@ pub fn refusal_of(kind: TokenKind) -> Option<Code>
     ensures { result ≡ refusal_of kind }
 {
     match kind {
-        TokenKind::BadNumber | TokenKind::Character => Some(Code::BadLiteral),
-        TokenKind::Outside(_) => Some(Code::OutsideWord),
+        TokenKind::BadNumber | TokenKind::Character => Some(Code::BadLiteral), // E103
+        TokenKind::Outside(_) => Some(Code::OutsideWord), // E104
         _ => None,
     }
 }

@@ -9,7 +9,7 @@ use scc_base::{Name, NoMemory, Text};
 use scc_tokens_lexer::{Token, TokenKind};
 use std::alloc::Global;
 
-/// What stands behind `#include`.
+/// What stands after `#include`.
 #[derive(Clone, Copy)]
 pub enum Operand {
     /// A header of SystemC's own.
@@ -44,7 +44,7 @@ fn is_text(t: Token) -> bool
     matches!(t.kind, TokenKind::Text)
 }
 
-/// What stands behind `#include`: `"name"`, `<systemc>`, `<systemc.h>`, or something else.
+/// What stands after `#include`: `"name"`, `<systemc>`, `<systemc.h>`, or something else.
 pub fn operand_of(words: &Words, rest: &[Token]) -> Operand
     ensures { result ≡ operand_of words.now rest.now }
 {

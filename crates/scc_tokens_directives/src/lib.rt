@@ -1,5 +1,10 @@
 //! What single tokens and lines of directives do: macros, conditionals, what an inclusion names, and the joined tokens as
 //! they are made (C++, "Preprocessing directives").
+//!
+//! `lines`, `directive`, `define` and `included` take a line of a directive; `sides` and `active` have conditionals
+//! and the tokens in them; `macros`, `expand` and `frames` have macros; `file` has what is kept of a file, `out`
+//! takes the joined tokens, `halt` says why joining stops, `numbers` has the numbers of the keywords and marks that
+//! are looked for. The definitions have the same names; `Expands` is the expansion of a macro by derivations.
 #![tactic(auto)]
 
 mod active;

@@ -14,7 +14,7 @@ fn bad_directive(hash: Token) -> Halt
     ensures { result ≡ Halt.Refused Code.Directive hash.place }
 {
     Halt::Refused {
-        code: Code::Directive,
+        code: Code::Directive, // E105
         place: hash.place,
     }
 }
@@ -59,7 +59,7 @@ pub fn open_side(
     }
     if is_at(unclosed, hash.place.at) {
         return Err(Halt::Refused {
-            code: Code::OpenConditional,
+            code: Code::OpenConditional, // E107
             place: hash.place,
         });
     }
@@ -73,7 +73,7 @@ pub fn open_side(
     Ok(())
 }
 
-/// `#else`; what stands behind it counts in active text alone. E105 where something does, and where no first side is open.
+/// `#else`; what stands after it counts in active text alone. E105 where something does, and where no first side is open.
 pub fn turn_side(sides: &mut Sides, hash: Token, rest: &[Token]) -> Result<(), Halt>
     ensures { Does sides.new result (side_turned hash rest.now sides.old) }
 {
@@ -86,7 +86,7 @@ pub fn turn_side(sides: &mut Sides, hash: Token, rest: &[Token]) -> Result<(), H
     Ok(())
 }
 
-/// `#endif`; what stands behind it counts in active text alone. E105 where something does, and where no conditional is open.
+/// `#endif`; what stands after it counts in active text alone. E105 where something does, and where no conditional is open.
 pub fn close_side(sides: &mut Sides, hash: Token, rest: &[Token]) -> Result<(), Halt>
     ensures { Does sides.new result (side_closed hash rest.now sides.old) }
 {

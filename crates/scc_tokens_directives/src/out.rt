@@ -19,7 +19,7 @@ pub const USES: u32 = 262_144;
 #[derive(Drop)]
 pub struct Out {
     pub tokens: Tokens,
-    /// A `sc_core` or `sc_dt` behind them, which is dropped where `::` follows it.
+    /// A `sc_core` or `sc_dt` after them, which is dropped where `::` follows it.
     pub scope: Option<Token>,
     /// How many macro uses were expanded.
     pub uses: u32,
@@ -58,7 +58,7 @@ impl Out {
     {
         if self.tokens.len() >= TOKENS {
             return Err(Halt::Refused {
-                code: Code::TooManyTokens,
+                code: Code::TooManyTokens, // E110
                 place: t.place,
             });
         }

@@ -13,7 +13,7 @@ pub struct Side {
     pub outer: bool,
     /// Whether this side is chosen.
     pub taken: bool,
-    /// Whether it is the side behind `#else`.
+    /// Whether it is the side after `#else`.
     pub other: bool,
 }
 

@@ -14,11 +14,11 @@ use scc_bits::{Kind, Word};
 /// Where a byte stands on its line.
 #[derive(Clone, Copy, PartialEq, Eq)]
 pub enum Line {
-    /// Behind blanks and comments alone.
+    /// After blanks and comments alone.
     Start,
-    /// Behind a token.
+    /// After a token.
     Middle,
-    /// Behind the `#` of a directive.
+    /// After the `#` of a directive.
     Directive,
 }
 
@@ -40,13 +40,13 @@ pub enum Form {
 /// What the bytes at the front are.
 #[derive(Clone, Copy)]
 pub enum Piece {
-    /// So many bytes, with the token that they are, if any, and where the byte behind them stands.
+    /// So many bytes, with the token that they are, if any, and where the byte after them stands.
     Taken {
         form: Option<Form>,
         len: usize,
         line: Line,
     },
-    /// A fault, so many bytes behind the front.
+    /// A fault, so many bytes after the front.
     Fault {
         code: Code,
         at: usize,
@@ -135,7 +135,7 @@ fn front_token(text: &[u8]) -> Option<(Form, usize)>
     Some((Form::Mark(mark), n))
 }
 
-// Where the byte behind a token stands.
+// Where the byte after a token stands.
 fn behind(line: Line) -> Line
     ensures { result ≡ behind line }
 {
@@ -184,13 +184,13 @@ fn hash_piece(line: Line) -> Piece
             line: Line::Directive,
         },
         Line::Middle | Line::Directive => Piece::Fault {
-            code: Code::BadByte,
+            code: Code::BadByte, // E101
             at: 0,
         },
     }
 }
 
-// A comment whose bytes behind its `/*` are these.
+// A comment whose bytes after its `/*` are these.
 fn comment_piece(line: Line, bytes: &[u8]) -> Piece
     ensures value { result ≡ comment_piece line bytes.now }
     ensures within { StaysWithin (length bytes.now + 2) result }
@@ -202,7 +202,7 @@ fn comment_piece(line: Line, bytes: &[u8]) -> Piece
             line,
         },
         None => Piece::Fault {
-            code: Code::OpenComment,
+            code: Code::OpenComment, // E102
             at: 0,
         },
     }
@@ -226,7 +226,7 @@ fn flaw_of(form: Form, token: &[u8]) -> Option<(Code, usize)>
             let at = unprintable(token)?;
             Some((Code::BadByte, at))
         }
-        Form::Ident if token.len() > IDENT_BYTES => Some((Code::BadLiteral, 0)),
+        Form::Ident if token.len() > IDENT_BYTES => Some((Code::BadLiteral, 0)), // E103
         _ => None,
     }
 }

@@ -16,14 +16,14 @@ use scc_base::{Code, List, NoMemory, Stop, Text};
 use scc_bits::Word;
 use std::alloc::Global;
 
-/// A mask of clocks and the values behind it.
+/// A mask of clocks and the values after it.
 #[derive(Drop)]
 pub struct Masked {
     mask: Word,
     found: Found,
 }
 
-// The mask of a line and its values, from behind the word before them. None where they are of no form, or more or fewer.
+// The mask of a line and its values, from after the word before them. None where they are of no form, or more or fewer.
 #[tactic(auto, unfolding(crate::specs::Clocks::masked_of))]
 fn masked_values(
     alloc: Global,
@@ -69,13 +69,13 @@ fn clock_step(
 {
     let (word, rest) = line.first_word();
     if word.bytes != b"step".as_slice() {
-        return refuse(file, Code::StimText, line.at);
+        return refuse(file, Code::StimText, line.at); // E801
     }
     let Some(step) = masked_values(alloc, clocks, ports, rest)? else {
         return refuse(file, Code::StimText, line.at);
     };
     if let Some(wide) = step.found.wide {
-        return refuse(file, Code::StimValue, wide);
+        return refuse(file, Code::StimValue, wide); // E803
     }
     Ok(ClockStep {
         mask: step.mask,

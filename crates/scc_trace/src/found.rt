@@ -27,7 +27,7 @@ pub fn note(wide: Option<u32>, width: usize, at: u32, bits: u128) -> Option<u32>
     }
 }
 
-/// The values of a line, one for each port, from behind the word before them.
+/// The values of a line, one for each port, from after the word before them.
 /// None where they are of no form, or more or fewer.
 pub fn values(alloc: Global, ports: &[StimPort], line: Span<'_>) -> Result<Option<Found>, NoMemory>
     ensures { IfOk result (λ f. f ≡ found_of (widths_of ports.now) (words_behind_in line.entry)) }

@@ -14,7 +14,7 @@ fn before() -> &'static [u8]
     b"#include <systemc.h>\nconst int N = "
 }
 
-// The source behind the number of stages.
+// The source after the number of stages.
 #[tactic(auto, unfolding(crate::specs::Source::source_behind))]
 fn behind() -> &'static [u8]
     ensures { result.now ≡ source_behind }

@@ -11,14 +11,14 @@ use crate::span::{Span, before};
 use crate::stim::Version;
 use scc_base::{Code, Stop, Text};
 
-/// The next line, and what is behind it.
+/// The next line, and what is after it.
 #[tactic(auto, unfolding(crate::specs::Head::next_line))]
 pub fn next_line<'a>(file: u32, text: Span<'a>) -> Result<(Span<'a>, Span<'a>), Stop>
     ensures next { Answers (λ x. (piece_of x.0, lines_in x.1)) result (head.next_line file (end_of text.entry) (lines_in text.entry)) }
     ensures end { IfOk result (λ x. end_of x.1 ≡ end_of text.entry) }
 {
     if text.bytes.is_empty() {
-        return refuse(file, Code::StimText, text.at);
+        return refuse(file, Code::StimText, text.at); // E801
     }
     Ok(text.first_line())
 }
@@ -69,7 +69,7 @@ pub fn this_line(file: u32, line: Span<'_>, word: &[u8], wanted: &Text) -> Resul
         return refuse(file, Code::StimText, line.at);
     }
     if line.bytes != wanted.bytes() {
-        return refuse(file, Code::StimPort, line.at);
+        return refuse(file, Code::StimPort, line.at); // E802
     }
     Ok(())
 }

@@ -5,7 +5,7 @@ ghost use Rattle.scc_trace.specs.Text.{digit, digits_of, hex_text};
 use scc_base::{NoMemory, Text};
 use scc_bits::Word;
 
-// The digit of base 16 with so many digits behind it.
+// The digit of base 16 with so many digits after it.
 #[tactic(auto, using(crate::proofs::Nibble::no_digit, crate::proofs::Nibble::small_shift))]
 fn nibble(value: u128, behind: u32) -> u8
     ensures is { result ≡ value / 2 ^ (4 * behind) % 16 }

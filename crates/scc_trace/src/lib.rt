@@ -1,4 +1,9 @@
 //! Stimuli and traces as texts, and the source of generated designs.
+//!
+//! `stim` has ports and steps; `steps` has `stimulus` for texts of versions 1 and 2, `clock_steps` has
+//! `clock_stimulus` for version 3. Both go over lines and words by `span`, read the first lines by `head` and the
+//! values of a line by `found` and `value`; `refuse` makes refusals. `written` has `stim_text`, `trace` has
+//! `trace_line`, over `hex` and `fitting`; `generated` has `generate`.
 #![tactic(auto)]
 
 mod clock_steps;

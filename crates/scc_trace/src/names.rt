@@ -7,7 +7,7 @@ use crate::stim::StimPort;
 use scc_base::{NoMemory, Text};
 use std::alloc::Global;
 
-/// Appends a name behind a blank.
+/// Appends a name after a blank.
 pub fn name(out: &mut Text, name: &Text) -> Result<(), NoMemory>
     ensures { OnOk result (out.new ≡ out.old ++ 32 ∷ name.now) }
 {
@@ -15,7 +15,7 @@ pub fn name(out: &mut Text, name: &Text) -> Result<(), NoMemory>
     out.push_bytes(name.bytes())
 }
 
-// Appends the ports' names, each behind a blank.
+// Appends the ports' names, each after a blank.
 fn port_names(out: &mut Text, ports: &[StimPort]) -> Result<(), NoMemory>
     ensures { OnOk result (out.new ≡ out.old ++ names_text (names_of ports.now)) }
 {

@@ -52,7 +52,7 @@ impl<'a> Span<'a> {
         )
     }
 
-    /// The first line of a text that isn't empty, and what is behind it.
+    /// The first line of a text that isn't empty, and what is after it.
     pub fn first_line(self) -> (Span<'a>, Span<'a>)
         requires { 0 < length self.bytes.now }
         ensures lines { lines_in self.entry ≡ piece_of result.0 ∷ lines_in result.1 }
@@ -72,7 +72,7 @@ impl<'a> Span<'a> {
         }
     }
 
-    /// The first word of a line, and what stands from the blank behind it on.
+    /// The first word of a line, and what stands from the blank after it on.
     #[tactic(auto, using(crate::proofs::Cuts::words_cut))]
     pub fn first_word(self) -> (Span<'a>, Span<'a>)
         ensures first { result.0.bytes.now ≡ first 32 self.entry.bytes.now }
@@ -81,7 +81,7 @@ impl<'a> Span<'a> {
         self.split(32)
     }
 
-    /// What is behind the first byte; None where there is none.
+    /// What is after the first byte; None where there is none.
     pub fn behind(self) -> Option<Span<'a>>
         ensures words { words_behind_in self.entry ≡ words_next result }
     {

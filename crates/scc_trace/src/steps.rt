@@ -42,13 +42,13 @@ fn step(
 {
     let (word, rest) = line.first_word();
     let Some(edge) = edge(version, word.bytes) else {
-        return refuse(file, Code::StimText, line.at);
+        return refuse(file, Code::StimText, line.at); // E801
     };
     let Some(found) = values(alloc, ports, rest)? else {
         return refuse(file, Code::StimText, line.at);
     };
     if let Some(wide) = found.wide {
-        return refuse(file, Code::StimValue, wide);
+        return refuse(file, Code::StimValue, wide); // E803
     }
     Ok(StimStep {
         edge,

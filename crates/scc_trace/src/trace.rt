@@ -25,7 +25,7 @@ fn sign(after: bool) -> &'static [u8]
     if after { b"+" } else { b"-" }
 }
 
-// Appends the word of an output behind its name.
+// Appends the word of an output after its name.
 fn output(out: &mut Text, port: &StimPort, word: Word) -> Result<(), NoMemory>
     ensures { OnOk result (out.new ≡ out.old ++ output_text port.now word) }
 {

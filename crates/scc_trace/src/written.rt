@@ -25,7 +25,7 @@ fn edge(edge: bool) -> &'static [u8]
     if edge { b"step" } else { b"hold" }
 }
 
-// Appends a value behind a blank.
+// Appends a value after a blank.
 fn value(out: &mut Text, port: &StimPort, word: Word) -> Result<(), NoMemory>
     ensures { OnOk result (out.new ≡ out.old ++ value_text port.now word) }
 {

@@ -93,6 +93,7 @@ fn body_at(at: &At<'_>, place: Place, body: &[CoreStmt]) -> Result<List<CoreStmt
     let over = over_of(at, body)?;
     stop_at(uncounted, over)?;
     if is_too_large(at, body)? {
+        // E602.
         return Err(Stop::refused(Code::TooManyTurns, place));
     }
     Ok(unrolled(at, &[], Stand::Elsewhere, body)?)
@@ -116,6 +117,7 @@ fn stop_at(uncounted: Option<Spot>, over: Option<Spot>) -> Result<(), Stop>
 {
     match (uncounted, over) {
         (None, None) => Ok(()),
+        // E508.
         (Some(a), None) => Err(Stop::refused(Code::UncountedLoop, a.place)),
         (None, Some(b)) => Err(Stop::refused(Code::TooManyTurns, b.place)),
         (Some(a), Some(b)) => {

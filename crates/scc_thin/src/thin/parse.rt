@@ -12,7 +12,7 @@ use scc_base::{List, Text};
 use scc_bits::{Kind, Word};
 use std::alloc::Global;
 
-// The tokens behind this mark.
+// The tokens after this mark.
 fn mark(tokens: &[Token], m: u8) -> Option<&[Token]>
     ensures { option_copied result ≡ after_mark m tokens.now }
 {
@@ -31,7 +31,7 @@ fn word(tokens: &[Token], w: u8) -> Option<&[Token]>
     }
 }
 
-// The tokens behind a name of these bytes.
+// The tokens after a name of these bytes.
 fn member<'a>(tokens: &'a [Token], text: &[u8]) -> Option<&'a [Token]>
     ensures { option_copied result ≡ after_name text.now tokens.now }
 {
@@ -139,7 +139,7 @@ fn direction(tokens: &[Token]) -> Result<(bool, &[Token]), Halt>
     Ok((true, expect_word(tokens, numbers::SC_OUT)?))
 }
 
-// The tokens behind the ends of two lists of arguments.
+// The tokens after the ends of two lists of arguments.
 #[tactic(auto, unfolding(crate::specs::Reading::closed_at))]
 fn closed(tokens: &[Token]) -> Result<&[Token], Halt>
     ensures { Gives (λ r. r.now) result (closed_at tokens.now) }

@@ -11,7 +11,7 @@ pub struct Group {
     pub names: List<Text>,
 }
 
-/// An operator, and the port that is read behind it.
+/// An operator, and the port that is read after it.
 #[derive(Drop)]
 pub struct Read {
     pub op: Bitwise,
