@@ -1,12 +1,12 @@
 -- The statements of a body have operators of the kinds that they say.
-use Rattle.std.proofs.Common.{◌≡◌, ℕ, Bool, true, false, List, [], ◌∷◌, length, Option, Some, None, refl, if◌then◌else◌}
+use Rattle.std.proofs.Common.{ℕ, Bool, true, false, List, [], ◌∷◌, length, Option, Some, None, refl, if◌then◌else◌}
 use Rattle.scc_base.specs.declared.refusal.Place.{Place}
 use Rattle.scc_bits_kinds.specs.declared.kind.Kind.{Kind}
 use Rattle.scc_bits_kinds.specs.Counts.{promoted}
 use Rattle.scc_bits_kinds.specs.Groups.{group_of, is_small}
 use Rattle.scc_bits_kinds.specs.declared.op.Op.TheVariants as op
 use Rattle.scc_bits.specs.Value.{Number}
-use Rattle.scc_templates_spec.specs.Walked.{Walked, pure, fault, and_walk}
+use Rattle.scc_templates_spec.specs.Walked.{pure}
 use Rattle.scc_templates_spec.specs.World.{World}
 use Rattle.scc_templates_spec.specs.Tree.{Tree, place_of}
 use Rattle.scc_templates_spec.specs.Statements.{Stmts, End, Brace, Declare, If, Switch, While, Do, For, Break, Continue, Return, Wait, Runs, Reset, Simply, Items, NoItems, Case, Otherwise, Between, Local, Simple, First, Nothing, Locals, Does}
@@ -20,19 +20,18 @@ use Rattle.scc_elab_spec.specs.Typed.{IsTyped}
 use Rattle.scc_plain_spec.specs.Types.{OfNumber}
 use Rattle.scc_plain_spec.specs.Scope.{Answer}
 use Rattle.scc_plain_spec.specs.Calls.{constant}
-use Rattle.scc_plain_spec.specs.Drafts.{Draft, kind_in, drafted, literal, converted, operate}
-use Rattle.scc_plain_spec.specs.Room.{Around, Known, Room, Numbering, Writes, nothing, then_write, Step, done, found, and_step, in_room, declare, written}
+use Rattle.scc_plain_spec.specs.Drafts.{Draft, kind_in, drafted, literal}
+use Rattle.scc_plain_spec.specs.Room.{Around, Known, Numbering, Writes, nothing, then_write, Step}
 use Rattle.scc_plain_spec.specs.Loops.{counted, loop_test, turn, looped, for_loop}
-use Rattle.scc_plain_spec.specs.Switch.{Flow, start, in_turn, in_cases, Label, Cases, no_cases, unless_met, test, leaving, behind_label, at_case, at_default, behind_stmts, exit_number, switched}
-use Rattle.scc_plain_spec.specs.Single.{local, simple, give, wait}
-use Rattle.scc_plain_spec.specs.Processes.{process, senses, reset}
+use Rattle.scc_plain_spec.specs.Switch.{Flow, in_turn, in_cases, Label, Cases, no_cases, unless_met, test, leaving, behind_label, at_case, at_default, behind_stmts, exit_number, switched}
+use Rattle.scc_plain_spec.specs.Single.{local}
 use Rattle.scc_plain_spec.specs.Bodies.{in_order, before, leave, declared_so_far, Headed, one_name, selector_name, Selected, head_locals, head, tested, tested_if, changed, small_one, selected, case, otherwise, body, items}
-use Rattle.scc_plain_kinds_laws.proofs.Walks.{Finds, finds-pure, finds-none, finds-any, finds-then, finds-behind, finds-if, Gives, gives-done, gives-found, gives-none, gives-then, gives-in, gives-if}
-use Rattle.scc_plain_kinds_laws.proofs.Calls.{IsTypedDraft, IsAny, converted-finds}
-use Rattle.scc_plain_kinds_laws.proofs.Expressions.{operate-finds, value-gives, condition-gives}
+use Rattle.scc_plain_laws.proofs.Walks.{Finds, finds-pure, finds-any, finds-then, finds-behind, Gives, gives-done, gives-found, gives-none, gives-then, gives-in, gives-if}
+use Rattle.scc_plain_laws.proofs.Calls.{IsTypedDraft, IsAny, converted-finds}
+use Rattle.scc_plain_laws.proofs.Expressions.{operate-finds, value-gives, condition-gives}
 use Rattle.scc_plain_kinds_laws.proofs.Kept.{Keeps, RoomKeeps, lifts, keeps-nothing, keeps-then, keeps-plain, keeps-assign, keeps-if, keeps-loop, keeps-block, written-gives}
-use Rattle.scc_plain_kinds_laws.proofs.Simple.{any-found}
-use Rattle.scc_plain_kinds_laws.proofs.Single.{declare-gives, local-gives, simple-gives, give-gives, wait-gives, senses-give, process-gives, reset-gives}
+use Rattle.scc_plain_laws.proofs.Values.{senses-give}
+use Rattle.scc_plain_kinds_laws.proofs.Single.{declare-gives, local-gives, simple-gives, give-gives, wait-gives, process-gives, reset-gives}
 
 pub order-gives : {f g : Step Writes} → Gives RoomKeeps Keeps f → Gives RoomKeeps Keeps g → Gives RoomKeeps Keeps (in_order f g)
 order-gives h k = gives-then h (λ x t. gives-then k (λ y u. gives-done (keeps-then t u)))
@@ -145,7 +144,7 @@ module _ (s : Source) (w : World Answer) (a : Around) where
     body-gives f ks (Return p e r) = order-gives (give-gives s w a ks f.late p e a.result) (body-gives f ks r)
     body-gives f ks (Wait p e r) = order-gives (wait-gives s w a ks f.late p e) (body-gives f ks r)
     body-gives f ks (Runs p at x q r) = order-gives (process-gives s w a ks f.late p at x q) (body-gives f ks r)
-    body-gives f ks (stmts.Sensitive p es r) = order-gives (gives-then (senses-give s w a ks f.late es) (λ xs t. written-gives (keeps-plain (λ n c. refl)))) (body-gives f ks r)
+    body-gives f ks (stmts.Sensitive p es r) = order-gives (gives-then (senses-give lifts s w a ks f.late es) (λ xs t. written-gives (keeps-plain (λ n c. refl)))) (body-gives f ks r)
     body-gives f ks (stmts.Quiet p r) = order-gives (written-gives {x = λ n c. code.Quiet p c} (keeps-plain (λ n c. refl))) (body-gives f ks r)
     body-gives f ks (Reset p e l asynchronous r) = order-gives (reset-gives s w a ks f.late p e l asynchronous) (body-gives f ks r)
     body-gives f ks (Simply e r) = order-gives (simple-gives s w a ks f.late e) (body-gives f ks r)

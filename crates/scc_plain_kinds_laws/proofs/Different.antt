@@ -21,7 +21,7 @@ use Rattle.scc_plain_spec.specs.ClassWalk.{Met}
 use Rattle.scc_plain_spec.specs.Stage.{functions_in, place_of}
 use Rattle.scc_plain_spec.specs.Program.{Instance, instances, numbering, field_member, class_of, body_in, walks, plain_of, unless_refused, program_in, program_of}
 use Rattle.scc_plain_laws.proofs.Drafted.{some-is}
-use Rattle.scc_plain_kinds_laws.proofs.Walks.{by-option}
+use Rattle.scc_plain_laws.proofs.Walks.{by-option}
 use Rattle.scc_plain_kinds_laws.proofs.Kept.{both}
 use Rattle.scc_plain_kinds_laws.proofs.Program.{made-is}
 

@@ -14,8 +14,8 @@ use Rattle.scc_plain_spec.specs.Room.{Numbering, Room, With, Writes, nothing, th
 use Rattle.scc_plain_laws.specs.MeantTyped.{IsTypedObject}
 use Rattle.scc_plain_laws.proofs.Drafted.{some-is}
 use Rattle.scc_inline_core_laws.specs.Kinded.{kinded_term, kinded_left, kinded_pick, kinded_target, kinded_object, kinded_arguments, kinded_code}
-use Rattle.scc_plain_kinds_laws.proofs.Walks.{Gives}
-use Rattle.scc_plain_kinds_laws.proofs.Calls.{AreTypedArguments, LiftsKeep}
+use Rattle.scc_plain_laws.proofs.Walks.{Gives}
+use Rattle.scc_plain_laws.proofs.Calls.{AreTypedArguments, LiftsKeep}
 
 pub both : (a b : Bool) → a ≡ true → b ≡ true → (a && b) ≡ true
 both a b e f = (λ z. e z && f z)

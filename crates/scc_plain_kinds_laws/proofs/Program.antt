@@ -25,7 +25,7 @@ use Rattle.scc_plain_spec.specs.Whole.{param_names, hide_params, stmts_in, Route
 use Rattle.scc_plain_spec.specs.Program.{numbering, function_of, walks, plain_of, unless_refused, program_in, program_of}
 use Rattle.scc_plain_laws.proofs.Drafted.{some-is}
 use Rattle.scc_inline_core_laws.specs.Kinded.{kinded_code, is_kinded}
-use Rattle.scc_plain_kinds_laws.proofs.Walks.{Finds, finds-pure, finds-then, finds-behind, Gives, gives-done, gives-then}
+use Rattle.scc_plain_laws.proofs.Walks.{Finds, finds-pure, finds-then, finds-behind, Gives, gives-done, gives-then}
 use Rattle.scc_plain_kinds_laws.proofs.Kept.{Keeps, RoomKeeps, keeps-nothing, both}
 use Rattle.scc_plain_kinds_laws.proofs.Bodies.{order-gives, body-gives}
 use Rattle.scc_plain_kinds_laws.proofs.Inits.{init-gives}

@@ -1,39 +1,36 @@
 -- Statements that hold no others have operators of the kinds that they say, and so have those of constructors.
-use Rattle.std.proofs.Common.{◌≡◌, ℕ, Bool, true, false, ◌&&◌, ◌||◌, nat_eq, List, [], ◌∷◌, Option, Some, None, refl, subst, if◌then◌else◌}
+use Rattle.std.proofs.Common.{ℕ, Bool, true, nat_eq, List, ◌∷◌, Option, Some, None, refl, subst}
 use Rattle.scc_base.specs.declared.refusal.Place.{Place}
 use Rattle.scc_bits_kinds.specs.declared.kind.Kind.{Kind}
-use Rattle.scc_bits_kinds.specs.declared.op.Op.{Op}
-use Rattle.scc_templates_spec.specs.Walked.{Walked, pure, fault, and_walk}
+use Rattle.scc_templates_spec.specs.Walked.{and_walk}
 use Rattle.scc_templates_spec.specs.World.{World}
-use Rattle.scc_templates_spec.specs.Tree.{Tree, Trees, Nil, Cons, place_of, count}
+use Rattle.scc_templates_spec.specs.Tree.{Tree, place_of}
 use Rattle.scc_templates_spec.specs.Statements.{Local, Simple}
 use Rattle.scc_templates_spec.specs.Statements as stmts
 use Rattle.scc_templates_spec.specs.Source.{Source}
 use Rattle.scc_elab_spec.specs.Term as term
 use Rattle.scc_elab_spec.specs.Term.{Target, Whole}
-use Rattle.scc_elab_spec.specs.Program.{Declare, Return}
 use Rattle.scc_elab_spec.specs.Typed.{IsTyped, IsTypedTarget}
 use Rattle.scc_plain_spec.specs.Numbers.{int, number}
 use Rattle.scc_plain_spec.specs.Types.{OfNumber, OfObject, InPort, OutPort, OfSignal, OfName}
 use Rattle.scc_plain_spec.specs.Scope.{Answer}
-use Rattle.scc_plain_spec.specs.Calls.{target, is_zero}
-use Rattle.scc_plain_spec.specs.Drafts.{Draft, literal, converted}
-use Rattle.scc_plain_spec.specs.Forms.{Form, Shape, form_of, is_direct, Subject, Loc}
-use Rattle.scc_plain_spec.specs.Meant.{Meant, Valued, Stands, Function, Built, Done, Void, Nothing, Own, At, Words, location}
-use Rattle.scc_plain_spec.specs.Room.{Around, Known, Writes, With, scope_in, Step, done, found, and_step, declare, written}
+use Rattle.scc_plain_spec.specs.Calls.{is_zero}
+use Rattle.scc_plain_spec.specs.Drafts.{Draft, literal}
+use Rattle.scc_plain_spec.specs.Forms.{Form, form_of, is_direct}
+use Rattle.scc_plain_spec.specs.Room.{Around, Known, With, scope_in, Step, declare}
 use Rattle.scc_plain_spec.specs.Room as room
 use Rattle.scc_plain_spec.specs.Shapes.{shape}
-use Rattle.scc_plain_spec.specs.Expressions.{meant, value}
-use Rattle.scc_plain_spec.specs.Simple.{assigned, left_kind, combined, last_args}
+use Rattle.scc_plain_spec.specs.Expressions.{value}
+use Rattle.scc_plain_spec.specs.Simple.{left_kind, last_args}
 use Rattle.scc_plain_spec.specs.Single.{Declaring, checked, unless_array, number_begun, target_begun, begun, local, simple, give, edges, wait}
-use Rattle.scc_plain_spec.specs.Processes.{edge_of, sense_meant, sense, senses, process_named, edge_sense, process, reset}
-use Rattle.scc_plain_laws.specs.MeantTyped.{IsTypedLoc, IsTypedMeant}
+use Rattle.scc_plain_spec.specs.Processes.{process_named, process, reset}
 use Rattle.scc_plain_laws.proofs.Drafted.{some-is}
-use Rattle.scc_plain_kinds_laws.proofs.Walks.{Finds, finds-pure, finds-none, finds-any, finds-then, finds-behind, finds-if, by-option, by-bool, by-base, Gives, gives-done, gives-found, gives-none, gives-then, gives-if}
-use Rattle.scc_plain_kinds_laws.proofs.Calls.{IsTypedDraft, IsAny, converted-finds, target-finds}
-use Rattle.scc_plain_kinds_laws.proofs.Expressions.{meant-gives, any-gives, value-gives, condition-gives}
-use Rattle.scc_plain_kinds_laws.proofs.Kept.{Keeps, RoomKeeps, lifts, keeps-nothing, keeps-plain, keeps-assign, keeps-point, written-gives, typed-term, typed-return}
-use Rattle.scc_plain_kinds_laws.proofs.Simple.{any-found, assigned-finds, store-gives, combined-finds, assign-gives, called-keeps}
+use Rattle.scc_plain_laws.proofs.Walks.{Finds, finds-pure, finds-none, finds-then, finds-if, by-base, Gives, gives-done, gives-found, gives-none, gives-then, gives-if}
+use Rattle.scc_plain_laws.proofs.Calls.{IsTypedDraft, IsAny, converted-finds, target-finds}
+use Rattle.scc_plain_laws.proofs.Expressions.{meant-gives, value-gives, condition-gives}
+use Rattle.scc_plain_laws.proofs.Values.{any-found, edge-gives}
+use Rattle.scc_plain_kinds_laws.proofs.Kept.{Keeps, RoomKeeps, lifts, keeps-plain, keeps-assign, keeps-point, written-gives, typed-return}
+use Rattle.scc_plain_kinds_laws.proofs.Simple.{assigned-finds, store-gives, combined-finds, assign-gives, called-keeps}
 
 pub declare-gives : (l : room.Local) → Gives RoomKeeps IsAny (declare l)
 declare-gives l = record { holds = λ r k y e. subst (λ (y : With ℕ). Unit {0} × RoomKeeps y.room) (some-is e) (tt, k) }
@@ -81,24 +78,8 @@ module _ (s : Source) (w : World Answer) (a : Around) where
     pub wait-gives : (p : Place) (e : Option Tree) → Gives RoomKeeps Keeps (wait s w a ks late p e)
     wait-gives p e = gives-then (any-found (edges s w a ks late p e)) (λ n t. written-gives (keeps-plain (λ m c. refl)))
 
-    sense-meant-gives : (p : Place) (xs : Trees) (m : Meant) → Gives RoomKeeps IsAny (sense_meant s w a ks late p xs m)
-    sense-meant-gives p xs (Done x of) = gives-then (any-gives lifts s w a ks late xs) (λ u t. any-found (edge_of s w a ks late p x of xs))
-    sense-meant-gives p xs m = gives-done tt
-
-    sense-gives : (e : Tree) → Gives RoomKeeps IsAny (sense s w a ks late e)
-    sense-gives e = gives-then (meant-gives lifts s w a ks late e) (λ m t. sense-meant-gives (place_of e) (last_args e) m)
-
-    pub senses-give : (xs : Trees) → Gives RoomKeeps IsAny (senses s w a ks late xs)
-    senses-give Nil = gives-done tt
-    senses-give (Cons t ts) = gives-then (sense-gives t) (λ x u. gives-then (senses-give ts) (λ xs u. gives-done {x = x ∷ xs} tt))
-
-    edge-gives : (q : stmts.Process) → Gives RoomKeeps IsAny (edge_sense s w a ks late q)
-    edge-gives (stmts.Clocked e) = gives-then (sense-gives e) (λ x t. gives-done {x = Some x} tt)
-    edge-gives stmts.Method = gives-done {x = None} tt
-    edge-gives stmts.Thread = gives-done {x = None} tt
-
     pub process-gives : (p at : Place) (x : Option ℕ) (q : stmts.Process) → Gives RoomKeeps Keeps (process s w a ks late p at x q)
-    process-gives p at x q = gives-then (any-found (process_named s w a ks late at x)) (λ f t. gives-then (edge-gives q) (λ e t. written-gives (keeps-plain (λ n c. refl))))
+    process-gives p at x q = gives-then (any-found (process_named s w a ks late at x)) (λ f t. gives-then (edge-gives lifts s w a ks late q) (λ e t. written-gives (keeps-plain (λ n c. refl))))
 
     pub reset-gives : (p : Place) (e l : Tree) (asynchronous : Bool) → Gives RoomKeeps Keeps (reset s w a ks late p e l asynchronous)
     reset-gives p e l asynchronous = gives-then (meant-gives lifts s w a ks late e) (λ m t. gives-then (condition-gives lifts s w a ks late l) (λ x t. written-gives (keeps-plain (λ n c. refl))))

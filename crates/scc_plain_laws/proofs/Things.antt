@@ -23,7 +23,7 @@ use Rattle.scc_plain_spec.specs.Things.{a_number, given, this, local_at, object_
 use Rattle.scc_plain_spec.specs.Shapes.{field_form}
 use Rattle.scc_plain_laws.specs.MeantTyped.{IsTypedLoc, IsTypedSubject, IsTypedObject, IsTypedMeant}
 use Rattle.scc_plain_laws.proofs.Meanings.{followed-is}
-use Rattle.scc_plain_kinds_laws.proofs.Walks.{Finds, finds-pure, finds-none, finds-then, finds-behind, finds-value, finds-if, by-bool, by-option, by-reach}
+use Rattle.scc_plain_laws.proofs.Walks.{Finds, finds-pure, finds-none, finds-then, finds-behind, finds-value, finds-if, by-bool, by-option, by-reach}
 
 pub number-finds : (p : Place) (n : Walked Number) → Finds IsTypedMeant (a_number p n)
 number-finds p n = finds-behind n (λ x. finds-pure tt)

@@ -23,9 +23,9 @@ use Rattle.scc_plain_laws.specs.DraftsTyped.{AllTyped}
 use Rattle.scc_plain_laws.specs.MeantTyped.{IsTypedMeant}
 use Rattle.scc_plain_laws.proofs.Drafted.{operate-is, choose-is, cast-is, concat-is}
 use Rattle.scc_plain_laws.proofs.Meanings.{indexed-is}
-use Rattle.scc_plain_kinds_laws.proofs.Walks.{Finds, finds-pure, finds-none, finds-any, finds-then, finds-behind, by-option, Gives, gives-done, gives-found, gives-none, gives-then, gives-in}
-use Rattle.scc_plain_kinds_laws.proofs.Things.{given-finds, this-finds, named-finds, scoped-finds, dot-finds, arrow-finds}
-use Rattle.scc_plain_kinds_laws.proofs.Calls.{IsTypedDraft, IsTypedArgument, AreTypedArguments, IsAny, LiftsKeep, taken-finds, converted-finds, unary-finds, argument-finds, made-argument-gives, behind-gives}
+use Rattle.scc_plain_laws.proofs.Walks.{Finds, finds-pure, finds-none, finds-any, finds-then, finds-behind, by-option, Gives, gives-done, gives-found, gives-none, gives-then, gives-in}
+use Rattle.scc_plain_laws.proofs.Things.{given-finds, this-finds, named-finds, scoped-finds, dot-finds, arrow-finds}
+use Rattle.scc_plain_laws.proofs.Calls.{IsTypedDraft, IsTypedArgument, AreTypedArguments, IsAny, LiftsKeep, taken-finds, converted-finds, unary-finds, argument-finds, made-argument-gives, behind-gives}
 
 abbrev pub AnyUnit : Unit {0} → Type 0
 AnyUnit u = Unit {0}

@@ -34,8 +34,8 @@ use Rattle.scc_plain_spec.specs.Calls.{is_bit_select, unary, target, argument, m
 use Rattle.scc_plain_laws.specs.MeantTyped.{IsTypedLoc, IsTypedSubject, IsTypedObject, IsTypedMeant}
 use Rattle.scc_plain_laws.proofs.Drafted.{some-is, converted-is, operate-one-is}
 use Rattle.scc_plain_laws.proofs.Meanings.{taken-is, subject-is, followed-is, addressed-is, some-bits-is}
-use Rattle.scc_plain_kinds_laws.proofs.Walks.{Finds, finds-pure, finds-none, finds-any, finds-then, finds-behind, finds-value, finds-if, by-option, by-base, Gives, gives-done, gives-found, gives-none, gives-then, gives-if}
-use Rattle.scc_plain_kinds_laws.proofs.Things.{aimed-finds}
+use Rattle.scc_plain_laws.proofs.Walks.{Finds, finds-pure, finds-none, finds-any, finds-then, finds-behind, finds-value, finds-if, by-option, by-base, Gives, gives-done, gives-found, gives-none, gives-then, gives-if}
+use Rattle.scc_plain_laws.proofs.Things.{aimed-finds}
 
 abbrev pub IsTypedDraft : Draft → Type 0
 IsTypedDraft x = IsTyped x.term
@@ -79,7 +79,7 @@ target-finds p o f z m t = finds-if (z && is_pointer f) (finds-pure tt) (aimed-f
 pub argument-finds : (p : Place) (o : Owner) (f : Form) (z : Bool) (m : Meant) → IsTypedMeant m → Finds IsTypedArgument (argument p o f z m)
 argument-finds p o f z m t = finds-if (is_name f.base) (finds-if (is_module_name m) (finds-pure tt) (finds-none refl))
     (finds-if (is_direct f) (finds-then (taken-finds p m t) (λ x h. by-base f.base (λ k g. rw g (finds-then (converted-finds k x h) (λ y u. finds-pure u))) (λ c xs g. rw g (finds-none refl)) (λ k g. rw g (finds-none refl))
-        (λ k g. rw g (finds-none refl)) (λ k g. rw g (finds-none refl)) (λ g. rw g (finds-none refl))))
+    (λ k g. rw g (finds-none refl)) (λ k g. rw g (finds-none refl)) (λ g. rw g (finds-none refl))))
     (finds-then (target-finds p o f z m t) (λ y h. finds-pure h)))
 
 some-bits-finds : (p : Place) (k : Kind) (j : Pick) (s : Subject) → IsTypedPick j → IsTypedSubject s → Finds IsTypedMeant (some_bits p k j s)

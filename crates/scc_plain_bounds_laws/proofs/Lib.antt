@@ -1,0 +1,10 @@
+pub mod Bounded
+pub mod Found
+pub mod Flushes
+pub mod Shapes
+pub mod Simple
+pub mod Single
+pub mod Inits
+pub mod Switch
+pub mod Bodies
+pub mod Program
