@@ -1,6 +1,6 @@
--- What the law of copied bodies asks of a program and its design, and the static stage isn't proved to give: locals and results that are declared, objects, arguments that fit, names of
+-- What the law of copied bodies asks of a program and its design, and the static stage isn't proved to give: results that are there, objects, arguments that fit, names of
 -- processes, elements that are alike. This project's own.
-use Rattle.std.specs.Prelude.{ℕ, suc, Bool, true, false, ◌&&◌, List, [], ◌∷◌, Option, Some, None, is_some, option_map, slice_get, unwrap_or}
+use Rattle.std.specs.Prelude.{ℕ, suc, Bool, true, false, ◌&&◌, List, [], ◌∷◌, Option, Some, None, option_map, slice_get, unwrap_or}
 use Rattle.std.specs.List.{list_all}
 use Rattle.scc_elab_spec.specs.Term.{Term, Literal, Load, Read, Convert, Unary, Binary, Choose, Bit, Range, Join, Left, Local, Answer, This, Follow, Index, Pick, Whole, OneBit, Bits, Target, Null, Address, Copy, Argument, Value, Leads, ModuleName}
 use Rattle.scc_elab_spec.specs.Term as term
@@ -33,7 +33,7 @@ module _ (p : Plain) (g : Function) where
     fits_term (Join q k a b) = fits_term a && fits_term b
 
     pub fits_left : Left → Bool
-    fits_left (Local q n) = is_some (slice_get g.locals n)
+    fits_left (Local q n) = true
     fits_left (Answer q n) = has_result p g (callee_at p g n)
     fits_left (This q) = true
     fits_left (Follow q l) = fits_left l
@@ -71,7 +71,7 @@ module _ (p : Plain) (g : Function) where
 
   abbrev pub fits_code : Code → Bool
   fits_code End = true
-  fits_code (Declare q n r) = is_some (slice_get g.locals n) && fits_code r
+  fits_code (Declare q n r) = fits_code r
   fits_code (Assign q l k e r) = fits_left l && (fits_pick k && (fits_term e && fits_code r))
   fits_code (Point q l t r) = fits_left l && (fits_target t && fits_code r)
   fits_code (Write q l e r) = fits_left l && (fits_term e && fits_code r)

@@ -1,7 +1,8 @@
 pub mod Bounded
 pub mod Found
-pub mod Flushes
 pub mod Shapes
+pub mod Within
+pub mod Flushes
 pub mod Simple
 pub mod Single
 pub mod Inits

@@ -1,5 +1,5 @@
 -- What local variables and parameters hold.
-use Rattle.std.proofs.Common.{◌≡◌, ℕ, Bool, true, false, ◌&&◌, List, [], ◌∷◌, ◌++◌, length, map, if◌then◌else◌, refl}
+use Rattle.std.proofs.Common.{◌≡◌, ℕ, suc, Bool, true, false, ◌&&◌, List, [], ◌∷◌, ◌++◌, length, map, if◌then◌else◌, refl, ap}
 use Rattle.std.specs.Prelude.{nat_lt, nat_le}
 use Rattle.std.specs.List.{list_all}
 use Rattle.scc_base.specs.declared.refusal.Place.{Place}
@@ -93,8 +93,9 @@ abbrev pub AllParams : List Form → Type 0
 AllParams [] = Unit {0}
 AllParams (f ∷ fs) = IsParam f × AllParams fs
 
-abbrev pub HasParams : Signature → Type 0
-HasParams g = AllParams g.params
+-- of so many parameters
+abbrev pub HasParams : ℕ → Signature → Type 0
+HasParams n g = AllParams g.params × (length g.params ≡ n)
 
 module _ (s : Source) (w : World Answer) where
   sizes-find : (c : Scope) (ts : Trees) → Finds AreSizes (sizes s w c ts)
@@ -110,11 +111,11 @@ module _ (s : Source) (w : World Answer) where
   param-finds : (c : Scope) (b : Bound) (constructor : Bool) (q : source.Taken) → Finds IsParam (param_form s w c b constructor q)
   param-finds c b constructor q = finds-behind (shape s w c (replace_type b q.type) q.hold Nil) (λ x. finds-when (may_be_param constructor (form_of x)) (λ e. finds-pure {x = form_of x} (param-holds x.base x.reach x.vector constructor (length x.sizes) e)) (finds-none refl))
 
-  params-find : (c : Scope) (b : Bound) (constructor : Bool) (qs : List source.Taken) → Finds AllParams (param_forms s w c b constructor qs)
-  params-find c b constructor [] = finds-pure tt
-  params-find c b constructor (q ∷ qs) = finds-then (param-finds c b constructor q) (λ f h. finds-then (params-find c b constructor qs) (λ fs i. finds-pure {x = f ∷ fs} (h, i)))
+  params-find : (c : Scope) (b : Bound) (constructor : Bool) (qs : List source.Taken) → Finds (λ fs. AllParams fs × (length fs ≡ length qs)) (param_forms s w c b constructor qs)
+  params-find c b constructor [] = finds-pure (tt, refl)
+  params-find c b constructor (q ∷ qs) = finds-then (param-finds c b constructor q) (λ f h. finds-then (params-find c b constructor qs) (λ fs i. finds-pure {x = f ∷ fs} ((h, i.0), ap suc i.1)))
 
-  pub signature-finds : (o : Owner) (r : Routine) (p : Place) → Finds HasParams (signature s w o r p)
+  pub signature-finds : (o : Owner) (r : Routine) (p : Place) → Finds (HasParams (length r.function.params)) (signature s w o r p)
   signature-finds o r p = finds-behind (site_of s w o p) (λ at. finds-behind (result_of s w at.scope r.bound r.function.place r.function.result) (λ k.
       finds-then (params-find at.scope r.bound r.function.constructor r.function.params) (λ fs h. finds-pure {x = record { params = fs; result = k }} h)))
 

@@ -8,3 +8,4 @@ pub mod Things
 pub mod Calls
 pub mod Expressions
 pub mod Values
+pub mod AnyLocal
