@@ -1,5 +1,5 @@
--- Where elements of one array are alike, what is static with counters as literals is so whatever words they hold.
-use Rattle.std.proofs.Common.{◌≡◌, ℕ, Bool, true, false, not, ◌&&◌, nat_eq, List, [], ◌∷◌, ◌++◌, Option, Some, None, is_some, find, option_map, option_and_then, if◌then◌else◌, refl, sym, ap, ◌∙◌, subst}
+-- Where the elements that counters choose are alike, what is static with counters as literals is so whatever words they hold.
+use Rattle.std.proofs.Common.{◌≡◌, ℕ, Bool, true, false, not, ◌&&◌, nat_eq, ◌||◌, List, [], ◌∷◌, ◌++◌, Option, Some, None, is_some, find, option_map, option_and_then, if◌then◌else◌, refl, sym, ap, ◌∙◌, subst}
 use Rattle.std.specs.List.{list_all}
 use Rattle.scc_base.specs.declared.refusal.Place.{Place}
 use Rattle.scc_bits_kinds.specs.declared.kind.Kind.{Kind}
@@ -19,8 +19,8 @@ use Rattle.scc_core_spec.specs.Counted.{Counter, counter, counter_at, loaded_as,
 use Rattle.scc_inline_process_laws.specs.Chosen.{reworded}
 use Rattle.scc_inline_spec.specs.Static as inline
 use Rattle.scc_elab_spec.proofs.Chains.{and-first, and-second}
-use Rattle.scc_inline_counter_laws.specs.Even.{alike, all_zeroed, is_fixed_alike, is_even_cell, is_even}
-use Rattle.scc_inline_counter_laws.proofs.Names.{alike-refl, open-front, open-last, closed-end, alike-end, Zeroed, zeroed_same, zeroed_at, zeroed_none, zeroed-refl, zeroed-end, zeroed-alike, zeroed-closed, among-zeroed, fits-is, alike-sym, alike-trans}
+use Rattle.scc_inline_counter_laws.specs.Even.{alike, is_fixed_alike, is_row, counts_on, counts_in, is_even_term, is_even}
+use Rattle.scc_inline_counter_laws.proofs.Names.{alike-refl, open-front, open-last, closed-end, alike-end, Zeroed, zeroed_same, zeroed_at, zeroed_none, zeroed-refl, zeroed-end, zeroed-alike, zeroed-closed, fits-is, alike-sym, alike-trans}
 
 some-is : {A : Type 0} {x y : A} → Some x ≡ Some y → x ≡ y
 some-is e = cc
@@ -76,59 +76,38 @@ find-both t u (y ∷ xs) x a e = by (t y) refl e (λ e. find-both t u xs x (and-
     by true g e ih = let z : y ≡ x = some-is e in (ap t (sym z) ∙ g, ap u (sym z) ∙ and-first (u y) (list_all u xs) a)
     by false g e ih = ih e
 
-module _ (cs : Cells) (even : is_even cs ≡ true) where
-  -- a cell that is found
-  pub record At' (p : List Step) (c : program.Cell) : Type 0 where
-    pub steps : steps_of c.name ≡ p
-    pub plain : is_pointer c.sort ≡ false
-    pub fair : is_even_cell cs c ≡ true
+or-first : (a b : Bool) → (a || b) ≡ false → a ≡ false
+or-first true b e = cc
+or-first false b e = refl
 
-  found-at : (p : List Step) (c : program.Cell) → is_open p ≡ false → found cs p ≡ Some c → At' p c
-  found-at p c o e =
-      let x = find-both (names_cell false p) (is_even_cell cs) cs c even e in
-      record { steps = sym (fits-is p (steps_of c.name) o (and-first (fits p (steps_of c.name)) (not (is_pointer c.sort)) x.0)); plain = plain (is_pointer c.sort) (and-second (fits p (steps_of c.name)) (not (is_pointer c.sort)) x.0); fair = x.1 }
-    where
-      plain : (b : Bool) → not b ≡ true → b ≡ false
-      plain true e = cc
-      plain false e = refl
+or-second : (a b : Bool) → (a || b) ≡ false → b ≡ false
+or-second true b e = cc
+or-second false b e = e
 
-  -- where one is fixed, one alike is fixed
-  fixed-too : (p q : List Step) (c d : program.Cell) → found cs p ≡ Some c → found cs q ≡ Some d → is_open p ≡ false → is_open q ≡ false → alike p q ≡ true → (w : ℕ) → fixed_word c.sort ≡ Some w → (v : ℕ) × (fixed_word d.sort ≡ Some v)
-  fixed-too p q c d e f o u a w g =
-      let x = found-at p c o e in
-      let y = found-at q d u f in
-      let b : (all_zeroed (λ p. is_some (found cs p)) (steps_of c.name) && list_all (is_fixed_alike (steps_of c.name)) cs) ≡ true
-      = ap (λ o. if is_some o then all_zeroed (λ p. is_some (found cs p)) (steps_of c.name) && list_all (is_fixed_alike (steps_of c.name)) cs else true) (sym g) ∙ x.fair in
-      let z = find-both (names_cell false q) (is_fixed_alike (steps_of c.name)) cs d (and-second (all_zeroed (λ p. is_some (found cs p)) (steps_of c.name)) (list_all (is_fixed_alike (steps_of c.name)) cs) b) f in
-      let k : alike (steps_of c.name) (steps_of d.name) ≡ true = (λ i. alike (x.steps i) (y.steps i)) ∙ a in
-      some (fixed_word d.sort) (sym (ap (λ b. if b && not (is_pointer d.sort) then is_some (fixed_word d.sort) else true) k ∙ ap (λ b. if true && not b then is_some (fixed_word d.sort) else true) y.plain) ∙ z.1)
+module _ (cs : Cells) where
+  -- a cell of an array of which all elements are fixed is fixed
+  fixed-there : (f p : List Step) (c : program.Cell) → list_all (is_fixed_alike f) cs ≡ true → found cs p ≡ Some c → is_open p ≡ false → alike f p ≡ true → (v : ℕ) × (fixed_word c.sort ≡ Some v)
+  fixed-there f p c all e o a =
+      let x = find-both (names_cell false p) (is_fixed_alike f) cs c all e in
+      let k : alike f (steps_of c.name) ≡ true = ap (alike f) (sym (fits-is p (steps_of c.name) o (and-first (fits p (steps_of c.name)) (not (is_pointer c.sort)) x.0))) ∙ a in
+      let n : not (is_pointer c.sort) ≡ true = and-second (fits p (steps_of c.name)) (not (is_pointer c.sort)) x.0 in
+      some (fixed_word c.sort) (sym (λ i. if k i && n i then is_some (fixed_word c.sort) else true) ∙ x.1)
     where
       some : (o : Option ℕ) → is_some o ≡ true → (v : ℕ) × (o ≡ Some v)
       some None e = cc
       some (Some v) e = (v, refl)
 
-  -- where one is fixed, the element with 0 in place of indices is there
-  first-there : (p q : List Step) (c : program.Cell) → found cs p ≡ Some c → is_open p ≡ false → Zeroed p q → (w : ℕ) → fixed_word c.sort ≡ Some w → (d : program.Cell) × (found cs q ≡ Some d)
-  first-there p q c e o z w g =
-      let x = found-at p c o e in
-      let b : (all_zeroed (λ p. is_some (found cs p)) (steps_of c.name) && list_all (is_fixed_alike (steps_of c.name)) cs) ≡ true
-      = ap (λ o. if is_some o then all_zeroed (λ p. is_some (found cs p)) (steps_of c.name) && list_all (is_fixed_alike (steps_of c.name)) cs else true) (sym g) ∙ x.fair in
-      some (found cs q) (among-zeroed z (λ p. is_some (found cs p)) (ap (all_zeroed (λ p. is_some (found cs p))) (sym x.steps) ∙ and-first (all_zeroed (λ p. is_some (found cs p)) (steps_of c.name)) (list_all (is_fixed_alike (steps_of c.name)) cs) b))
+  -- so one that is there has a word, and past the end stands 0
+  held-there : (t f : List Step) → is_row cs (Some f) ≡ true → is_open t ≡ false → is_open f ≡ false → alike f t ≡ true → (v : ℕ) × (held (found cs t) (found cs f) ≡ Some v)
+  held-there t f row ot of a = by (found cs t) (found cs f) refl refl (and-first (is_some (found cs f)) (list_all (is_fixed_alike f) cs) row)
     where
-      some : (o : Option program.Cell) → is_some o ≡ true → (v : program.Cell) × (o ≡ Some v)
-      some None e = cc
-      some (Some v) e = (v, refl)
+      all : list_all (is_fixed_alike f) cs ≡ true
+      all = and-second (is_some (found cs f)) (list_all (is_fixed_alike f) cs) row
 
-  held-again : (s t f : List Step) (w : ℕ) → is_open s ≡ false → is_open t ≡ false → is_open f ≡ false → alike s t ≡ true → Zeroed s f → held (found cs s) (found cs f) ≡ Some w → (v : ℕ) × (held (found cs t) (found cs f) ≡ Some v)
-  held-again s t f w os ot of a z e = by (found cs s) (found cs t) (found cs f) refl refl refl e
-    where
-      by : (x y u : Option program.Cell) → found cs s ≡ x → found cs t ≡ y → found cs f ≡ u → held x u ≡ Some w → (v : ℕ) × (held y u ≡ Some v)
-      by (Some c) (Some d) u p q r e = fixed-too s t c d p q os ot a w e
-      by (Some c) None (Some g) p q r e = let v = fixed-too s f c g p r os of (zeroed-alike z os) w e in (0, ap (option_map (λ w. 0)) v.1)
-      by (Some c) None None p q r e = let v = first-there s f c p os z w e in absurd (let k : None ≡ Some v.0 = sym r ∙ v.1 in cc)
-      by None (Some d) (Some g) p q r e = let v = mapped-some (fixed_word g.sort) (λ w. 0) w e in fixed-too f t g d r q of ot (alike-trans f s t (alike-sym s f (zeroed-alike z os)) a) v.0 v.1
-      by None None (Some g) p q r e = let v = mapped-some (fixed_word g.sort) (λ w. 0) w e in (0, ap (option_map (λ w. 0)) v.1)
-      by None y None p q r e = cc
+      by : (y u : Option program.Cell) → found cs t ≡ y → found cs f ≡ u → is_some u ≡ true → (v : ℕ) × (held y u ≡ Some v)
+      by (Some d) u q r e = fixed-there f t d all q ot a
+      by None (Some g) q r e = let v = fixed-there f f g all r of (alike-refl f of) in (0, ap (option_map (λ w. 0)) v.1)
+      by None None q r e = cc
 
   module _ (ns : List Counter) (f : ℕ → ℕ) where
     abbrev ms : List Counter
@@ -153,13 +132,50 @@ module _ (cs : Cells) (even : is_even cs ≡ true) where
         by None u r e = (w, ap (λ u. static cs (loaded_as u p k (Cell q n))) r ∙ e)
         by (Some c) u r e = (f c.cell, ap (λ u. static cs (loaded_as u p k (Cell q n))) r)
 
-    first-same : (l : Left) → first_of cs (counting_left ns l) ≡ first_of cs (counting_left ms l)
-    first-same (Cell p n) = refl
-    first-same (Prefix p n) = refl
-    first-same (Null p) = refl
-    first-same (Follow p s l) = refl
-    first-same (term.Member l n) = ap (λ o. grown o (Named n)) (first-same l)
-    first-same (Index l z e) = ap (λ o. grown o (At 0)) (first-same l)
+    -- counters don't matter for the first element
+    first-same : (ks : List Counter) (l : Left) → first_of cs (counting_left ks l) ≡ first_of cs l
+    first-same ks (Cell p n) = refl
+    first-same ks (Prefix p n) = refl
+    first-same ks (Null p) = refl
+    first-same ks (Follow p s l) = refl
+    first-same ks (term.Member l n) = ap (λ o. grown o (Named n)) (first-same ks l)
+    first-same ks (Index l z e) = ap (λ o. grown o (At 0)) (first-same ks l)
+
+    -- what has no counter stays
+    loaded-same : (p : Place) (k : Kind) (l : Left) → is_some (counter_at ns l) ≡ false → counting_left ns l ≡ counting_left ms l → loaded_as (counter_at ns l) p k (counting_left ns l) ≡ loaded_as (counter_at ms l) p k (counting_left ms l)
+    loaded-same p k (Cell q n) e s = by (find (λ c. nat_eq n c.cell) ns) (find (λ c. nat_eq n c.cell) ms) (find-reworded n ns) e
+      where
+        by : (o u : Option Counter) → u ≡ option_map (λ c. counter c.cell (f c.cell)) o → is_some o ≡ false → loaded_as o p k (Cell q n) ≡ loaded_as u p k (Cell q n)
+        by None u r e = ap (λ u. loaded_as u p k (Cell q n)) (sym r)
+        by (Some c) u r e = cc
+    loaded-same p k (Prefix q n) e s = refl
+    loaded-same p k (Null q) e s = refl
+    loaded-same p k (Follow q t l) e s = ap (Load p k) s
+    loaded-same p k (term.Member l n) e s = ap (Load p k) s
+    loaded-same p k (Index l z i) e s = ap (Load p k) s
+
+    mutual
+      term-stays : (e : Term) → counts_on ns e ≡ false → counting ns e ≡ counting ms e
+      term-stays (Literal p k w) h = refl
+      term-stays (Load p k l) h = loaded-same p k l (or-first (is_some (counter_at ns l)) (counts_in ns l) h) (left-stays l (or-second (is_some (counter_at ns l)) (counts_in ns l) h))
+      term-stays (Read p k l) h = ap (Read p k) (left-stays l h)
+      term-stays (Convert p k e) h = ap (Convert p k) (term-stays e h)
+      term-stays (Unary p k o e) h = ap (Unary p k o) (term-stays e h)
+      term-stays (Binary p k o a b) h = λ i. Binary p k o (term-stays a (or-first (counts_on ns a) (counts_on ns b) h) i) (term-stays b (or-second (counts_on ns a) (counts_on ns b) h) i)
+      term-stays (Choose p k t a b) h =
+          let A = counts_on ns a in let B = counts_on ns b in let r = or-second (counts_on ns t) (A || B) h in
+          λ i. Choose p k (term-stays t (or-first (counts_on ns t) (A || B) h) i) (term-stays a (or-first A B r) i) (term-stays b (or-second A B r) i)
+      term-stays (Bit p a b) h = λ i. Bit p (term-stays a (or-first (counts_on ns a) (counts_on ns b) h) i) (term-stays b (or-second (counts_on ns a) (counts_on ns b) h) i)
+      term-stays (Range p k a m l) h = ap (λ a. Range p k a m l) (term-stays a h)
+      term-stays (Join p k a b) h = λ i. Join p k (term-stays a (or-first (counts_on ns a) (counts_on ns b) h) i) (term-stays b (or-second (counts_on ns a) (counts_on ns b) h) i)
+
+      left-stays : (l : Left) → counts_in ns l ≡ false → counting_left ns l ≡ counting_left ms l
+      left-stays (Cell p n) h = refl
+      left-stays (Prefix p n) h = refl
+      left-stays (Null p) h = refl
+      left-stays (Follow p s l) h = ap (Follow p s) (left-stays l h)
+      left-stays (term.Member l n) h = ap (λ l. term.Member l n) (left-stays l h)
+      left-stays (Index l z e) h = λ i. Index (left-stays l (or-first (counts_in ns l) (counts_on ns e) h) i) z (term-stays e (or-second (counts_in ns l) (counts_on ns e) h) i)
 
     -- a location with its first element
     zeroed-is : (l : Left) (s t : List Step) → is_open s ≡ false → pattern cs (counting_left ns l) ≡ Some s → first_of cs (counting_left ns l) ≡ Some t → Zeroed s t
@@ -183,21 +199,29 @@ module _ (cs : Cells) (even : is_even cs ≡ true) where
             let x = At (index_of (kind_of (counting ns i)) v) in
             subst (λ s. Zeroed s t) (some-is e) (subst (Zeroed (a ++ x ∷ [])) (some-is g) (zeroed-end (ih a b (open-front a x (ap is_open (some-is e) ∙ o)) refl refl) (zeroed_at (index_of (kind_of (counting ns i)) v) zeroed_none)))
 
-    load-some : (l : Left) (w : ℕ) → ((s : List Step) → is_open s ≡ false → pattern cs (counting_left ns l) ≡ Some s → (t : List Step) × (pattern cs (counting_left ms l) ≡ Some t) × (is_open t ≡ false) × (alike s t ≡ true))
+    load-some : (l : Left) (w : ℕ) → (if counts_in ns l then is_row cs (first_of cs l) else true) ≡ true
+        → ((s : List Step) → is_open s ≡ false → pattern cs (counting_left ns l) ≡ Some s → (t : List Step) × (pattern cs (counting_left ms l) ≡ Some t) × (is_open t ≡ false) × (alike s t ≡ true))
         → option_and_then (λ s. option_and_then (λ f. held_at cs s f) (first_of cs (counting_left ns l))) (pattern cs (counting_left ns l)) ≡ Some w
         → (v : ℕ) × (option_and_then (λ s. option_and_then (λ f. held_at cs s f) (first_of cs (counting_left ms l))) (pattern cs (counting_left ms l)) ≡ Some v)
-    load-some l w again e =
-        let x = then-some (pattern cs (counting_left ns l)) _ w e in
-        let y = then-some (first_of cs (counting_left ns l)) _ w x.2 in
-        let o = closed (is_open x.0) y.2 in
-        let t = again x.0 o.0 x.1 in
-        let z = zeroed-is l x.0 y.0 o.0 x.1 y.1 in
-        let v = held-again x.0 t.0 y.0 w o.0 t.2 (zeroed-closed z o.0) t.3 z o.1 in
-        (v.0, (λ i. option_and_then (λ s. option_and_then (λ f. held_at cs s f) ((sym (first-same l) ∙ y.1) i)) (t.1 i)) ∙ (ap (λ b. if b then None else held (found cs t.0) (found cs y.0)) t.2 ∙ v.1))
+    load-some l w row again e = by (counts_in ns l) refl row
       where
         closed : (b : Bool) {x : Option ℕ} → (if b then None else x) ≡ Some w → (b ≡ false) × (x ≡ Some w)
         closed true e = cc
         closed false e = (refl, e)
+
+        by : (b : Bool) → counts_in ns l ≡ b → (if b then is_row cs (first_of cs l) else true) ≡ true
+            → (v : ℕ) × (option_and_then (λ s. option_and_then (λ f. held_at cs s f) (first_of cs (counting_left ms l))) (pattern cs (counting_left ms l)) ≡ Some v)
+        by false c r = (w, ap (λ l. option_and_then (λ s. option_and_then (λ f. held_at cs s f) (first_of cs l)) (pattern cs l)) (sym (left-stays l c)) ∙ e)
+        by true c r =
+            let x = then-some (pattern cs (counting_left ns l)) _ w e in
+            let y = then-some (first_of cs (counting_left ns l)) _ w x.2 in
+            let o = closed (is_open x.0) y.2 in
+            let t = again x.0 o.0 x.1 in
+            let z = zeroed-is l x.0 y.0 o.0 x.1 y.1 in
+            let first : first_of cs l ≡ Some y.0 = sym (first-same ns l) ∙ y.1 in
+            let row : is_row cs (Some y.0) ≡ true = ap (is_row cs) (sym first) ∙ r in
+            let v = held-there t.0 y.0 row t.2 (zeroed-closed z o.0) (alike-trans y.0 x.0 t.0 (alike-sym x.0 y.0 (zeroed-alike z o.0)) t.3) in
+            (v.0, (λ i. option_and_then (λ s. option_and_then (λ f. held_at cs s f) ((first-same ms l ∙ first) i)) (t.1 i)) ∙ (ap (λ b. if b then None else held (found cs t.0) (found cs y.0)) t.2 ∙ v.1))
 
     index-some : (l : Left) (z : ℕ) (i : Term) (s : List Step) → is_open s ≡ false
         → ((s : List Step) → is_open s ≡ false → pattern cs (counting_left ns l) ≡ Some s → (t : List Step) × (pattern cs (counting_left ms l) ≡ Some t) × (is_open t ≡ false) × (alike s t ≡ true))
@@ -221,63 +245,72 @@ module _ (cs : Cells) (even : is_even cs ≡ true) where
             (t.0 ++ u ∷ [], (λ k. grown (t.1 k) (index_step z (kind_of (counting ms i)) (v.1 k))), closed-end t.0 u t.2 refl, subst (λ s. alike s (t.0 ++ u ∷ []) ≡ true) q (alike-end x.0 t.0 y u t.3 refl))
 
     mutual
-      pub some-static : (e : Term) (w : ℕ) → static cs (counting ns e) ≡ Some w → (v : ℕ) × (static cs (counting ms e) ≡ Some v)
-      some-static (Literal p k x) w e = (x, refl)
-      some-static (Load p k (Cell q n)) w e = cell-some p q k n w e
-      some-static (Load p k (Prefix q n)) w e = (w, e)
-      some-static (Load p k (Null q)) w e = cc
-      some-static (Load p k (Follow q s l)) w e = cc
-      some-static (Load p k (term.Member l n)) w e = load-some (term.Member l n) w (λ s o e. some-pattern (term.Member l n) s o e) e
-      some-static (Load p k (Index l z i)) w e = load-some (Index l z i) w (λ s o e. some-pattern (Index l z i) s o e) e
-      some-static (Read p k l) w e = cc
-      some-static (Convert p k a) w e =
-          let x = mapped-some (static cs (counting ns a)) _ w e in let y = some-static a x.0 x.1 in
+      pub some-static : (e : Term) (w : ℕ) → is_even_term cs ns e ≡ true → static cs (counting ns e) ≡ Some w → (v : ℕ) × (static cs (counting ms e) ≡ Some v)
+      some-static (Literal p k x) w h e = (x, refl)
+      some-static (Load p k (Cell q n)) w h e = cell-some p q k n w e
+      some-static (Load p k (Prefix q n)) w h e = (w, e)
+      some-static (Load p k (Null q)) w h e = cc
+      some-static (Load p k (Follow q s l)) w h e = cc
+      some-static (Load p k (term.Member l n)) w h e =
+          let R = if counts_in ns (term.Member l n) then is_row cs (first_of cs (term.Member l n)) else true in
+          load-some (term.Member l n) w (and-first R (is_even cs ns (term.Member l n)) h) (λ s o e. some-pattern (term.Member l n) s (and-second R (is_even cs ns (term.Member l n)) h) o e) e
+      some-static (Load p k (Index l z i)) w h e =
+          let R = if counts_in ns (Index l z i) then is_row cs (first_of cs (Index l z i)) else true in
+          load-some (Index l z i) w (and-first R (is_even cs ns (Index l z i)) h) (λ s o e. some-pattern (Index l z i) s (and-second R (is_even cs ns (Index l z i)) h) o e) e
+      some-static (Read p k l) w h e = cc
+      some-static (Convert p k a) w h e =
+          let x = mapped-some (static cs (counting ns a)) _ w e in let y = some-static a x.0 h x.1 in
           (stored k (number_of (kind_of (counting ms a)) y.0), ap (option_map (λ x. stored k (number_of (kind_of (counting ms a)) x))) y.1)
-      some-static (Unary p k o a) w e =
-          let x = then-some (static cs (counting ns a)) _ w e in let y = some-static a x.0 x.1 in
+      some-static (Unary p k o a) w h e =
+          let x = then-some (static cs (counting ns a)) _ w e in let y = some-static a x.0 h x.1 in
           let j = kind_of (counting ms a) in
           let z = applied-some o j j x.0 x.0 w y.0 y.0 (ap (λ j. applied o j x.0 j x.0) (sym (kind-same a)) ∙ x.2) in
           (z.0, ap (option_and_then (λ x. applied o j x j x)) y.1 ∙ z.1)
-      some-static (Binary p k o a b) w e =
-          let x = two-some (static cs (counting ns a)) (static cs (counting ns b)) _ w e in let y = some-static a x.0 x.2 in let u = some-static b x.1 x.3 in
+      some-static (Binary p k o a b) w h e =
+          let A = is_even_term cs ns a in let B = is_even_term cs ns b in
+          let x = two-some (static cs (counting ns a)) (static cs (counting ns b)) _ w e in let y = some-static a x.0 (and-first A B h) x.2 in let u = some-static b x.1 (and-second A B h) x.3 in
           let i = kind_of (counting ms a) in let j = kind_of (counting ms b) in
           let z = applied-some o i j x.0 x.1 w y.0 u.0 ((λ t. applied o (sym (kind-same a) t) x.0 (sym (kind-same b) t) x.1) ∙ x.4) in
           (z.0, (λ t. with_two (y.1 t) (u.1 t) (λ x y. applied o i x j y)) ∙ z.1)
-      some-static (Choose p k t a b) w e =
-          let q = then-some (static cs (counting ns t)) _ w e in let r = some-static t q.0 q.1 in
-          let x = two-some (static cs (counting ns a)) (static cs (counting ns b)) _ w q.2 in let y = some-static a x.0 x.2 in let u = some-static b x.1 x.3 in
+      some-static (Choose p k t a b) w h e =
+          let A = is_even_term cs ns a in let B = is_even_term cs ns b in let g = and-second (is_even_term cs ns t) (A && B) h in
+          let q = then-some (static cs (counting ns t)) _ w e in let r = some-static t q.0 (and-first (is_even_term cs ns t) (A && B) h) q.1 in
+          let x = two-some (static cs (counting ns a)) (static cs (counting ns b)) _ w q.2 in let y = some-static a x.0 (and-first A B g) x.2 in let u = some-static b x.1 (and-second A B g) x.3 in
           (_, λ i. option_and_then (λ n. with_two (y.1 i) (u.1 i) (λ x y. Some (chosen n (stored k (number_of (kind_of (counting ms a)) x)) (stored k (number_of (kind_of (counting ms b)) y))))) (r.1 i))
-      some-static (Bit p a i) w e =
-          let x = two-some (static cs (counting ns a)) (static cs (counting ns i)) _ w e in let y = some-static a x.0 x.2 in let u = some-static i x.1 x.3 in
+      some-static (Bit p a i) w h e =
+          let A = is_even_term cs ns a in let B = is_even_term cs ns i in
+          let x = two-some (static cs (counting ns a)) (static cs (counting ns i)) _ w e in let y = some-static a x.0 (and-first A B h) x.2 in let u = some-static i x.1 (and-second A B h) x.3 in
           (_, λ t. with_two (y.1 t) (u.1 t) (λ x j. Some (bit_at (width_of (kind_of (counting ms a))) x (index_of (kind_of (counting ms i)) j))))
-      some-static (Range p k a h l) w e = let x = mapped-some (static cs (counting ns a)) _ w e in let y = some-static a x.0 x.1 in (part h l y.0, ap (option_map (part h l)) y.1)
-      some-static (Join p k a b) w e =
-          let x = two-some (static cs (counting ns a)) (static cs (counting ns b)) _ w e in let y = some-static a x.0 x.2 in let u = some-static b x.1 x.3 in
+      some-static (Range p k a m l) w h e = let x = mapped-some (static cs (counting ns a)) _ w e in let y = some-static a x.0 h x.1 in (part m l y.0, ap (option_map (part m l)) y.1)
+      some-static (Join p k a b) w h e =
+          let A = is_even_term cs ns a in let B = is_even_term cs ns b in
+          let x = two-some (static cs (counting ns a)) (static cs (counting ns b)) _ w e in let y = some-static a x.0 (and-first A B h) x.2 in let u = some-static b x.1 (and-second A B h) x.3 in
           (_, λ t. with_two (y.1 t) (u.1 t) (λ x y. Some (joined (width_of (kind_of (counting ms b))) x y)))
 
       -- the names of a location differ in their indices alone
-      pub some-pattern : (l : Left) (s : List Step) → is_open s ≡ false → pattern cs (counting_left ns l) ≡ Some s → (t : List Step) × (pattern cs (counting_left ms l) ≡ Some t) × (is_open t ≡ false) × (alike s t ≡ true)
-      some-pattern (Cell p n) s o e = (s, e, o, alike-refl s o)
-      some-pattern (Prefix p n) s o e = (s, e, o, alike-refl s o)
-      some-pattern (Null p) s o e = cc
-      some-pattern (Follow p z l) s o e = cc
-      some-pattern (term.Member l n) s o e =
+      pub some-pattern : (l : Left) (s : List Step) → is_even cs ns l ≡ true → is_open s ≡ false → pattern cs (counting_left ns l) ≡ Some s → (t : List Step) × (pattern cs (counting_left ms l) ≡ Some t) × (is_open t ≡ false) × (alike s t ≡ true)
+      some-pattern (Cell p n) s h o e = (s, e, o, alike-refl s o)
+      some-pattern (Prefix p n) s h o e = (s, e, o, alike-refl s o)
+      some-pattern (Null p) s h o e = cc
+      some-pattern (Follow p z l) s h o e = cc
+      some-pattern (term.Member l n) s h o e =
           let x = mapped-some (pattern cs (counting_left ns l)) (λ p. p ++ Named n ∷ []) s e in
           let q : x.0 ++ Named n ∷ [] ≡ s = some-is (ap (λ o. grown o (Named n)) (sym x.1) ∙ e) in
-          let t = some-pattern l x.0 (open-front x.0 (Named n) (ap is_open q ∙ o)) x.1 in
+          let t = some-pattern l x.0 h (open-front x.0 (Named n) (ap is_open q ∙ o)) x.1 in
           (t.0 ++ Named n ∷ [], ap (λ o. grown o (Named n)) t.1, closed-end t.0 (Named n) t.2 refl, subst (λ s. alike s (t.0 ++ Named n ∷ []) ≡ true) q (alike-end x.0 t.0 (Named n) (Named n) t.3 (alike-refl (Named n ∷ []) refl)))
-      some-pattern (Index l z i) s o e = index-some l z i s o (λ s o e. some-pattern l s o e) (λ w e. some-static i w e) e
+      some-pattern (Index l z i) s h o e =
+          let L = is_even cs ns l in let I = is_even_term cs ns i in index-some l z i s o (λ s o e. some-pattern l s (and-first L I h) o e) (λ w e. some-static i w (and-second L I h) e) e
 
     -- a location that is static stays so
-    pub still-static : (l : Left) → inline.is_static cs ns l ≡ true → inline.is_static cs ms l ≡ true
-    still-static (Cell p n) e = refl
-    still-static (Prefix p n) e = refl
-    still-static (Null p) e = refl
-    still-static (Follow p s l) e = still-static l e
-    still-static (term.Member l n) e = still-static l e
-    still-static (Index l z i) e = by (static cs (counting ns i)) refl e (λ e. still-static l e)
+    pub still-static : (l : Left) → is_even cs ns l ≡ true → inline.is_static cs ns l ≡ true → inline.is_static cs ms l ≡ true
+    still-static (Cell p n) h e = refl
+    still-static (Prefix p n) h e = refl
+    still-static (Null p) h e = refl
+    still-static (Follow p s l) h e = still-static l h e
+    still-static (term.Member l n) h e = still-static l h e
+    still-static (Index l z i) h e = by (static cs (counting ns i)) refl e (λ e. still-static l (and-first (is_even cs ns l) (is_even_term cs ns i) h) e)
       where
         by : (v : Option ℕ) → static cs (counting ns i) ≡ v → (is_some v && inline.is_static cs ns l) ≡ true → (inline.is_static cs ns l ≡ true → inline.is_static cs ms l ≡ true)
             → (is_some (static cs (counting ms i)) && inline.is_static cs ms l) ≡ true
         by None r e ih = cc
-        by (Some w) r e ih = let v = some-static i w r in ap (λ o. is_some o && inline.is_static cs ms l) v.1 ∙ ih e
+        by (Some w) r e ih = let v = some-static i w (and-second (is_even cs ns l) (is_even_term cs ns i) h) r in ap (λ o. is_some o && inline.is_static cs ms l) v.1 ∙ ih e

@@ -1,9 +1,9 @@
 -- Names that differ in their indices alone, and those with 0 in place of some of their indices.
-use Rattle.std.proofs.Common.{◌≡◌, ℕ, Bool, true, false, ◌&&◌, nat_eq, List, [], ◌∷◌, ◌++◌, refl, ap, ◌∙◌, arith}
+use Rattle.std.proofs.Common.{◌≡◌, ℕ, true, false, ◌&&◌, nat_eq, List, [], ◌∷◌, ◌++◌, refl, ap, ◌∙◌, arith}
 use Rattle.std.proofs.lemmas.Bool.{eqb-true}
 use Rattle.scc_core_spec.specs.Named.{Step, Named, At, Ours, Open, is_open, fits}
 use Rattle.scc_elab_spec.proofs.Chains.{and-first, and-second}
-use Rattle.scc_inline_counter_laws.specs.Even.{alike, all_zeroed}
+use Rattle.scc_inline_counter_laws.specs.Even.{alike}
 
 pub alike-refl : (s : List Step) → is_open s ≡ false → alike s s ≡ true
 alike-refl [] o = refl
@@ -90,14 +90,6 @@ zeroed-alike (zeroed_same {s = s} {t = t} (Ours n) z) o = ap (λ b. b && alike s
     eq-self n = grind arith
 zeroed-alike (zeroed_same (Open y) z) o = cc
 zeroed-alike (zeroed_at i z) o = zeroed-alike z o
-
-pub among-zeroed : {s t : List Step} → Zeroed s t → (q : List Step → Bool) → all_zeroed q s ≡ true → q t ≡ true
-among-zeroed zeroed_none q e = e
-among-zeroed (zeroed_same (Named n) z) q e = among-zeroed z (λ t. q (Named n ∷ t)) e
-among-zeroed (zeroed_same {s = s} (At i) z) q e = among-zeroed z (λ t. q (At i ∷ t)) (and-first (all_zeroed (λ t. q (At i ∷ t)) s) (all_zeroed (λ t. q (At 0 ∷ t)) s) e)
-among-zeroed (zeroed_same (Ours n) z) q e = among-zeroed z (λ t. q (Ours n ∷ t)) e
-among-zeroed (zeroed_same (Open n) z) q e = among-zeroed z (λ t. q (Open n ∷ t)) e
-among-zeroed (zeroed_at {s = s} i z) q e = among-zeroed z (λ t. q (At 0 ∷ t)) (and-second (all_zeroed (λ t. q (At i ∷ t)) s) (all_zeroed (λ t. q (At 0 ∷ t)) s) e)
 
 -- a name without open indices fits itself alone
 pub fits-is : (s t : List Step) → is_open s ≡ false → fits s t ≡ true → s ≡ t

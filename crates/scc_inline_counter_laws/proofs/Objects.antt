@@ -2,6 +2,7 @@
 use Rattle.std.proofs.Common.{◌≡◌, inl, ℕ, zero, suc, ◌+◌, ◌≤◌, Bool, true, false, not, ◌&&◌, ◌||◌, List, [], ◌∷◌, ◌++◌, Option, Some, None, option_map, option_and_then, unwrap_or, slice_get, if◌then◌else◌, refl, sym, ap, ◌∙◌, subst, arith}
 use Rattle.std.proofs.lemmas.Bool.{eqb-true}
 use Rattle.std.specs.Prelude.{nat_le}
+use Rattle.std.specs.List.{list_all}
 use Rattle.scc_base.specs.declared.refusal.Place.{Place}
 use Rattle.scc_base.specs.declared.refusal.Refusal.{Refusal}
 use Rattle.scc_base.specs.declared.code.Code.TheVariants as reason
@@ -22,10 +23,10 @@ use Rattle.scc_elab_spec.specs.Copied.{Here, copied, count_of, left_of, pick_of,
 use Rattle.scc_elab_spec.specs.Bodies.{inside, object_of, result_name, cleared, elements, sizes_of, zeroed, passed, cell_of, pointed, number_kind, aimed, is_first, local_as_whole}
 use Rattle.scc_elab_spec.proofs.Chains.{and-first, and-second}
 use Rattle.scc_inline_spec.specs.Static.{Chosen, is_static, by_object, by_arguments, begun, chosen_in, chosen_by, setting_in, not_static, first_copied}
-use Rattle.scc_inline_spec.specs.Inlined.{body_of, call_of, here_of, too_large}
+use Rattle.scc_inline_spec.specs.Inlined.{body_of, call_of, core_cells, here_of, too_large}
 use Rattle.scc_inline_process_laws.specs.SoundCode.{IsWider}
 use Rattle.scc_inline_process_laws.specs.Chosen.{reworded}
-use Rattle.scc_inline_counter_laws.specs.Even.{is_even}
+use Rattle.scc_inline_counter_laws.specs.Even.{is_even, is_even_process}
 use Rattle.scc_inline_counter_laws.specs.Choosing.{call_block, AreCounters, guards, IsStill, IsChosenObject, ChoosesCode, ChoosesCall}
 use Rattle.scc_inline_counter_laws.proofs.Even.{still-static}
 use Rattle.scc_inline_counter_laws.proofs.Bare.{turning-same, waits-same}
@@ -34,6 +35,9 @@ use Rattle.scc_inline_counter_laws.proofs.Calm.{N, Calm, is-own, calm-put, calm-
 or-none : {A : Type 0} (a b : Option A) → or_else a b ≡ None → (a ≡ None) × (b ≡ None)
 or-none None b e = (refl, e)
 or-none (Some x) b e = cc
+
+both : (a b : Bool) → a ≡ true → b ≡ true → (a && b) ≡ true
+both a b e f = λ z. e z && f z
 
 it-is : (o : ℕ) (m : Option ℕ) → is_it o m ≡ true → m ≡ Some o
 it-is o None e = cc
@@ -93,32 +97,24 @@ counts-is s ns z k b r e =
     seldom None e = cc
     seldom (Some n) e = (n, refl, e)
 
-module _ (s : Setting) (h : Here) (even : is_even h.cells ≡ true) where
-  -- none of these is refused
-  abbrev Passes : List Chosen → Type 0
-  Passes xs = first_of (not_static h) xs ≡ None
+module _ (s : Setting) (h : Here) where
+  -- each of these is static, with elements alike that counters choose
+  abbrev is_fit : Chosen → Bool
+  is_fit c = is_static h.cells c.counters c.left && is_even h.cells c.counters c.left
 
-  pass-append : (xs ys : List Chosen) → first_of (not_static h) (xs ++ ys) ≡ or_else (first_of (not_static h) xs) (first_of (not_static h) ys)
-  pass-append [] ys = refl
-  pass-append (x ∷ xs) ys = by (not_static h x) (pass-append xs ys)
-    where
-      by : (o : Option Refusal) → first_of (not_static h) (xs ++ ys) ≡ or_else (first_of (not_static h) xs) (first_of (not_static h) ys)
-          → or_else o (first_of (not_static h) (xs ++ ys)) ≡ or_else (or_else o (first_of (not_static h) xs)) (first_of (not_static h) ys)
-      by None e = e
-      by (Some r) e = refl
+  abbrev Passes : List Chosen → Type 0
+  Passes xs = list_all is_fit xs ≡ true
 
   pass-both : (xs ys : List Chosen) → Passes (xs ++ ys) → Passes xs × Passes ys
-  pass-both xs ys e = or-none (first_of (not_static h) xs) (first_of (not_static h) ys) (sym (pass-append xs ys) ∙ e)
-
-  static-is : (b : Bool) (r : Refusal) → when (not b) r ≡ None → b ≡ true
-  static-is true r e = refl
-  static-is false r e = cc
+  pass-both [] ys e = (refl, e)
+  pass-both (x ∷ xs) ys e = let r = pass-both xs ys (and-second (is_fit x) (list_all is_fit (xs ++ ys)) e) in (both (is_fit x) (list_all is_fit xs) (and-first (is_fit x) (list_all is_fit (xs ++ ys)) e) r.0, r.1)
 
   object-chosen : (to : Here) → to.cells ≡ h.cells → (ns : List Counter) (o : Option Left) → Passes (by_object to ns o) → IsChosenObject s to ns o
   object-chosen to c ns None e = tt
-  object-chosen to c ns (Some l) e = λ f. ap (λ cs. is_static cs (reworded f ns) (left_of to (result_name to) true l)) c
-      ∙ still-static h.cells even ns f (left_of to (result_name to) true l)
-      (static-is (is_static h.cells ns (left_of to (result_name to) true l)) (refused reason.StaticIndex (core.place_at (left_of to (result_name to) true l))) (or-none (not_static h (record { left = left_of to (result_name to) true l; counters = ns })) None e).0)
+  object-chosen to c ns (Some l) e =
+      let m = left_of to (result_name to) true l in
+      let x = and-first (is_static h.cells ns m && is_even h.cells ns m) true e in
+      λ f. ap (λ cs. is_static cs (reworded f ns) m) c ∙ still-static h.cells ns f m (and-second (is_static h.cells ns m) (is_even h.cells ns m) x) (and-first (is_static h.cells ns m) (is_even h.cells ns m) x)
 
   -- an assignment that stands before these statements is of the body too
   abbrev Since : Stand → stmt.Code → Type 0
@@ -321,12 +317,28 @@ module _ (s : Setting) (h : Here) (even : is_even h.cells ≡ true) where
       → Passes (chosen_in (chosen_by s h left) (call_of h left) s (inside h cs g this) [] 0 First g.body) → ChoosesCode s (call_of h left) (ChoosesCall s h left) (inside h cs g this) [] g.body
   chosen-body left cs g this part e = walk left (inner left) cs g this [] [] 0 [] First g.body tt (λ o t. t) (record { calm = tt; part = part }) (λ z x. cc) e
 
+-- what isn't refused, and is even, passes
+all-fit : (h : Here) (xs : List Chosen) → first_of (not_static h) xs ≡ None → list_all (λ (c : Chosen). is_even h.cells c.counters c.left) xs ≡ true → list_all (λ (c : Chosen). is_static h.cells c.counters c.left && is_even h.cells c.counters c.left) xs ≡ true
+all-fit h [] e a = refl
+all-fit h (x ∷ xs) e a =
+    let E = is_even h.cells x.counters x.left in let A = list_all (λ (c : Chosen). is_even h.cells c.counters c.left) xs in
+    let r = or-none (not_static h x) (first_of (not_static h) xs) e in
+    both (is_static h.cells x.counters x.left && E) (list_all (λ (c : Chosen). is_static h.cells c.counters c.left && is_even h.cells c.counters c.left) xs)
+    (both (is_static h.cells x.counters x.left) E (static-is (is_static h.cells x.counters x.left) (refused reason.StaticIndex (core.place_at x.left)) r.0) (and-first E A a)) (all-fit h xs r.1 (and-second E A a))
+  where
+    static-is : (b : Bool) (r : Refusal) → when (not b) r ≡ None → b ≡ true
+    static-is true r e = refl
+    static-is false r e = cc
+
 -- the objects of a process that isn't refused
-pub objects-chosen : (p : Plain) (d : Design) (i : ℕ) (q : design.Process) (f : Function) → slice_get p.functions q.function ≡ Some f → is_even (here_of p d i q f).cells ≡ true → first_copied p d i q ≡ None
+pub objects-chosen : (p : Plain) (d : Design) (i : ℕ) (q : design.Process) (f : Function) → slice_get p.functions q.function ≡ Some f → is_even_process p d i q ≡ true → first_copied p d i q ≡ None
     → ChoosesCode (setting_in p d i q) (call_of (here_of p d i q f) levels) (ChoosesCall (setting_in p d i q) (here_of p d i q f) levels) (here_of p d i q f) [] f.body
 objects-chosen p d i q f stands even e =
     let h = here_of p d i q f in
+    let s = setting_in p d i q in
     let x = (or-none (too_large p d i q) (option_and_then (λ f. let h = here_of p d i q f in first_of (not_static h) (chosen_in (chosen_by (setting_in p d i q) h levels) (call_of h levels) (setting_in p d i q) h [] 0 First f.body)) (slice_get p.functions q.function)) e).1 in
     let y = subst (λ o. option_and_then (λ f. let h = here_of p d i q f in first_of (not_static h) (chosen_in (chosen_by (setting_in p d i q) h levels) (call_of h levels) (setting_in p d i q) h [] 0 First f.body)) o ≡ None) stands x in
-    chosen-body (setting_in p d i q) h even levels [] f h.this (λ o.
-    subst (λ c. uses h.cells o (body_of (call_of h levels) h 0 [] f.body) ≤ uses h.cells o c) (sym (ap (λ o. unwrap_or (option_map (λ f. let h = here_of p d i q f in stmt.Block q.place (body_of (call_of h levels) h 0 [] f.body) stmt.End) o) stmt.End) stands)) (omega arith)) y
+    let all = chosen_in (chosen_by s h levels) (call_of h levels) s h [] 0 First f.body in
+    let a = subst (λ o. list_all (λ (c : Chosen). is_even (core_cells p d) c.counters c.left) (unwrap_or (option_map (λ f. let h = here_of p d i q f in chosen_in (chosen_by (setting_in p d i q) h levels) (call_of h levels) (setting_in p d i q) h [] 0 First f.body) o) []) ≡ true) stands even in
+    chosen-body s h levels [] f h.this (λ o.
+    subst (λ c. uses h.cells o (body_of (call_of h levels) h 0 [] f.body) ≤ uses h.cells o c) (sym (ap (λ o. unwrap_or (option_map (λ f. let h = here_of p d i q f in stmt.Block q.place (body_of (call_of h levels) h 0 [] f.body) stmt.End) o) stmt.End) stands)) (omega arith)) (all-fit h all y a)

@@ -147,7 +147,7 @@ module _ (p : Plain) (d : Design) (constant : Location → Option ℕ) (ord : Is
         targets = targets-same p d constant ord small;
         counters = c;
         sound = sound-body p d constant i q there ok c levels [] q.function ok.function (first-stands p d constant i q there ok (small i q there)) (here_of p d i q ok.function).this tt refl []
-            (objects-chosen p d i q ok.function ok.stands ord.arrays (unrefused i q there)) (λ o e. cc);
+            (objects-chosen p d i q ok.function ok.stands (ord.arrays i q there) (unrefused i q there)) (λ o e. cc);
         keeps = λ ns ts x. subst (λ z. KeepsOver (home_of p d) z (own_names p d constant i q) (here_of p d i q ok.function) E i (copied_as_process p d constant i q) (at_first E i (copied_as_process p d constant i q)) ns ts) (places-same p d constant ord small)
             (kept_always (home_of p d) (copied_program p d) constant (own-home p d) (core-moves p d) keeps i (copied_as_process p d constant i q)
             (let w : 0 + i ≡ i = omega arith in process-there 0 d.processes i q there ∙ ap (λ k. Some (copied_as_process p d constant k q)) w)

@@ -14,6 +14,7 @@ use Rattle.scc_elab_spec.specs.Design.{Object, Pointer}
 use Rattle.scc_elab_spec.specs.Meant.{design_of, is_pointer}
 use Rattle.scc_inline_spec.specs.Inlined.{home_of, copied_program}
 use Rattle.scc_elab_spec.specs.Worked.{program, made, method, pick, int, member}
+use Rattle.scc_inline_counter_laws.specs.Even.{is_even_process}
 use Rattle.scc_inline_laws.specs.Orderly.{IsOrderlyFunction, IsOrderlyLocal}
 use Rattle.scc_inline_laws.specs.OrderlyDesign.{IsOrderly, IsOrderlyProcess}
 use Rattle.scc_inline_laws.specs.WorkedProcess.{process}
@@ -57,12 +58,16 @@ one zero zero q r e f = refl
 one zero (suc n) q r e f = cc
 one (suc n) j q r e f = cc
 
+arrays : (i : ℕ) (q : design.Process) → slice_get made.processes i ≡ Some q → is_even_process program made i q ≡ true
+arrays zero q e = let z : process ≡ q = cc in subst (λ q. is_even_process program made 0 q ≡ true) z refl
+arrays (suc n) q e = cc
+
 pub worked-orderly : IsOrderly program made
 worked-orderly = record {
   processes = process-orderly;
   names = λ i j q r e f z. one i j q r e f;
   pointers = λ i j o u e f z w v. absurd (no-pointer i o e z);
-  arrays = refl;
+  arrays = arrays;
   targets = λ n r o e z. absurd (no-pointer n o e (ap (is_pointer program made) z));
 }
 

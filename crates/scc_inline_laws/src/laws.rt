@@ -63,7 +63,7 @@ pub fn an_object_stays()
 
 /// An object that isn't refused as chosen by an index that isn't static, the counters around the call taken as 0, stays while its function runs, whatever the counters hold.
 pub fn an_object_that_is_not_refused_stays()
-    ensures { (home : Home) (places : Places) (own : Names) (h : Here) (held : ℕ → Bool) (ns : List Counter) (l : Left) → Counters (around home places own h) → AreHeld h held ns → is_even h.cells ≡ true → IsSoundLeft home h l
+    ensures { (home : Home) (places : Places) (own : Names) (h : Here) (held : ℕ → Bool) (ns : List Counter) (l : Left) → Counters (around home places own h) → AreHeld h held ns → is_even h.cells ns (left_here h (result_name h) true l) ≡ true → IsSoundLeft home h l
         → is_static h.cells ns (left_here h (result_name h) true l) ≡ true → IsFirm home places own h held l }
 {}
 

@@ -22,14 +22,14 @@ use Rattle.scc_elab_laws.proofs.Rooting.{second-none}
 use Rattle.scc_elab_laws.proofs.Meeting.{process-meets, meetings}
 use Rattle.scc_elab_laws.proofs.Leading.{objects-left-at}
 use Rattle.scc_elab_laws.proofs.Runs.{process-once, process-runs}
-use Rattle.scc_inline_spec.specs.Inlined.{core_cells, process_path}
-use Rattle.scc_inline_counter_laws.specs.Even.{is_even}
+use Rattle.scc_inline_spec.specs.Inlined.{process_path}
+use Rattle.scc_inline_counter_laws.specs.Even.{are_even}
 use Rattle.scc_inline_laws.specs.OrderlyDesign.{IsThing, AreThings, IsEdge, IsReset, IsOrderly}
 use Rattle.scc_inline_orderly_laws.specs.Program.{IsOrderlyProgram, is_orderly_program, same_name, same_run}
 use Rattle.scc_inline_orderly_laws.specs.Reached.{reached}
 use Rattle.scc_inline_orderly_laws.specs.Whole.{differ, are_orderly}
 use Rattle.scc_inline_orderly_laws.proofs.Bools.{and-first, and-second, all-at, differ-at}
-use Rattle.scc_inline_orderly_laws.proofs.Whole.{functions-are}
+use Rattle.scc_inline_orderly_laws.proofs.Whole.{even-at, functions-are}
 
 some-same : {A : Type 0} {x y : A} → Some x ≡ Some y → x ≡ y
 some-same e = cc
@@ -37,7 +37,7 @@ some-same e = cc
 -- what passes the test
 pub program-orderly : (p : Plain) (d : Design) → is_orderly_program p d ≡ true → IsOrderlyProgram p d
 program-orderly p d x =
-    let A = list_all (λ q. are_orderly p d q.function (reached p q.function)) d.processes in let B = differ (same_run p) d.processes in let E = is_even (core_cells p d) in
+    let A = list_all (λ q. are_orderly p d q.function (reached p q.function)) d.processes in let B = differ (same_run p) d.processes in let E = are_even p d 0 d.processes in
     let y = and-second A (B && E) x in
     record {
       functions = λ i q e. functions-are p d q.function (reached p q.function) (all-at (λ q. are_orderly p d q.function (reached p q.function)) d.processes i q (and-first A (B && E) x) e);
@@ -45,7 +45,7 @@ program-orderly p d x =
           let clash : same_run p q r ≡ true = (λ z. nat_eq (o z) r.object && same_name (u z) (v z)) ∙ ((λ z. nat_eq r.object r.object && nat_eq (n z) g.name) ∙ both r.object g.name) in
           let same : i ≡ j = differ-at (same_run p) d.processes i j q r (and-first B E y) e h clash in
           let z : q ≡ r = some-same (sym e ∙ (ap (slice_get d.processes) same ∙ h)) in ap (λ (q : design.Process). q.function) z;
-      arrays = and-second B E y;
+      arrays = even-at p d d.processes (and-second B E y);
     }
   where
     self : (n : ℕ) → nat_eq n n ≡ true

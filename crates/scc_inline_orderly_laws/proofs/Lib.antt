@@ -4,3 +4,4 @@ pub mod Reached
 pub mod Whole
 pub mod Counted
 pub mod Elaborated
+pub mod Closed

@@ -13,7 +13,7 @@ some-is e = cc
 self : (n : ℕ) → nat_eq n n ≡ true
 self n = grind arith
 
-in-front : (n : ℕ) (xs ys : List ℕ) → among n xs ≡ true → among n (xs ++ ys) ≡ true
+pub in-front : (n : ℕ) (xs ys : List ℕ) → among n xs ≡ true → among n (xs ++ ys) ≡ true
 in-front n [] ys e = cc
 in-front n (x ∷ xs) ys e = by (nat_eq n x) e (in-front n xs ys)
   where
@@ -21,7 +21,7 @@ in-front n (x ∷ xs) ys e = by (nat_eq n x) e (in-front n xs ys)
     by true e ih = refl
     by false e ih = ih e
 
-behind : (n : ℕ) (xs ys : List ℕ) → among n ys ≡ true → among n (xs ++ ys) ≡ true
+pub behind : (n : ℕ) (xs ys : List ℕ) → among n ys ≡ true → among n (xs ++ ys) ≡ true
 behind n [] ys e = e
 behind n (x ∷ xs) ys e = by (nat_eq n x) (behind n xs ys e)
   where

@@ -8,8 +8,7 @@ use Rattle.scc_elab_spec.specs.Design as design
 use Rattle.scc_elab_spec.specs.Design.{Design, Object, Node, Pointer, Edge, Reset, is_module}
 use Rattle.scc_elab_spec.specs.Meant.{is_pointer}
 use Rattle.scc_elab_spec.specs.Numbering.{function_at}
-use Rattle.scc_inline_spec.specs.Inlined.{core_cells}
-use Rattle.scc_inline_counter_laws.specs.Even.{is_even}
+use Rattle.scc_inline_counter_laws.specs.Even.{is_even_process, are_even}
 use Rattle.scc_inline_laws.specs.Orderly.{IsOrderlyFunction}
 use Rattle.scc_inline_laws.specs.OrderlyDesign.{IsThing, AreThings, IsEdge, IsReset, IsOrderlyProcess, IsOrderly}
 use Rattle.scc_inline_orderly_laws.specs.Test.{is_orderly_function}
@@ -18,6 +17,17 @@ use Rattle.scc_inline_orderly_laws.specs.Whole.{differ, is_thing, is_edge, is_re
 use Rattle.scc_inline_orderly_laws.proofs.Bools.{and-first, and-second, not-false, all-at, differ-at}
 use Rattle.scc_inline_orderly_laws.proofs.Test.{function-orderly}
 use Rattle.scc_inline_orderly_laws.proofs.Reached.{all-among, leads-inside}
+
+-- each of these processes is even
+even-from : (p : Plain) (d : Design) (k : ℕ) (qs : List design.Process) → are_even p d k qs ≡ true → (i : ℕ) (q : design.Process) → slice_get qs i ≡ Some q → is_even_process p d (k + i) q ≡ true
+even-from p d k [] x i q e = cc
+even-from p d k (y ∷ qs) x zero q e = let same : y ≡ q = cc in let w : k ≡ k + 0 = omega arith in
+    subst (λ k. is_even_process p d k q ≡ true) w (subst (λ q. is_even_process p d k q ≡ true) same (and-first (is_even_process p d k y) (are_even p d (suc k) qs) x))
+even-from p d k (y ∷ qs) x (suc i) q e = let w : suc k + i ≡ k + suc i = omega arith in
+    subst (λ k. is_even_process p d k q ≡ true) w (even-from p d (suc k) qs (and-second (is_even_process p d k y) (are_even p d (suc k) qs) x) i q e)
+
+pub even-at : (p : Plain) (d : Design) (qs : List design.Process) → are_even p d 0 qs ≡ true → (i : ℕ) (q : design.Process) → slice_get qs i ≡ Some q → is_even_process p d i q ≡ true
+even-at p d qs x i q e = let w : 0 + i ≡ i = omega arith in subst (λ k. is_even_process p d k q ≡ true) w (even-from p d 0 qs x i q e)
 
 module _ (p : Plain) (d : Design) where
   thing-is : (n : ℕ) → is_thing p d n ≡ true → IsThing p d n
@@ -82,13 +92,13 @@ module _ (p : Plain) (d : Design) where
 
   pub orderly : is_orderly p d ≡ true → IsOrderly p d
   orderly x =
-      let A = list_all (is_orderly_process p d) d.processes in let B = differ (same_process p d) d.processes in let C = differ (same_pointer p d) d.objects in let E = is_even (core_cells p d) in let T = have_targets p d 0 d.objects in
+      let A = list_all (is_orderly_process p d) d.processes in let B = differ (same_process p d) d.processes in let C = differ (same_pointer p d) d.objects in let E = are_even p d 0 d.processes in let T = have_targets p d 0 d.objects in
       let x1 = and-second A (B && (C && (E && T))) x in let x2 = and-second B (C && (E && T)) x1 in let x3 = and-second C (E && T) x2 in
       record {
         processes = λ i q e. process-orderly i q (all-at (is_orderly_process p d) d.processes i q (and-first A (B && (C && (E && T))) x) e);
         names = λ i j q r e f z. differ-at (same_process p d) d.processes i j q r (and-first B (C && (E && T)) x1) e f z;
         pointers = λ i j o u e f z w v. differ-at (same_pointer p d) d.objects i j o u (and-first C (E && T) x2) e f (both (is_pointer p d o.node) (is_pointer p d u.node) (same_path o.path u.path) z w v);
-        arrays = and-first E T x3;
+        arrays = even-at p d d.processes (and-first E T x3);
         targets = λ n r o e u. let w : 0 + n ≡ n = omega arith in subst (λ k. is_some (find (λ t. nat_eq t.object k) d.targets) ≡ true) w (targets-are 0 d.objects (and-second E T x3) n r o e u);
       }
     where

@@ -3,3 +3,4 @@ pub mod Reached
 pub mod Whole
 pub mod Worked
 pub mod Program
+pub mod WorkedTable

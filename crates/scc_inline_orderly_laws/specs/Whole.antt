@@ -6,8 +6,8 @@ use Rattle.scc_elab_spec.specs.Program.{Function, Plain}
 use Rattle.scc_elab_spec.specs.Design as design
 use Rattle.scc_elab_spec.specs.Design.{Design, Object, Node, Pointer, Edge, Reset, is_module}
 use Rattle.scc_elab_spec.specs.Meant.{is_pointer}
-use Rattle.scc_inline_spec.specs.Inlined.{core_cells, process_path}
-use Rattle.scc_inline_counter_laws.specs.Even.{is_even}
+use Rattle.scc_inline_spec.specs.Inlined.{process_path}
+use Rattle.scc_inline_counter_laws.specs.Even.{are_even}
 use Rattle.scc_inline_orderly_laws.specs.Test.{is_orderly_function}
 use Rattle.scc_inline_orderly_laws.specs.Reached.{among, reached, is_closed}
 
@@ -65,4 +65,4 @@ module _ (p : Plain) (d : Design) where
   have_targets n (o ∷ os) = has_target n o.node && have_targets (suc n) os
 
   abbrev pub is_orderly : Bool
-  is_orderly = list_all is_orderly_process d.processes && (differ same_process d.processes && (differ same_pointer d.objects && (is_even (core_cells p d) && have_targets 0 d.objects)))
+  is_orderly = list_all is_orderly_process d.processes && (differ same_process d.processes && (differ same_pointer d.objects && (are_even p d 0 d.processes && have_targets 0 d.objects)))

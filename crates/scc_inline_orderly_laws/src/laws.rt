@@ -12,8 +12,10 @@ ghost use Rattle.scc_elab_spec.specs.Program.{Plain};
 ghost use Rattle.scc_elab_spec.specs.Worked.{program, made};
 ghost use Rattle.scc_inline_laws.specs.OrderlyDesign.{IsOrderly};
 ghost use Rattle.scc_inline_orderly_laws.specs.Program.{IsOrderlyProgram, is_orderly_program};
+ghost use Rattle.scc_inline_orderly_laws.specs.Reached.{among, is_closed, reached};
 ghost use Rattle.scc_inline_orderly_laws.specs.Whole.{is_orderly};
 ghost use Rattle.scc_inline_orderly_laws.specs.Worked.{counted, counting};
+ghost use Rattle.scc_inline_orderly_laws.specs.WorkedTable.{tabled};
 ghost use Rattle.scc_inline_spec.specs.Inlined.{copied_program, home_of};
 ghost use Rattle.scc_inline_spec.specs.Stages.{compiled};
 ghost use Rattle.scc_inline_spec.specs.Static.{inlined};
@@ -56,4 +58,17 @@ pub fn a_counted_program_is_orderly()
     ensures program { is_orderly_program counted counting ≡ true }
     ensures compiled { option_map (λ t. made_map (λ c. length c.processes) t) (compiled false counted) ≡ Some (Made 1) }
     ensures values { is_orderly program made ≡ true }
+{}
+
+/// So does one in which it chooses the object by a table, beside an array of pointers of which only one leads to an object.
+pub fn a_tabled_program_is_orderly()
+    ensures whole { is_whole_plain tabled ≡ true }
+    ensures program { option_map (λ t. made_map (λ d. is_orderly_program tabled d) t) (elaborated false tabled) ≡ Some (Made true) }
+    ensures compiled { option_map (λ t. made_map (λ c. length c.processes) t) (compiled false tabled) ≡ Some (Made 1) }
+{}
+
+/// What the calls of a function lead to, as it is looked for, has the function, and no call of it leads elsewhere.
+pub fn what_calls_lead_to_is_reached()
+    ensures itself { (p : Plain) (f : ℕ) → among f (reached p f) ≡ true }
+    ensures closed { (p : Plain) (f : ℕ) → is_closed p (reached p f) ≡ true }
 {}

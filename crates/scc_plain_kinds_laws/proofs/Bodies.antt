@@ -1,12 +1,12 @@
 -- The statements of a body have operators of the kinds that they say.
-use Rattle.std.proofs.Common.{◌≡◌, ℕ, Bool, true, false, List, [], ◌∷◌, length, Option, Some, None, refl, if◌then◌else◌}
+use Rattle.std.proofs.Common.{ℕ, Bool, true, false, List, [], ◌∷◌, length, Option, Some, None, refl, if◌then◌else◌}
 use Rattle.scc_base.specs.declared.refusal.Place.{Place}
 use Rattle.scc_bits_kinds.specs.declared.kind.Kind.{Kind}
 use Rattle.scc_bits_kinds.specs.Counts.{promoted}
 use Rattle.scc_bits_kinds.specs.Groups.{group_of, is_small}
 use Rattle.scc_bits_kinds.specs.declared.op.Op.TheVariants as op
 use Rattle.scc_bits.specs.Value.{Number}
-use Rattle.scc_templates_spec.specs.Walked.{Walked, pure, fault, and_walk}
+use Rattle.scc_templates_spec.specs.Walked.{pure}
 use Rattle.scc_templates_spec.specs.World.{World}
 use Rattle.scc_templates_spec.specs.Tree.{Tree, place_of}
 use Rattle.scc_templates_spec.specs.Statements.{Stmts, End, Brace, Declare, If, Switch, While, Do, For, Break, Continue, Return, Wait, Runs, Reset, Simply, Items, NoItems, Case, Otherwise, Between, Local, Simple, First, Nothing, Locals, Does}
@@ -16,23 +16,22 @@ use Rattle.scc_elab_spec.specs.Term.{Term, Load, Whole}
 use Rattle.scc_elab_spec.specs.Term as term
 use Rattle.scc_elab_spec.specs.Program.{Direct}
 use Rattle.scc_elab_spec.specs.Program as code
-use Rattle.scc_elab_spec.specs.Typed.{IsTyped}
 use Rattle.scc_plain_spec.specs.Types.{OfNumber}
 use Rattle.scc_plain_spec.specs.Scope.{Answer}
 use Rattle.scc_plain_spec.specs.Calls.{constant}
-use Rattle.scc_plain_spec.specs.Drafts.{Draft, kind_in, drafted, literal, converted, operate}
-use Rattle.scc_plain_spec.specs.Room.{Around, Known, Room, Numbering, Writes, nothing, then_write, Step, done, found, and_step, in_room, declare, written}
+use Rattle.scc_plain_spec.specs.Drafts.{Draft, kind_in, drafted, literal}
+use Rattle.scc_plain_spec.specs.Room.{Around, Known, Numbering, Writes, nothing, then_write, Step}
 use Rattle.scc_plain_spec.specs.Loops.{counted, loop_test, turn, looped, for_loop}
-use Rattle.scc_plain_spec.specs.Switch.{Flow, start, in_turn, in_cases, Label, Cases, no_cases, unless_met, test, leaving, behind_label, at_case, at_default, behind_stmts, exit_number, switched}
-use Rattle.scc_plain_spec.specs.Single.{local, simple, give, wait}
-use Rattle.scc_plain_spec.specs.Processes.{process, senses, reset}
+use Rattle.scc_plain_spec.specs.Switch.{Flow, in_turn, in_cases, Label, Cases, no_cases, unless_met, test, leaving, behind_label, at_case, at_default, behind_stmts, exit_number, switched}
+use Rattle.scc_plain_spec.specs.Single.{local}
 use Rattle.scc_plain_spec.specs.Bodies.{in_order, before, leave, declared_so_far, Headed, one_name, selector_name, Selected, head_locals, head, tested, tested_if, changed, small_one, selected, case, otherwise, body, items}
-use Rattle.scc_plain_kinds_laws.proofs.Walks.{Finds, finds-pure, finds-none, finds-any, finds-then, finds-behind, finds-if, Gives, gives-done, gives-found, gives-none, gives-then, gives-in, gives-if}
-use Rattle.scc_plain_kinds_laws.proofs.Calls.{IsTypedDraft, IsAny, converted-finds}
-use Rattle.scc_plain_kinds_laws.proofs.Expressions.{operate-finds, value-gives, condition-gives}
-use Rattle.scc_plain_kinds_laws.proofs.Kept.{Keeps, RoomKeeps, lifts, keeps-nothing, keeps-then, keeps-plain, keeps-assign, keeps-if, keeps-loop, keeps-block, written-gives}
-use Rattle.scc_plain_kinds_laws.proofs.Simple.{any-found}
-use Rattle.scc_plain_kinds_laws.proofs.Single.{declare-gives, local-gives, simple-gives, give-gives, wait-gives, senses-give, process-gives, reset-gives}
+use Rattle.scc_plain_laws.proofs.Walks.{Finds, finds-pure, finds-any, finds-then, finds-behind, Gives, gives-done, gives-found, gives-none, gives-then, gives-in, gives-if}
+use Rattle.scc_plain_laws.proofs.Calls.{IsTypedDraft, IsAny, converted-finds}
+use Rattle.scc_plain_laws.proofs.Expressions.{operate-finds, value-gives, condition-gives}
+use Rattle.scc_plain_kinds_laws.proofs.Kept.{any-known, Keeps, RoomKeeps, lifts, keeps-nothing, keeps-then, keeps-plain, keeps-assign, keeps-if, keeps-loop, keeps-block, written-gives}
+use Rattle.scc_plain_laws.proofs.Values.{senses-give}
+use Rattle.scc_plain_kinds_laws.proofs.Single.{declare-gives, local-gives, simple-gives, give-gives, wait-gives, process-gives, reset-gives}
+use Rattle.scc_plain_laws.specs.Named.{Names, any_local}
 
 pub order-gives : {f g : Step Writes} → Gives RoomKeeps Keeps f → Gives RoomKeeps Keeps g → Gives RoomKeeps Keeps (in_order f g)
 order-gives h k = gives-then h (λ x t. gives-then k (λ y u. gives-done (keeps-then t u)))
@@ -47,7 +46,7 @@ leave-gives p (Some n) = written-gives (keeps-plain (λ m c. refl))
 keeps-exit : (p : Place) (n : ℕ) → Keeps (λ m c. code.Exit p n c)
 keeps-exit p n = keeps-plain (λ m c. refl)
 
-test-keeps : (p : Place) (t : Term) → IsTyped t → Keeps (loop_test p t)
+test-keeps : (p : Place) (t : Term) → Names any_local t → Keeps (loop_test p t)
 test-keeps p t h = keeps-if p t nothing (λ m c. code.Exit p 0 c) h keeps-nothing (keeps-exit p 0)
 
 turn-keeps : (p : Place) (x : Writes) → Keeps x → Keeps (turn p x)
@@ -73,7 +72,7 @@ record CasesKeep (c : Cases) : Type 0 where
   tests : Keeps c.tests
   blocks : (head : Writes) → Keeps head → Keeps (c.blocks head)
 
-leaving-keeps : (p : Place) (n : ℕ) (t : Term) → IsTyped t → Keeps (leaving p n t)
+leaving-keeps : (p : Place) (n : ℕ) (t : Term) → Names any_local t → Keeps (leaving p n t)
 leaving-keeps p n t h = keeps-if p t (λ m c. code.Exit p n c) nothing h (keeps-exit p n) keeps-nothing
 
 label-keeps : (c : Cases) (l : Label) (x : Writes) (n : Option ℕ) → CasesKeep c → Keeps x → CasesKeep (behind_label c l x n)
@@ -85,8 +84,8 @@ stmts-keep c n s x k h = record { tests = k.tests; blocks = λ head u. keeps-the
 switched-keeps : (p : Place) (c : Cases) → CasesKeep c → Keeps (switched p c)
 switched-keeps p c k = keeps-block p (c.blocks (then_write c.tests (λ m j. code.Exit p (exit_number c) j))) (k.blocks (then_write c.tests (λ m j. code.Exit p (exit_number c) j)) (keeps-then k.tests (keeps-exit p (exit_number c))))
 
-test-finds : (p : Place) (n : ℕ) (k : Kind) (e : Place) (v : Number) → Finds IsTyped (test p n k e v)
-test-finds p n k e v = finds-then (operate-finds p p op.Eq (drafted p (Load p k (term.Local p n))) (literal e v) tt tt) (λ x t. finds-pure t)
+test-finds : (p : Place) (n : ℕ) (k : Kind) (e : Place) (v : Number) → Finds (Names any_local) (test p n k e v)
+test-finds p n k e v = finds-then (operate-finds any_local p p op.Eq (drafted p (Load p k (term.Local p n))) (literal e v) refl tt) (λ x t. finds-pure t)
 
 module _ (s : Source) (w : World Answer) (a : Around) where
   locals-give : (ks : List Known) (ls : List Local) → Gives RoomKeeps HeadedKeeps (head_locals s w a ks ls)
@@ -99,7 +98,7 @@ module _ (s : Source) (w : World Answer) (a : Around) where
   head-gives ks (Does e) = gives-then (simple-gives s w a ks true e) (λ x t. gives-done {x = record { writes = x; known = ks }} t)
 
   tested-gives : (ks : List Known) (t : Tree) → Gives RoomKeeps Keeps (tested s w a ks t)
-  tested-gives ks t = gives-then (condition-gives lifts s w a ks true t) (λ x h. gives-done (test-keeps (place_of t) x.term h))
+  tested-gives ks t = gives-then (condition-gives any_local lifts s w a ks (any-known ks) true t) (λ x h. gives-done (test-keeps (place_of t) x.term h))
 
   tested-if-gives : (ks : List Known) (t : Option Tree) → Gives RoomKeeps Keeps (tested_if s w a ks t)
   tested-if-gives ks None = gives-done keeps-nothing
@@ -109,13 +108,13 @@ module _ (s : Source) (w : World Answer) (a : Around) where
   changed-gives ks None = gives-done keeps-nothing
   changed-gives ks (Some e) = simple-gives s w a ks true e
 
-  small-gives : (p : Place) (x : Draft) → IsTyped x.term → Gives RoomKeeps IsTypedDraft (small_one s w a p x)
+  small-gives : (p : Place) (x : Draft) → Names any_local x.term → Gives RoomKeeps (IsTypedDraft any_local) (small_one s w a p x)
   small-gives p x t = gives-if (is_small (group_of (kind_in x))) (gives-done t) (gives-none (λ r. refl))
 
   selected-gives : (ks : List Known) (late : Bool) (p : Place) (e : Tree) → Gives RoomKeeps SelectedKeeps (selected s w a ks late p e)
-  selected-gives ks late p e = gives-then (gives-then (value-gives lifts s w a ks late e) (λ x t. small-gives (place_of e) x t)) (λ x t. gives-then (gives-found (converted-finds (promoted (kind_in x)) x t)) (λ y u.
+  selected-gives ks late p e = gives-then (gives-then (value-gives any_local lifts s w a ks (any-known ks) late e) (λ x t. small-gives (place_of e) x t)) (λ x t. gives-then (gives-found (converted-finds any_local (promoted (kind_in x)) x t)) (λ y u.
       gives-then (declare-gives (record { name = selector_name; place = p; shape = record { base = OfNumber (promoted (kind_in x)); reach = Direct; vector = false; sizes = [] } })) (λ n v.
-      gives-then (written-gives (keeps-assign p (term.Local p n) Whole y.term tt tt u)) (λ ws k. gives-done {x = record { writes = ws; local = n; draft = y }} k))))
+      gives-then (written-gives (keeps-assign p (term.Local p n) Whole y.term refl tt u)) (λ ws k. gives-done {x = record { writes = ws; local = n; draft = y }} k))))
 
   case-gives : (c : Cases) (x : Selected) (p : Place) (e : Tree) → CasesKeep c → Gives RoomKeeps CasesKeep (case s w a c x p e)
   case-gives c x p e k = gives-found (finds-behind (constant s w a c.numbers false p e) (λ v. finds-then (test-finds p x.local (kind_in x.draft) (place_of e) v) (λ t h.
@@ -132,7 +131,7 @@ module _ (s : Source) (w : World Answer) (a : Around) where
     body-gives f ks End = gives-done keeps-nothing
     body-gives f ks (Brace b r) = order-gives (body-gives f ks b) (body-gives f ks r)
     body-gives f ks (Declare l r) = gives-then (local-gives s w a ks f.late l) (λ d t. before-gives d.writes t (body-gives f (d.known ∷ ks) r))
-    body-gives f ks (If p t b c r) = gives-then (condition-gives lifts s w a ks f.late t) (λ x h. gives-then (written-gives keeps-nothing) (λ calls k. gives-then (body-gives f ks b) (λ y i. gives-then (body-gives f ks c) (λ z j.
+    body-gives f ks (If p t b c r) = gives-then (condition-gives any_local lifts s w a ks (any-known ks) f.late t) (λ x h. gives-then (written-gives keeps-nothing) (λ calls k. gives-then (body-gives f ks b) (λ y i. gives-then (body-gives f ks c) (λ z j.
         before-gives (then_write calls (λ n k. code.If p x.term (y n code.End) (z n code.End) k)) (keeps-then k (keeps-if p x.term y z h i j)) (body-gives f ks r)))))
     body-gives f ks (Switch p e is r) = gives-then (selected-gives ks f.late p e) (λ x k. gives-then (items-give f x (no_cases ks is) is (record { tests = keeps-nothing; blocks = λ head u. u })) (λ c h.
         before-gives (then_write x.writes (switched p c)) (keeps-then k (switched-keeps p c h)) (body-gives f ks r)))
@@ -145,7 +144,7 @@ module _ (s : Source) (w : World Answer) (a : Around) where
     body-gives f ks (Return p e r) = order-gives (give-gives s w a ks f.late p e a.result) (body-gives f ks r)
     body-gives f ks (Wait p e r) = order-gives (wait-gives s w a ks f.late p e) (body-gives f ks r)
     body-gives f ks (Runs p at x q r) = order-gives (process-gives s w a ks f.late p at x q) (body-gives f ks r)
-    body-gives f ks (stmts.Sensitive p es r) = order-gives (gives-then (senses-give s w a ks f.late es) (λ xs t. written-gives (keeps-plain (λ n c. refl)))) (body-gives f ks r)
+    body-gives f ks (stmts.Sensitive p es r) = order-gives (gives-then (senses-give any_local lifts s w a ks (any-known ks) f.late es) (λ xs t. written-gives (keeps-plain (λ n c. refl)))) (body-gives f ks r)
     body-gives f ks (stmts.Quiet p r) = order-gives (written-gives {x = λ n c. code.Quiet p c} (keeps-plain (λ n c. refl))) (body-gives f ks r)
     body-gives f ks (Reset p e l asynchronous r) = order-gives (reset-gives s w a ks f.late p e l asynchronous) (body-gives f ks r)
     body-gives f ks (Simply e r) = order-gives (simple-gives s w a ks f.late e) (body-gives f ks r)

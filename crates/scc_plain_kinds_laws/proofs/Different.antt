@@ -1,27 +1,26 @@
 -- The members of each class of a plain program have different names, since no name is declared twice.
-use Rattle.std.proofs.Common.{◌≡◌, ℕ, suc, zero, Bool, true, false, not, ◌&&◌, ◌||◌, nat_eq, List, [], ◌∷◌, ◌++◌, find, map, filter_map, slice_get, Option, Some, None, option_map, option_and_then, refl, sym, ap, ◌∙◌, subst, arith, if◌then◌else◌}
+use Rattle.std.proofs.Common.{◌≡◌, ℕ, suc, zero, Bool, true, false, not, ◌&&◌, ◌||◌, nat_eq, List, [], ◌∷◌, ◌++◌, find, filter_map, slice_get, Option, Some, None, option_map, option_and_then, refl, sym, ap, ◌∙◌, subst, arith, if◌then◌else◌}
 use Rattle.std.specs.List.{list_all, list_any, cons_option}
-use Rattle.scc_base.specs.declared.code.Code.TheVariants as reason
 use Rattle.scc_base.specs.declared.refusal.Place.{Place}
 use Rattle.scc_base.specs.declared.refusal.Refusal.{Refusal}
 use Rattle.scc_core_spec.specs.First.{or_else}
-use Rattle.scc_core_spec.specs.Resolved.{Tried, Made, Stopped}
+use Rattle.scc_core_spec.specs.Resolved.{Made}
 use Rattle.scc_elab_growth_laws.specs.Apart.{names_differ, is_whole_plain}
 use Rattle.scc_elab_spec.specs.Program as code
 use Rattle.scc_templates_spec.specs.Walk.{Event, Fault, Need, Late, Uses, Calls, Tally, Went, then_go, go, needed, empty}
 use Rattle.scc_templates_spec.specs.World.{World}
-use Rattle.scc_templates_spec.specs.Source.{Source, Top, OfClass, Outside, Plain, Class, Member, Variable, Declares, Said}
+use Rattle.scc_templates_spec.specs.Source.{Source, Top, OfClass, Outside, Plain, Class, Member, Variable, Declares}
 use Rattle.scc_templates_spec.specs.Twice.{Naming, naming, clashes, refused, Scoped, Names, Inside, clashing, param_namings, of_said, of_members, of_class, class_name, of_tops, inside, scope, param_names, twice}
 use Rattle.scc_plain_first.specs.Static.{staged, refusal_of}
 use Rattle.scc_plain_spec.specs.Names.{Named, class_at}
-use Rattle.scc_plain_spec.specs.Scope.{Answer, Body, class_body, specials_at, chosen_item, body_of}
+use Rattle.scc_plain_spec.specs.Scope.{Answer, Body, specials_at, chosen_item}
 use Rattle.scc_plain_spec.specs.Keys.{outermost}
 use Rattle.scc_plain_spec.specs.Room.{Numbering}
 use Rattle.scc_plain_spec.specs.ClassWalk.{Met}
 use Rattle.scc_plain_spec.specs.Stage.{functions_in, place_of}
 use Rattle.scc_plain_spec.specs.Program.{Instance, instances, numbering, field_member, class_of, body_in, walks, plain_of, unless_refused, program_in, program_of}
 use Rattle.scc_plain_laws.proofs.Drafted.{some-is}
-use Rattle.scc_plain_kinds_laws.proofs.Walks.{by-option}
+use Rattle.scc_plain_laws.proofs.Walks.{by-option}
 use Rattle.scc_plain_kinds_laws.proofs.Kept.{both}
 use Rattle.scc_plain_kinds_laws.proofs.Program.{made-is}
 

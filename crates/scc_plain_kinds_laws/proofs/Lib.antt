@@ -1,7 +1,3 @@
-pub mod Walks
-pub mod Things
-pub mod Calls
-pub mod Expressions
 pub mod Kept
 pub mod Simple
 pub mod Single

@@ -1,13 +1,12 @@
 -- The functions of a plain program have operators of the kinds that they say.
-use Rattle.std.proofs.Common.{◌≡◌, ℕ, Bool, true, false, ◌&&◌, List, [], ◌∷◌, filter_map, Option, Some, None, option_map, refl, sym, ap, ◌∙◌, subst}
+use Rattle.std.proofs.Common.{◌≡◌, ℕ, true, List, [], ◌∷◌, filter_map, Option, Some, None, option_map, refl, subst}
 use Rattle.std.specs.List.{list_all, cons_option}
 use Rattle.scc_base.specs.declared.refusal.Place.{Place}
 use Rattle.scc_base.specs.declared.refusal.Refusal.{Refusal}
-use Rattle.scc_core_spec.specs.Resolved.{Tried, Made, Stopped}
-use Rattle.scc_templates_spec.specs.Walk.{Callee, Needed}
-use Rattle.scc_templates_spec.specs.Walked.{Walked, pure, and_walk}
+use Rattle.scc_core_spec.specs.Resolved.{Made}
+use Rattle.scc_templates_spec.specs.Walk.{Callee}
 use Rattle.scc_templates_spec.specs.World.{World}
-use Rattle.scc_templates_spec.specs.Replace.{Bound, replace_all, hide}
+use Rattle.scc_templates_spec.specs.Replace.{Bound, replace_all}
 use Rattle.scc_templates_spec.specs.ReplaceBody.{replace_stmts}
 use Rattle.scc_templates_spec.specs.Source.{Source, Function, Init}
 use Rattle.scc_elab_spec.specs.Program as code
@@ -16,7 +15,7 @@ use Rattle.scc_plain_spec.specs.Scope.{Answer}
 use Rattle.scc_plain_spec.specs.Functions.{Routine}
 use Rattle.scc_plain_spec.specs.Meaning.{site_of}
 use Rattle.scc_plain_spec.specs.Keys.{outermost}
-use Rattle.scc_plain_spec.specs.Room.{Around, Known, Room, Numbering, Step, done, and_step}
+use Rattle.scc_plain_spec.specs.Room.{Around, Known, Numbering}
 use Rattle.scc_plain_spec.specs.Shapes.{signature, owner_of}
 use Rattle.scc_plain_spec.specs.Switch.{start}
 use Rattle.scc_plain_spec.specs.ClassWalk.{Met}
@@ -25,7 +24,7 @@ use Rattle.scc_plain_spec.specs.Whole.{param_names, hide_params, stmts_in, Route
 use Rattle.scc_plain_spec.specs.Program.{numbering, function_of, walks, plain_of, unless_refused, program_in, program_of}
 use Rattle.scc_plain_laws.proofs.Drafted.{some-is}
 use Rattle.scc_inline_core_laws.specs.Kinded.{kinded_code, is_kinded}
-use Rattle.scc_plain_kinds_laws.proofs.Walks.{Finds, finds-pure, finds-then, finds-behind, Gives, gives-done, gives-then}
+use Rattle.scc_plain_laws.proofs.Walks.{Finds, finds-pure, finds-then, finds-behind, Gives, gives-done, gives-then}
 use Rattle.scc_plain_kinds_laws.proofs.Kept.{Keeps, RoomKeeps, keeps-nothing, both}
 use Rattle.scc_plain_kinds_laws.proofs.Bodies.{order-gives, body-gives}
 use Rattle.scc_plain_kinds_laws.proofs.Inits.{init-gives}

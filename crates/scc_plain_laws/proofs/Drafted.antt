@@ -10,10 +10,9 @@ use Rattle.scc_bits.specs.Values.{kind_of as operator_kind, is_too_wide}
 use Rattle.scc_templates_spec.specs.Walk.{same_bool, same_kind}
 use Rattle.scc_templates_spec.specs.Walked.{Walked, pure, fault, and_walk}
 use Rattle.scc_elab_spec.specs.Term.{Term, Unary, Binary, Join, place_of}
-use Rattle.scc_elab_spec.specs.Typed.{IsTyped}
 use Rattle.scc_plain_spec.specs.Numbers.{by_table, choice_of, divides, answered, concat_kind}
 use Rattle.scc_plain_spec.specs.Drafts.{Draft, kind_in, wrapped, converted, cast, draft_beside, left_beside, right_beside, both_known, operate, operate_one, choose, kinds_of, joined_terms, all_known, known_of, concat}
-use Rattle.scc_plain_laws.specs.DraftsTyped.{AllTyped}
+use Rattle.scc_plain_laws.specs.Named.{AllNames, Names}
 
 pub some-is : {A : Type 0} {x y : A} → Some x ≡ Some y → x ≡ y
 some-is e = cc
@@ -54,22 +53,6 @@ walk-is w f y e = by w.value refl e
     by None h e = absurd cc
     by (Some x) h e = (x, h, e)
 
-pub converted-is : (k : Kind) (a x : Draft) → IsTyped a.term → (converted k a).value ≡ Some x → (kind_in x ≡ k) × IsTyped x.term
-converted-is k a x t e = by (same_kind (kind_in a) k) refl (is_convertible (kind_in a) k) e
-  where
-    by : (b : Bool) → same_kind (kind_in a) k ≡ b → (c : Bool) → (if b then pure a else (if c then pure (wrapped (place_of a.term) k a) else fault reason.Mismatch a.place)).value ≡ Some x → (kind_in x ≡ k) × IsTyped x.term
-    by true h c e = subst (λ (x : Draft). (kind_in x ≡ k) × IsTyped x.term) (some-is e) (kind-is (kind_in a) k h, t)
-    by false h true e = subst (λ (x : Draft). (kind_in x ≡ k) × IsTyped x.term) (some-is e) (refl, t)
-    by false h false e = absurd cc
-
-pub cast-is : (p : Place) (k : Kind) (a x : Draft) → IsTyped a.term → (cast p k a).value ≡ Some x → IsTyped x.term
-cast-is p k a x t e = by (same_kind (kind_in a) k) (is_convertible (kind_in a) k) e
-  where
-    by : (b c : Bool) → (if b then pure (record { term = a.term; known = a.known; place = p }) else (if c then pure (wrapped p k a) else fault reason.Mismatch p)).value ≡ Some x → IsTyped x.term
-    by true c e = subst (λ (x : Draft). IsTyped x.term) (some-is e) t
-    by false true e = subst (λ (x : Draft). IsTyped x.term) (some-is e) t
-    by false false e = absurd cc
-
 -- the operator table has a row
 table-is : {A : Type 0} (p : Place) (o : Op) (j k : Kind) (f : Kind → Walked A) (x : A) → (by_table p o j k f).value ≡ Some x → (answer : Kind) × (operator_kind o j k ≡ Some answer) × ((f answer).value ≡ Some x)
 table-is p o j k f x e = by (operator_kind o j k) refl
@@ -82,59 +65,76 @@ table-is p o j k f x e = by (operator_kind o j k) refl
     by None h = absurd (let z = rw h at e in cc)
     by (Some answer) h = (answer, h, wide answer (is_too_wide o j k) (let z = rw h at e in z))
 
-pub operate-one-is : (p : Place) (o : Op) (a x : Draft) → IsTyped a.term → (operate_one p o a).value ≡ Some x → IsTyped x.term
-operate-one-is p o a x t e =
-    let y = table-is p o (kind_in a) (kind_in a) (λ k. pure (record { term = Unary p k o a.term; known = option_map (λ n. answered o k n n) a.known; place = p })) x e in
-    subst (λ (x : Draft). IsTyped x.term) (some-is y.2) (y.1, t)
+module _ (some : ℕ → Bool) where
+  pub converted-is : (k : Kind) (a x : Draft) → Names some a.term → (converted k a).value ≡ Some x → (kind_in x ≡ k) × Names some x.term
+  converted-is k a x t e = by (same_kind (kind_in a) k) refl (is_convertible (kind_in a) k) e
+    where
+      by : (b : Bool) → same_kind (kind_in a) k ≡ b → (c : Bool) → (if b then pure a else (if c then pure (wrapped (place_of a.term) k a) else fault reason.Mismatch a.place)).value ≡ Some x → (kind_in x ≡ k) × Names some x.term
+      by true h c e = subst (λ (x : Draft). (kind_in x ≡ k) × Names some x.term) (some-is e) (kind-is (kind_in a) k h, t)
+      by false h true e = subst (λ (x : Draft). (kind_in x ≡ k) × Names some x.term) (some-is e) (refl, t)
+      by false h false e = absurd cc
 
-pub operate-is : (p at : Place) (o : Op) (a b x : Draft) → IsTyped a.term → IsTyped b.term → (operate p at o a b).value ≡ Some x → IsTyped x.term
-operate-is p at o a b x s t e =
-    let y = table-is at o i j (λ k. if divides o b.known then joined k else fault reason.Divisor at) x e in
-    by y.0 y.1 (divides o b.known) y.2
-  where
-    i : Kind
-    i = left_beside o a b
+  pub cast-is : (p : Place) (k : Kind) (a x : Draft) → Names some a.term → (cast p k a).value ≡ Some x → Names some x.term
+  cast-is p k a x t e = by (same_kind (kind_in a) k) (is_convertible (kind_in a) k) e
+    where
+      by : (b c : Bool) → (if b then pure (record { term = a.term; known = a.known; place = p }) else (if c then pure (wrapped p k a) else fault reason.Mismatch p)).value ≡ Some x → Names some x.term
+      by true c e = subst (λ (x : Draft). Names some x.term) (some-is e) t
+      by false true e = subst (λ (x : Draft). Names some x.term) (some-is e) t
+      by false false e = absurd cc
 
-    j : Kind
-    j = right_beside o a b
+  pub operate-one-is : (p : Place) (o : Op) (a x : Draft) → Names some a.term → (operate_one p o a).value ≡ Some x → Names some x.term
+  operate-one-is p o a x t e =
+      let y = table-is p o (kind_in a) (kind_in a) (λ k. pure (record { term = Unary p k o a.term; known = option_map (λ n. answered o k n n) a.known; place = p })) x e in
+      subst (λ (x : Draft). Names some x.term) (some-is y.2) (y.1, t)
 
-    joined : Kind → Walked Draft
-    joined k = and_walk (converted i a) (λ x. and_walk (converted j b) (λ y. pure (record { term = Binary p k o x.term y.term; known = both_known x.known y.known (answered o k); place = p })))
+  pub operate-is : (p at : Place) (o : Op) (a b x : Draft) → Names some a.term → Names some b.term → (operate p at o a b).value ≡ Some x → Names some x.term
+  operate-is p at o a b x s t e =
+      let y = table-is at o i j (λ k. if divides o b.known then joined k else fault reason.Divisor at) x e in
+      by y.0 y.1 (divides o b.known) y.2
+    where
+      i : Kind
+      i = left_beside o a b
 
-    by : (k : Kind) → operator_kind o i j ≡ Some k → (c : Bool) → (if c then joined k else fault reason.Divisor at).value ≡ Some x → IsTyped x.term
-    by k h false e = absurd cc
-    by k h true e =
-        let u = walk-is (converted i a) (λ x. and_walk (converted j b) (λ y. pure (record { term = Binary p k o x.term y.term; known = both_known x.known y.known (answered o k); place = p }))) x e in
-        let v = walk-is (converted j b) (λ y. pure (record { term = Binary p k o u.0.term y.term; known = both_known u.0.known y.known (answered o k); place = p })) x u.2 in
-        let l = converted-is i a u.0 s u.1 in
-        let r = converted-is j b v.0 t v.1 in
-        subst (λ (x : Draft). IsTyped x.term) (some-is v.2) ((λ z. operator_kind o (l.0 z) (r.0 z)) ∙ h, l.1, r.1)
+      j : Kind
+      j = right_beside o a b
 
-pub choose-is : (p : Place) (test a b x : Draft) → IsTyped test.term → IsTyped a.term → IsTyped b.term → (choose p test a b).value ≡ Some x → IsTyped x.term
-choose-is p test a b x n s t e = by (choice_of i j) refl
-  where
-    i : Kind
-    i = draft_beside a (kind_in b)
+      joined : Kind → Walked Draft
+      joined k = and_walk (converted i a) (λ x. and_walk (converted j b) (λ y. pure (record { term = Binary p k o x.term y.term; known = both_known x.known y.known (answered o k); place = p })))
 
-    j : Kind
-    j = draft_beside b (kind_in a)
+      by : (k : Kind) → operator_kind o i j ≡ Some k → (c : Bool) → (if c then joined k else fault reason.Divisor at).value ≡ Some x → Names some x.term
+      by k h false e = absurd cc
+      by k h true e =
+          let u = walk-is (converted i a) (λ x. and_walk (converted j b) (λ y. pure (record { term = Binary p k o x.term y.term; known = both_known x.known y.known (answered o k); place = p }))) x e in
+          let v = walk-is (converted j b) (λ y. pure (record { term = Binary p k o u.0.term y.term; known = both_known u.0.known y.known (answered o k); place = p })) x u.2 in
+          let l = converted-is i a u.0 s u.1 in
+          let r = converted-is j b v.0 t v.1 in
+          subst (λ (x : Draft). Names some x.term) (some-is v.2) ((λ z. operator_kind o (l.0 z) (r.0 z)) ∙ h, l.1, r.1)
 
-    both : (f : Draft → Draft → Draft) → ((x y : Draft) → IsTyped x.term → IsTyped y.term → IsTyped (f x y).term) → (and_walk (converted i a) (λ x. and_walk (converted j b) (λ y. pure (f x y)))).value ≡ Some x → IsTyped x.term
-    both f h e =
-        let u = walk-is (converted i a) (λ x. and_walk (converted j b) (λ y. pure (f x y))) x e in
-        let v = walk-is (converted j b) (λ y. pure (f u.0 y)) x u.2 in
-        subst (λ (x : Draft). IsTyped x.term) (some-is v.2) (h u.0 v.0 (converted-is i a u.0 s u.1).1 (converted-is j b v.0 t v.1).1)
+  pub choose-is : (p : Place) (test a b x : Draft) → Names some test.term → Names some a.term → Names some b.term → (choose p test a b).value ≡ Some x → Names some x.term
+  choose-is p test a b x n s t e = by (choice_of i j) refl
+    where
+      i : Kind
+      i = draft_beside a (kind_in b)
 
-    by : (k : Option Kind) → choice_of i j ≡ k → IsTyped x.term
-    by None h = absurd (let z = rw h at e in cc)
-    by (Some k) h = both _ (λ x y f g. (n, f, g)) (let z = rw h at e in z)
+      j : Kind
+      j = draft_beside b (kind_in a)
 
-pub concat-is : (p : Place) (xs : List Draft) (x : Draft) → AllTyped xs → (concat p xs).value ≡ Some x → IsTyped x.term
-concat-is p [] x t e = absurd cc
-concat-is p (y ∷ ys) x t e =
-    let u = walk-is (concat_kind p (kinds_of (y ∷ ys))) (λ k. pure (record { term = joined_terms p k y.term ys; known = known_of p (all_known (y ∷ ys)); place = p })) x e in
-    subst (λ (x : Draft). IsTyped x.term) (some-is u.2) (terms u.0 y.term ys t.0 t.1)
-  where
-    terms : (k : Kind) (e : Term) (ys : List Draft) → IsTyped e → AllTyped ys → IsTyped (joined_terms p k e ys)
-    terms k e [] s t = s
-    terms k e (z ∷ ys) s t = terms k (Join p k e z.term) ys (s, t.0) t.1
+      both : (f : Draft → Draft → Draft) → ((x y : Draft) → Names some x.term → Names some y.term → Names some (f x y).term) → (and_walk (converted i a) (λ x. and_walk (converted j b) (λ y. pure (f x y)))).value ≡ Some x → Names some x.term
+      both f h e =
+          let u = walk-is (converted i a) (λ x. and_walk (converted j b) (λ y. pure (f x y))) x e in
+          let v = walk-is (converted j b) (λ y. pure (f u.0 y)) x u.2 in
+          subst (λ (x : Draft). Names some x.term) (some-is v.2) (h u.0 v.0 (converted-is i a u.0 s u.1).1 (converted-is j b v.0 t v.1).1)
+
+      by : (k : Option Kind) → choice_of i j ≡ k → Names some x.term
+      by None h = absurd (let z = rw h at e in cc)
+      by (Some k) h = both _ (λ x y f g. (n, f, g)) (let z = rw h at e in z)
+
+  pub concat-is : (p : Place) (xs : List Draft) (x : Draft) → AllNames some xs → (concat p xs).value ≡ Some x → Names some x.term
+  concat-is p [] x t e = absurd cc
+  concat-is p (y ∷ ys) x t e =
+      let u = walk-is (concat_kind p (kinds_of (y ∷ ys))) (λ k. pure (record { term = joined_terms p k y.term ys; known = known_of p (all_known (y ∷ ys)); place = p })) x e in
+      subst (λ (x : Draft). Names some x.term) (some-is u.2) (terms u.0 y.term ys t.0 t.1)
+    where
+      terms : (k : Kind) (e : Term) (ys : List Draft) → Names some e → AllNames some ys → Names some (joined_terms p k e ys)
+      terms k e [] s t = s
+      terms k e (z ∷ ys) s t = terms k (Join p k e z.term) ys (s, t.0) t.1

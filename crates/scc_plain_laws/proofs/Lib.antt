@@ -3,3 +3,9 @@ pub mod Started
 pub mod Drafted
 pub mod Meanings
 pub mod Topped
+pub mod Walks
+pub mod Things
+pub mod Calls
+pub mod Expressions
+pub mod Values
+pub mod AnyLocal

@@ -1,2 +1,3 @@
 pub mod DraftsTyped
 pub mod MeantTyped
+pub mod Named

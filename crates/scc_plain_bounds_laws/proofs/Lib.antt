@@ -1,0 +1,11 @@
+pub mod Bounded
+pub mod Found
+pub mod Shapes
+pub mod Within
+pub mod Flushes
+pub mod Simple
+pub mod Single
+pub mod Inits
+pub mod Switch
+pub mod Bodies
+pub mod Program
