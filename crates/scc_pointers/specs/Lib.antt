@@ -1,1 +1,4 @@
+pub mod Led
+pub mod Located
+pub mod Read
 pub mod Resolved

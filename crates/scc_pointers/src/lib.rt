@@ -4,10 +4,12 @@
 //! and statements without them.
 #![tactic(auto)]
 
+mod follow;
 mod held;
 pub mod laws;
 mod locate;
 mod pass;
+mod sizes;
 mod stmt;
 mod walk;
 

@@ -9,6 +9,7 @@ use crate::stmt::resolved_stmts;
 use scc_base::{List, NoMemory, Stop, lost, push};
 use scc_core::{
     Cell, CellSort, Copies, Core, CoreProcess, CoreStmt, Edge2, Known, Pass, Places, Reset2,
+    VectorSize2,
 };
 use std::alloc::Global;
 
@@ -33,7 +34,14 @@ impl Pass for Resolve {
         let places = Places::of(alloc, &cells, &vectors)?;
         let numbers = numbers_of(alloc, cells.as_slice())?;
         let known = Known::new(&cells, &places);
-        let processes = all(alloc, known, &places, processes, numbers.as_slice())?;
+        let processes = all(
+            alloc,
+            known,
+            &places,
+            &vectors,
+            processes,
+            numbers.as_slice(),
+        )?;
         let cells = kept(alloc, cells)?;
         Ok(Core {
             top,
@@ -57,6 +65,7 @@ fn all(
     alloc: Global,
     known: Known<'_>,
     places: &Places,
+    vectors: &List<VectorSize2>,
     processes: List<CoreProcess>,
     numbers: &[u32],
 ) -> Result<List<CoreProcess>, Stop>
@@ -65,7 +74,7 @@ fn all(
 {
     let mut out = List::new(alloc);
     for p in processes.into_vec() {
-        let body = new_body(alloc, known, places, p.body.as_slice())?;
+        let body = new_body(alloc, known, places, vectors, p.body.as_slice())?;
         out.push(renumbered_process(alloc, p, body, numbers)?)?;
     }
     Ok(out)
@@ -76,11 +85,12 @@ fn new_body(
     alloc: Global,
     known: Known<'_>,
     places: &Places,
+    vectors: &List<VectorSize2>,
     body: &[CoreStmt],
 ) -> Result<List<CoreStmt>, Stop>
     ensures stop { (q : Refusal) → result ≡ Err (stop.Refused q) → IsOfPointers q }
 {
-    let mut r = Resolver::new(alloc, known, places);
+    let mut r = Resolver::new(alloc, known, places, vectors);
     resolved_stmts(body, &mut r)
 }
 

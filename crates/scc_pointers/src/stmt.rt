@@ -5,21 +5,23 @@ ghost use Rattle.scc_base.specs.declared.refusal.Stop.TheVariants as stop;
 ghost use Rattle.scc_pointers.specs.Resolved.{IsOfPointers};
 
 use crate::held::Resolver;
-use crate::walk::{expression, location, pointer_cell, target};
-use scc_base::{Code, List, Stop};
-use scc_core::{CoreBase, CoreLeft, CoreNode, CorePart, CoreStmt, Count, Pointed};
+use crate::walk::{expression, location, target, walked};
+use scc_base::{Code, List, NoMemory, Place, Stop};
+use scc_core::{Copies, CoreExpr, CoreLeft, CoreNode, CoreStmt, Count, Pointed};
 
 /// Statements without pointers, in text order.
 #[cycle(resolved)]
 pub fn resolved_stmts(body: &[CoreStmt], r: &mut Resolver<'_>) -> Result<List<CoreStmt>, Stop>
     ensures stop { (q : Refusal) → result ≡ Err (stop.Refused q) → IsOfPointers q }
 {
+    let mark = r.mark();
     let mut out = List::new(r.alloc);
     for s in body {
         let node = resolved_node(s, r)?;
         let place = s.place;
         out.push(CoreStmt { place, node })?;
     }
+    r.leave(mark);
     Ok(out)
 }
 
@@ -54,32 +56,37 @@ fn resolved_node(s: &CoreStmt, r: &mut Resolver<'_>) -> Result<CoreNode, Stop>
     }
 }
 
-// What a count names stands in statements too, where it was looked at.
-fn resolved_count(count: &Count, r: &Resolver<'_>) -> Result<Count, Stop>
-    ensures stop { (q : Refusal) → result ≡ Err (stop.Refused q) → IsOfPointers q }
-{
+// What a count says stands in statements too, where it is looked at.
+fn resolved_count(count: &Count, r: &Resolver<'_>) -> Result<Count, NoMemory> {
     Ok(Count {
         cell: count.cell,
-        start: expression(r, &count.start)?,
+        start: or_same(&count.start, r)?,
         compare: count.compare,
-        bound: expression(r, &count.bound)?,
+        bound: or_same(&count.bound, r)?,
         step_op: count.step_op,
-        step: expression(r, &count.step)?,
+        step: or_same(&count.step, r)?,
     })
 }
 
-// A declared pointer holds its target; one that is assigned is refused.
+// An expression without pointers, or as it is where it is refused.
+fn or_same(e: &CoreExpr, r: &Resolver<'_>) -> Result<CoreExpr, NoMemory> {
+    match expression(r, e) {
+        Ok(made) => Ok(made),
+        Err(Stop::Refused(_)) => Copies::plain(r.alloc).expr(e),
+        Err(Stop::NoMemory) => Err(NoMemory),
+    }
+}
+
+// A pointer leads to its target from its declaration on; a second one, or one that is assigned, is refused.
 fn alias(s: &CoreStmt, to: &Pointed, of: &CoreLeft, r: &mut Resolver<'_>) -> Result<CoreNode, Stop>
     ensures stop { (q : Refusal) → result ≡ Err (stop.Refused q) → IsOfPointers q }
 {
     match to {
-        Pointed::Assigned(left) => Err(assigned(s, left, r)),
+        Pointed::Assigned(left) => Err(assigned(s.place, left, r)),
         Pointed::Declared(cell) => {
             let found = target(r, of)?;
-            if let Some(t) = &found
-                && is_chosen(t, r)
-            {
-                return Err(Stop::refused(Code::StaticIndex, of.place));
+            if !r.declares(*cell) {
+                return Err(Stop::refused(Code::PointerAssigned, s.place));
             }
             r.hold(*cell, found)?;
             Ok(CoreNode::Block(List::new(r.alloc)))
@@ -87,31 +94,19 @@ fn alias(s: &CoreStmt, to: &Pointed, of: &CoreLeft, r: &mut Resolver<'_>) -> Res
     }
 }
 
-// Whether an index of a target isn't static.
-fn is_chosen(t: &CoreLeft, r: &Resolver<'_>) -> bool {
-    for part in t.parts.as_slice() {
-        if let CorePart::Index { at, .. } = part
-            && r.known.value(at).is_none()
-        {
-            return true;
-        }
-    }
-    false
-}
-
 // The refusal of an assigned pointer; null that is followed at the same place comes first.
-fn assigned(s: &CoreStmt, left: &CoreLeft, r: &Resolver<'_>) -> Stop
+fn assigned(place: Place, left: &CoreLeft, r: &Resolver<'_>) -> Stop
     ensures stop { (q : Refusal) → result ≡ stop.Refused q → IsOfPointers q }
 {
-    if matches!(left.base, CoreBase::Follow { .. }) {
-        match pointer_cell(r, left) {
-            Err(Stop::Refused(refusal))
-                if refusal.code == Code::EmptyPointer && refusal.place == s.place => {
-                return Stop::Refused(refusal);
+    match walked(r, left, false) {
+        Err(Stop::Refused(refusal)) => {
+            if refusal.code == Code::EmptyPointer && refusal.place == place {
+                Stop::Refused(refusal)
+            } else {
+                Stop::refused(Code::PointerAssigned, place)
             }
-            Err(Stop::NoMemory) => return Stop::NoMemory,
-            Err(Stop::Refused(_)) | Ok(_) => {}
         }
+        Err(Stop::NoMemory) => Stop::NoMemory,
+        Ok(_) => Stop::refused(Code::PointerAssigned, place),
     }
-    Stop::refused(Code::PointerAssigned, s.place)
 }

@@ -1,17 +1,16 @@
 //! Expressions and locations (E405, E512). First operands, and pointers in one another, are as many as a source is long, so they are walked by
 //! loops.
-ghost use Rattle.std.specs.Prelude.{◌≡◌, Err};
+ghost use Rattle.std.specs.Prelude.{◌≡◌, ◌<◌, Err, IfSome};
 ghost use Rattle.scc_base.specs.declared.refusal.Refusal.{Refusal};
 ghost use Rattle.scc_base.specs.declared.refusal.Stop.TheVariants as stop;
+ghost use Rattle.scc_core.specs.declared.expr.CoreExpr.{size-CoreExpr};
 ghost use Rattle.scc_pointers.specs.Resolved.{IsOfPointers};
 
+use crate::follow::{followed, leads, sure};
 use crate::held::Resolver;
-use crate::locate::{folded, spot_of, walked};
+use crate::locate::{aimed, element, looked, member};
 use scc_base::{Code, List, Stop, lost, push};
-use scc_core::{
-    CoreBase, CoreExpr, CoreExprNode, CoreLeft, CorePart, CorePick, LEVELS, deeper, pointers, spine,
-};
-use std::mem::replace;
+use scc_core::{CoreBase, CoreExpr, CoreExprNode, CoreLeft, CorePart, CorePick, LEVELS, deeper};
 
 /// An expression without pointers.
 pub fn expression(r: &Resolver<'_>, e: &CoreExpr) -> Result<CoreExpr, Stop>
@@ -20,34 +19,52 @@ pub fn expression(r: &Resolver<'_>, e: &CoreExpr) -> Result<CoreExpr, Stop>
     expr_in(r, e, LEVELS)
 }
 
-/// A location without pointers; following null is refused.
+/// A location without pointers, with the part of a number that is assigned; following null is refused.
 pub fn location(r: &Resolver<'_>, left: &CoreLeft) -> Result<CoreLeft, Stop>
     ensures stop { (q : Refusal) → result ≡ Err (stop.Refused q) → IsOfPointers q }
 {
-    location_in(r, left, LEVELS)
+    loaded(r, left, LEVELS)
 }
 
-/// A target without pointers; None where it is null, or behind null.
+/// Where a location leads before it is looked at as a whole; None for null, which a soft one alone comes to.
+pub fn walked(r: &Resolver<'_>, left: &CoreLeft, soft: bool) -> Result<Option<CoreLeft>, Stop>
+    ensures stop { (q : Refusal) → result ≡ Err (stop.Refused q) → IsOfPointers q }
+{
+    walked_in(r, left, soft, LEVELS)
+}
+
+/// A target; None where it is null, or behind null.
 pub fn target(r: &Resolver<'_>, left: &CoreLeft) -> Result<Option<CoreLeft>, Stop>
     ensures stop { (q : Refusal) → result ≡ Err (stop.Refused q) → IsOfPointers q }
 {
-    resolved(r, left, true, LEVELS)
+    match walked(r, left, true)? {
+        Some(found) => Ok(Some(aimed(r, found, left.place)?)),
+        None => Ok(None),
+    }
 }
 
-/// The cell of the pointer that a location names, with its refusals.
-pub fn pointer_cell(r: &Resolver<'_>, left: &CoreLeft) -> Result<Option<u32>, Stop>
-    ensures stop { (q : Refusal) → result ≡ Err (stop.Refused q) → IsOfPointers q }
+// Whether an expression loads a variable as a whole.
+fn is_load(e: &CoreExpr) -> bool {
+    match e.node.get() {
+        CoreExprNode::Load(left) => left.pick.is_none(),
+        _ => false,
+    }
+}
+
+// The operand that is resolved first. A variable is looked at behind the index of its bit.
+fn first_operand<'t>(r: &Resolver<'_>, e: &'t CoreExpr) -> Option<&'t CoreExpr>
+    ensures size { IfSome result (λ x. size-CoreExpr x.now < size-CoreExpr e.now) }
 {
-    let behind = match &left.base {
-        CoreBase::Follow { pointer, soft } => {
-            match pointer_value(r, pointer.get(), *soft, LEVELS)? {
-                Some(t) => Some(t),
-                None => return Err(Stop::refused(Code::EmptyPointer, left.place)),
-            }
-        }
-        _ => None,
-    };
-    named_pointer(r, left, behind, LEVELS)
+    match e.node.get() {
+        CoreExprNode::Convert(of) => Some(of),
+        CoreExprNode::Operate { left, .. } => Some(left),
+        CoreExprNode::Choose { test, .. } => Some(test),
+        CoreExprNode::Pick { of, .. } => { if is_load(of) { None } else { Some(of) } }
+        CoreExprNode::Lit(_)
+        | CoreExprNode::Load(_)
+        | CoreExprNode::Read(_)
+        | CoreExprNode::Join(_) => None,
+    }
 }
 
 #[cycle(resolve)]
@@ -55,12 +72,14 @@ fn expr_in(r: &Resolver<'_>, e: &CoreExpr, levels: u32) -> Result<CoreExpr, Stop
     ensures stop { (q : Refusal) → result ≡ Err (stop.Refused q) → IsOfPointers q }
 {
     let levels = deeper(levels)?;
-    let mut chain = spine(r.alloc, e)?;
-    let Some(innermost) = chain.pop() else {
-        return Err(Stop::from(lost()));
-    };
-    let mut made = leaf(r, innermost, levels)?;
-    for outer in chain.iter().rev() {
+    let mut spine = Vec::new(r.alloc);
+    let mut here = e;
+    while let Some(inner) = first_operand(r, here) {
+        push(&mut spine, here)?;
+        here = inner;
+    }
+    let mut made = leaf(r, here, levels)?;
+    while let Some(outer) = spine.pop() {
         made = over(r, outer, made, levels)?;
     }
     Ok(made)
@@ -71,23 +90,51 @@ fn expr_in(r: &Resolver<'_>, e: &CoreExpr, levels: u32) -> Result<CoreExpr, Stop
 fn leaf(r: &Resolver<'_>, e: &CoreExpr, levels: u32) -> Result<CoreExpr, Stop>
     ensures stop { (q : Refusal) → result ≡ Err (stop.Refused q) → IsOfPointers q }
 {
-    let node = match e.node.get() {
-        CoreExprNode::Lit(word) => CoreExprNode::Lit(*word),
-        CoreExprNode::Load(left) => CoreExprNode::Load(location_in(r, left, levels)?),
-        CoreExprNode::Read(left) => CoreExprNode::Read(location_in(r, left, levels)?),
-        CoreExprNode::Join(parts) => {
-            let mut list = List::new(r.alloc);
-            for part in parts.as_slice() {
-                list.push(expr_in(r, part, levels)?)?;
-            }
-            CoreExprNode::Join(list)
+    match e.node.get() {
+        CoreExprNode::Lit(word) => {
+            let node = CoreExprNode::Lit(*word);
+            Ok(CoreExpr::new(r.alloc, e.place, e.kind, node)?)
         }
-        CoreExprNode::Convert(_)
-        | CoreExprNode::Operate { .. }
-        | CoreExprNode::Choose { .. }
-        | CoreExprNode::Pick { .. } => return Err(Stop::from(lost())),
-    };
-    Ok(CoreExpr::new(r.alloc, e.place, e.kind, node)?)
+        CoreExprNode::Load(left) => {
+            let node = CoreExprNode::Load(loaded(r, left, levels)?);
+            Ok(CoreExpr::new(r.alloc, e.place, e.kind, node)?)
+        }
+        CoreExprNode::Read(left) => {
+            let node = CoreExprNode::Read(read(r, left, levels)?);
+            Ok(CoreExpr::new(r.alloc, e.place, e.kind, node)?)
+        }
+        CoreExprNode::Join(parts) => {
+            let node = CoreExprNode::Join(list_in(r, parts.as_slice(), levels)?);
+            Ok(CoreExpr::new(r.alloc, e.place, e.kind, node)?)
+        }
+        CoreExprNode::Pick { of, pick } => bits_of(r, e, of, pick, levels),
+        CoreExprNode::Convert(_) | CoreExprNode::Operate { .. } | CoreExprNode::Choose { .. } =>
+            Err(Stop::from(lost())),
+    }
+}
+
+// Bits of a variable: its location, then the index of a bit, and only then whether an object is chosen.
+#[cycle(resolve)]
+fn bits_of(
+    r: &Resolver<'_>,
+    e: &CoreExpr,
+    of: &CoreExpr,
+    pick: &CorePick,
+    levels: u32,
+) -> Result<CoreExpr, Stop>
+    ensures stop { (q : Refusal) → result ≡ Err (stop.Refused q) → IsOfPointers q }
+{
+    match of.node.get() {
+        CoreExprNode::Load(left) => {
+            let m = sure(left.place, walked_in(r, left, false, levels)?)?;
+            let pick = pick_in(r, pick, levels)?;
+            let m = looked(r, m)?;
+            let of = CoreExpr::new(r.alloc, of.place, of.kind, CoreExprNode::Load(m))?;
+            let node = CoreExprNode::Pick { of, pick };
+            Ok(CoreExpr::new(r.alloc, e.place, e.kind, node)?)
+        }
+        _ => Err(Stop::from(lost())),
+    }
 }
 
 // An expression whose first operand is resolved.
@@ -95,38 +142,54 @@ fn leaf(r: &Resolver<'_>, e: &CoreExpr, levels: u32) -> Result<CoreExpr, Stop>
 fn over(r: &Resolver<'_>, e: &CoreExpr, first: CoreExpr, levels: u32) -> Result<CoreExpr, Stop>
     ensures stop { (q : Refusal) → result ≡ Err (stop.Refused q) → IsOfPointers q }
 {
-    let node = match e.node.get() {
-        CoreExprNode::Convert(_) => CoreExprNode::Convert(first),
+    match e.node.get() {
+        CoreExprNode::Convert(_) => {
+            let node = CoreExprNode::Convert(first);
+            Ok(CoreExpr::new(r.alloc, e.place, e.kind, node)?)
+        }
         CoreExprNode::Operate { op, right, .. } => {
             let right = match right {
                 Some(right) => Some(expr_in(r, right, levels)?),
                 None => None,
             };
-            CoreExprNode::Operate {
+            let node = CoreExprNode::Operate {
                 op: *op,
                 left: first,
                 right,
-            }
+            };
+            Ok(CoreExpr::new(r.alloc, e.place, e.kind, node)?)
         }
         CoreExprNode::Choose { yes, no, .. } => {
             let yes = expr_in(r, yes, levels)?;
             let no = expr_in(r, no, levels)?;
-            CoreExprNode::Choose {
+            let node = CoreExprNode::Choose {
                 test: first,
                 yes,
                 no,
-            }
+            };
+            Ok(CoreExpr::new(r.alloc, e.place, e.kind, node)?)
         }
         CoreExprNode::Pick { pick, .. } => {
             let pick = pick_in(r, pick, levels)?;
-            CoreExprNode::Pick { of: first, pick }
+            let node = CoreExprNode::Pick { of: first, pick };
+            Ok(CoreExpr::new(r.alloc, e.place, e.kind, node)?)
         }
         CoreExprNode::Lit(_)
         | CoreExprNode::Load(_)
         | CoreExprNode::Read(_)
-        | CoreExprNode::Join(_) => return Err(Stop::from(lost())),
-    };
-    Ok(CoreExpr::new(r.alloc, e.place, e.kind, node)?)
+        | CoreExprNode::Join(_) => Err(Stop::from(lost())),
+    }
+}
+
+#[cycle(resolve)]
+fn list_in(r: &Resolver<'_>, list: &[CoreExpr], levels: u32) -> Result<List<CoreExpr>, Stop>
+    ensures stop { (q : Refusal) → result ≡ Err (stop.Refused q) → IsOfPointers q }
+{
+    let mut made = List::new(r.alloc);
+    for e in list {
+        made.push(expr_in(r, e, levels)?)?;
+    }
+    Ok(made)
 }
 
 #[cycle(resolve)]
@@ -147,41 +210,49 @@ fn pick_in(r: &Resolver<'_>, pick: &CorePick, levels: u32) -> Result<CorePick, S
 }
 
 #[cycle(resolve)]
-fn parts_in(
+fn some_pick(
     r: &Resolver<'_>,
-    parts: &[CorePart],
-    out: &mut List<CorePart>,
+    pick: &Option<CorePick>,
     levels: u32,
-) -> Result<(), Stop>
+) -> Result<Option<CorePick>, Stop>
     ensures stop { (q : Refusal) → result ≡ Err (stop.Refused q) → IsOfPointers q }
 {
-    for part in parts {
-        let new = match part {
-            CorePart::Member(name) => CorePart::Member(*name),
-            CorePart::Index { size, at } => CorePart::Index {
-                size: *size,
-                at: expr_in(r, at, levels)?,
-            },
-        };
-        out.push(new)?;
-    }
-    Ok(())
-}
-
-#[cycle(resolve)]
-fn location_in(r: &Resolver<'_>, left: &CoreLeft, levels: u32) -> Result<CoreLeft, Stop>
-    ensures stop { (q : Refusal) → result ≡ Err (stop.Refused q) → IsOfPointers q }
-{
-    match resolved(r, left, false, levels)? {
-        Some(made) => Ok(made),
-        None => Err(Stop::from(lost())),
+    match pick {
+        Some(pick) => Ok(Some(pick_in(r, pick, levels)?)),
+        None => Ok(None),
     }
 }
 
-// A location without pointers: first its pointer, then its indices, then its bit, and only then whether an object is chosen by
-// an index that isn't static. Behind null it is null where it is soft, else refused.
+fn with_pick(left: CoreLeft, pick: Option<CorePick>) -> CoreLeft {
+    let mut made = left;
+    made.pick = pick;
+    made
+}
+
+// What is loaded or assigned: the location, the index of its bit, and only then whether an object is chosen.
 #[cycle(resolve)]
-fn resolved(
+fn loaded(r: &Resolver<'_>, left: &CoreLeft, levels: u32) -> Result<CoreLeft, Stop>
+    ensures stop { (q : Refusal) → result ≡ Err (stop.Refused q) → IsOfPointers q }
+{
+    let found = walked_in(r, left, false, levels)?;
+    let found = sure(left.place, found)?;
+    let pick = some_pick(r, &left.pick, levels)?;
+    Ok(with_pick(looked(r, found)?, pick))
+}
+
+// What a signal or port shows: the location as a whole, then the index of its bit.
+#[cycle(resolve)]
+fn read(r: &Resolver<'_>, left: &CoreLeft, levels: u32) -> Result<CoreLeft, Stop>
+    ensures stop { (q : Refusal) → result ≡ Err (stop.Refused q) → IsOfPointers q }
+{
+    let found = walked_in(r, left, false, levels)?;
+    let found = looked(r, sure(left.place, found)?)?;
+    let pick = some_pick(r, &left.pick, levels)?;
+    Ok(with_pick(found, pick))
+}
+
+#[cycle(resolve)]
+fn walked_in(
     r: &Resolver<'_>,
     left: &CoreLeft,
     soft: bool,
@@ -189,106 +260,115 @@ fn resolved(
 ) -> Result<Option<CoreLeft>, Stop>
     ensures stop { (q : Refusal) → result ≡ Err (stop.Refused q) → IsOfPointers q }
 {
-    let levels = deeper(levels)?;
-    let (base, mut parts) = match &left.base {
-        CoreBase::Null => return Ok(None),
-        CoreBase::Cell(cell) => (CoreBase::Cell(*cell), List::new(r.alloc)),
-        CoreBase::Prefix(name) => (CoreBase::Prefix(name.copied(r.alloc)?), List::new(r.alloc)),
+    match &left.base {
         CoreBase::Follow { pointer, soft: own } => {
-            match pointer_value(r, pointer.get(), soft || *own, levels)? {
-                Some(mut t) => {
-                    let base = replace(&mut t.base, CoreBase::Null);
-                    let parts = replace(&mut t.parts, List::new(r.alloc));
-                    (base, parts)
-                }
-                None if soft => return Ok(None),
-                None => return Err(Stop::refused(Code::EmptyPointer, left.place)),
-            }
+            let to = led(r, pointer.get(), soft || *own, levels)?;
+            beyond(r, left, soft, to, levels)
         }
+        CoreBase::Cell(_) | CoreBase::Prefix(_) | CoreBase::Null => based(r, left, soft, levels),
+    }
+}
+
+// Where the pointer leads that a location names; None for null.
+#[cycle(resolve)]
+fn led(r: &Resolver<'_>, left: &CoreLeft, soft: bool, levels: u32) -> Result<Option<CoreLeft>, Stop>
+    ensures stop { (q : Refusal) → result ≡ Err (stop.Refused q) → IsOfPointers q }
+{
+    let levels = deeper(levels)?;
+    let mut chain = Vec::new(r.alloc);
+    let mut here = left;
+    let mut soft = soft;
+    while let Some((pointer, own)) = followed(here) {
+        push(&mut chain, (here, soft))?;
+        soft = soft || own;
+        here = pointer;
+    }
+    let mut to = leads(r, based(r, here, soft, levels)?)?;
+    while let Some((outer, soft)) = chain.pop() {
+        let at = beyond(r, outer, soft, to, levels)?;
+        to = leads(r, at)?;
+    }
+    Ok(to)
+}
+
+// A location that follows no pointer.
+#[cycle(resolve)]
+fn based(
+    r: &Resolver<'_>,
+    left: &CoreLeft,
+    soft: bool,
+    levels: u32,
+) -> Result<Option<CoreLeft>, Stop>
+    ensures stop { (q : Refusal) → result ≡ Err (stop.Refused q) → IsOfPointers q }
+{
+    let base = match &left.base {
+        CoreBase::Cell(cell) => CoreBase::Cell(*cell),
+        CoreBase::Prefix(name) => CoreBase::Prefix(name.copied(r.alloc)?),
+        CoreBase::Null => return Ok(None),
+        CoreBase::Follow { .. } => return Err(Stop::from(lost())),
     };
-    parts_in(r, left.parts.as_slice(), &mut parts, levels)?;
-    let pick = match &left.pick {
-        Some(pick) => Some(pick_in(r, pick, levels)?),
-        None => None,
-    };
-    let made = CoreLeft {
+    let start = CoreLeft {
         place: left.place,
         base,
-        parts,
-        pick,
+        parts: List::new(r.alloc),
+        pick: None,
     };
-    let (way, made) = folded(r, made)?;
-    if way.chooses_object {
-        return Err(Stop::refused(Code::StaticIndex, left.place));
-    }
-    Ok(Some(made))
+    Ok(Some(with_parts(r, start, left.parts.as_slice(), levels)?))
 }
 
-// Where the pointer that a location names leads; None for null. Pointers by which it is reached are taken by a loop, the
-// innermost first.
+// A location by where the pointer leads that it follows.
 #[cycle(resolve)]
-fn pointer_value(
+fn beyond(
     r: &Resolver<'_>,
     left: &CoreLeft,
     soft: bool,
+    to: Option<CoreLeft>,
     levels: u32,
 ) -> Result<Option<CoreLeft>, Stop>
     ensures stop { (q : Refusal) → result ≡ Err (stop.Refused q) → IsOfPointers q }
 {
-    let levels = deeper(levels)?;
-    let chain = pointers(r.alloc, left)?;
-    let mut softs = Vec::new(r.alloc);
-    let mut is_soft = soft;
-    for one in chain.iter() {
-        push(&mut softs, is_soft)?;
-        if let CoreBase::Follow { soft: own, .. } = &one.base {
-            is_soft = is_soft || *own;
+    match to {
+        Some(target) => {
+            let mut start = target;
+            start.place = left.place;
+            Ok(Some(with_parts(r, start, left.parts.as_slice(), levels)?))
+        }
+        None => {
+            if soft {
+                Ok(None)
+            } else {
+                Err(Stop::refused(Code::EmptyPointer, left.place))
+            }
         }
     }
-    let mut value = None;
-    for (one, is_soft) in chain.iter().zip(softs.iter()).rev() {
-        let behind = match (&one.base, value.take()) {
-            (CoreBase::Follow { .. }, None) => {
-                if *is_soft {
-                    continue;
-                }
-                return Err(Stop::refused(Code::EmptyPointer, one.place));
-            }
-            (_, value) => value,
-        };
-        value = match named_pointer(r, one, behind, levels)? {
-            Some(cell) => r.target(cell, one.place)?,
-            None => None,
-        };
-    }
-    Ok(value)
 }
 
-// The cell of the pointer that a location names, behind what its own pointer leads to; None where its path names none.
+// Parts from left to right.
 #[cycle(resolve)]
-fn named_pointer(
+fn with_parts(
     r: &Resolver<'_>,
-    left: &CoreLeft,
-    behind: Option<CoreLeft>,
+    from: CoreLeft,
+    parts: &[CorePart],
     levels: u32,
-) -> Result<Option<u32>, Stop>
+) -> Result<CoreLeft, Stop>
     ensures stop { (q : Refusal) → result ≡ Err (stop.Refused q) → IsOfPointers q }
 {
-    let (start, mut parts) = match (behind, &left.base) {
-        (Some(mut t), _) => {
-            let start = spot_of(r, &t.base);
-            let parts = replace(&mut t.parts, List::new(r.alloc));
-            (start, parts)
-        }
-        (None, CoreBase::Cell(cell)) if left.parts.is_empty() => return Ok(Some(*cell)),
-        (None, base) => (spot_of(r, base), List::new(r.alloc)),
-    };
-    parts_in(r, left.parts.as_slice(), &mut parts, levels)?;
-    let mut lead = Vec::new(r.alloc);
-    let (way, parts) = walked(r, start, parts, &mut lead)?;
-    drop(parts);
-    if way.is_open {
-        return Err(Stop::refused(Code::StaticIndex, left.place));
+    let mut at = from;
+    for part in parts {
+        at = step(r, part, at, levels)?;
     }
-    Ok(way.spot.and_then(|at| r.places.pointer(at)))
+    Ok(at)
+}
+
+#[cycle(resolve)]
+fn step(r: &Resolver<'_>, part: &CorePart, at: CoreLeft, levels: u32) -> Result<CoreLeft, Stop>
+    ensures stop { (q : Refusal) → result ≡ Err (stop.Refused q) → IsOfPointers q }
+{
+    match part {
+        CorePart::Member(name) => Ok(member(r, at, *name)?),
+        CorePart::Index { size, at: index } => {
+            let index = expr_in(r, index, levels)?;
+            Ok(element(r, at, *size, index)?)
+        }
+    }
 }
