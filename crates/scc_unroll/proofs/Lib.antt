@@ -1,6 +1,10 @@
 pub mod Asked
 pub mod Counting
+pub mod Forms
 pub mod Heads
 pub mod Lefts
+pub mod Looks
+pub mod Paths
+pub mod Stmts
 pub mod Sums
 pub mod Trees

@@ -1,10 +1,10 @@
 //! What statements are: their number, their waits, and the form of a counted loop's body.
-ghost use Rattle.std.specs.Prelude.{◌≡◌, ◌+◌, ◌&&◌, ◌||◌, IfOk, [], ◌∷◌, None, option_map, if◌then◌else◌};
+ghost use Rattle.std.specs.Prelude.{◌≡◌, nat_eq, length, ◌+◌, ◌&&◌, ◌||◌, IfOk, [], ◌∷◌, None, option_map, if◌then◌else◌};
 ghost use Rattle.scc_core_spec.specs.Code as code;
 ghost use Rattle.scc_core_spec.specs.Counted as spec;
 ghost use Rattle.scc_core_view.specs.Codes.{code_of};
 ghost use Rattle.scc_core_view.specs.Terms.{taken_of, term_of};
-ghost use Rattle.scc_unroll.specs.Heads.{stand_behind};
+ghost use Rattle.scc_unroll.specs.Heads.{simple, stand_behind};
 ghost use Rattle.scc_unroll.specs.Shape.{stand_of, turned};
 
 use scc_base::{NoMemory, Place, lost};
@@ -81,6 +81,28 @@ fn waits_in(s: &CoreStmt) -> bool
         CoreNode::Block(body) | CoreNode::Loop { body, .. } => holds_wait(body.as_slice()),
         CoreNode::Assign { .. } | CoreNode::Exit(_) | CoreNode::Alias { .. } => false,
     }
+}
+
+/// Whether no statement stands in a statement, and it is no loop, block or `if`.
+pub fn is_simple(s: &CoreStmt) -> bool
+    ensures { result ≡ simple (code_of (s.now ∷ [])) }
+{
+    match &s.node {
+        CoreNode::Assign { .. } => true,
+        CoreNode::Alias { .. } => true,
+        CoreNode::Exit(_) => true,
+        CoreNode::Wait { .. } => true,
+        CoreNode::If { .. } => false,
+        CoreNode::Block(_) => false,
+        CoreNode::Loop { .. } => false,
+    }
+}
+
+/// Whether so many statements are all.
+pub fn are_all(count: usize, body: &[CoreStmt]) -> bool
+    ensures { result ≡ nat_eq count (length body.now) }
+{
+    count == body.len()
 }
 
 /// Whether nothing is left.
