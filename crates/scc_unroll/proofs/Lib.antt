@@ -1,6 +1,13 @@
 pub mod Asked
+pub mod Budgets
 pub mod Counting
+pub mod EachTurn
+pub mod Forms
 pub mod Heads
 pub mod Lefts
+pub mod Looks
+pub mod Paths
+pub mod Stmts
 pub mod Sums
 pub mod Trees
+pub mod Wholes

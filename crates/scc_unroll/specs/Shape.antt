@@ -58,6 +58,11 @@ abbrev pub AreCounters : List Cell → List Held → Type 0
 AreCounters cells [] = Unit {0}
 AreCounters cells (c ∷ ns) = IsCounter cells c × AreCounters cells ns
 
+-- What is known around statements of that body, in which these counters stand as literals.
+pub record Around (at : At) (b : Code) (ns : List Held) : Type 0 where
+  pub knows : Knows at b
+  pub counters : AreCounters at.known.cells.now ns
+
 -- the word that the code finds for an expression where these counters stand as literals
 abbrev pub read : Known → List Held → CoreExpr → Option ℕ
 read known ns e = option_map (λ v. v.word) (value_in (facts_in known) (counted ns e))

@@ -1,10 +1,18 @@
 //! Which loops are counted, and what stands in them as literals.
-ghost use Rattle.std.specs.Prelude.{◌≡◌, ◌&&◌, ◌∷◌, not, IfOk, option_map, is_some};
+ghost use Rattle.std.specs.Prelude.{◌≡◌, ◌&&◌, ◌∷◌, not, nat_le, map, slice_get, IfOk, IfSome, Some, None, option_map, is_some};
+ghost use Rattle.scc_core_spec.specs.Code.{Code};
+ghost use Rattle.scc_core_spec.specs.Term.{Term};
 ghost use Rattle.scc_core_spec.specs.Counted as spec;
 ghost use Rattle.scc_core_spec.specs.Program.{is_pointer};
-ghost use Rattle.scc_core_view.specs.Programs.{cell_of};
-ghost use Rattle.scc_unroll.specs.Counters.{counter_of};
-ghost use Rattle.scc_unroll.specs.Shape.{IsCounter, read};
+ghost use Rattle.scc_core_view.specs.Codes.{code_of, count_of, counted};
+ghost use Rattle.scc_core_view.specs.Programs.{cell_of, path_of};
+ghost use Rattle.scc_core_view.specs.Terms.{taken_of, term_of};
+ghost use Rattle.scc_semantics.specs.Location.{same_path};
+ghost use Rattle.scc_unroll.specs.Asked.{AreRead, StandIsRead, asked, asked_count};
+ghost use Rattle.scc_unroll.specs.Counters.{counter_of, counters_of};
+ghost use Rattle.scc_unroll.specs.Shape.{AreCounters, Around, IsCounter, IsRead, Knows, cells_at, counting_of, read, setting_of, stand_of};
+ghost use Rattle.scc_unroll.specs.Turns.{IsTold};
+ghost use Rattle.scc_unroll.specs.Used.{used};
 
 use crate::own::own_of;
 use crate::shape::{Stand, Turning, holds_wait, is_cell, turning_in};
@@ -75,7 +83,25 @@ pub fn with(alloc: Global, first: Counter, around: &[Counter]) -> Result<Vec<Cou
     Ok(all)
 }
 
-fn same_path(a: &[PathPart], b: &[PathPart]) -> bool {
+/// The counters in a loop where its own has a number.
+pub fn counters_in(
+    at: &At<'_>,
+    around: &[Counter],
+    cell: u32,
+    now: Word,
+) -> Result<Vec<Counter>, NoMemory>
+    ensures is { IfOk result (λ v. counters_of v.items ≡ spec.counter cell now.bits ∷ counters_of around.now) }
+    ensures counters { AreCounters at.now.known.cells.now around.now → IfOk result (λ v. AreCounters at.now.known.cells.now v.items) }
+{
+    let first = counter_with(at.known.cells(), cell, now)?;
+    let all = with(at.alloc, first, around)?;
+    Ok(all)
+}
+
+#[tactic(auto, using(crate::proofs::Paths::path_is))]
+fn same_path(a: &[PathPart], b: &[PathPart]) -> bool
+    ensures { result ≡ same_path (path_of a.now) (path_of b.now) }
+{
     a == b
 }
 
@@ -86,7 +112,9 @@ fn is_pointer(cell: &Cell) -> bool
 }
 
 // The number of a local of the process that is no array.
-fn number_of(cell: &Cell, path: &[PathPart]) -> Option<u32> {
+fn number_of(cell: &Cell, path: &[PathPart]) -> Option<u32>
+    ensures { result ≡ spec.number_of (path_of path.now) (Some (cell_of cell.now)) }
+{
     if same_path(cell.name.path.as_slice(), path) && !is_pointer(cell) {
         own_of(&cell.name)
     } else {
@@ -95,19 +123,35 @@ fn number_of(cell: &Cell, path: &[PathPart]) -> Option<u32> {
 }
 
 // That of a counter.
-fn counter_number(at: &At<'_>, cell: u32) -> Option<u32> {
-    match at.known.cells().get(cell as usize) {
-        Some(cell) => number_of(cell, at.path),
+fn counter_number(cells: &List<Cell>, path: &[PathPart], cell: u32) -> Option<u32>
+    ensures { result ≡ spec.number_of (path_of path.now) (slice_get (map cell_of cells.now) cell) }
+{
+    match cells.get(cell as usize) {
+        Some(cell) => number_of(cell, path),
         None => None,
     }
 }
 
+fn assigned_twice(at: &At<'_>, own: u32) -> bool
+    ensures { result ≡ nat_le (used at.now.uses.now own) 2 }
+{
+    at.uses.of(own) <= 2
+}
+
 // Whether nothing but what begins and steps a loop assigns its counter, and no pointer leads to it.
-fn is_seldom(at: &At<'_>, cell: u32) -> bool {
-    match counter_number(at, cell) {
-        Some(own) => at.uses.of(own) <= 2,
+fn is_seldom(at: &At<'_>, cell: u32) -> bool
+    ensures { (b : Code) → Knows at.now b → result ≡ spec.is_seldom (setting_of at.now b) (spec.counter_number (setting_of at.now b) cell) }
+{
+    match counter_number(at.known.cells(), at.path, cell) {
+        Some(own) => assigned_twice(at, own),
         None => false,
     }
+}
+
+fn has_form(cell: u32, body: &[CoreStmt]) -> bool
+    ensures { result ≡ spec.is_turning cell (code_of body.now) }
+{
+    turning_in(cell, body).is_some()
 }
 
 fn are_all(
@@ -135,13 +179,15 @@ fn counts(
     count: &Count,
     body: &[CoreStmt],
     last: bool,
-) -> Result<bool, NoMemory> {
+) -> Result<bool, NoMemory>
+    ensures { (b r : Code) (v : Term) → Around at.now b counters.now → AreRead at.now.known (asked_count (Some count.now)) → spec.is_end r ≡ last → IfOk result (λ t. t ≡ spec.counts (setting_of at.now b) (counters_of counters.now) (record { left = (taken_of left.now).left; pick = (taken_of left.now).pick; value = v }) (count_of count.now) (code_of body.now) r) }
+{
     let start = is_static(at, counters, &count.start)?;
     let bound = is_static(at, counters, &count.bound)?;
     let step = is_static(at, counters, &count.step)?;
     let waits = holds_wait(body);
     let cell = is_cell(count.cell, left);
-    let form = turning_in(count.cell, body).is_some();
+    let form = has_form(count.cell, body);
     let seldom = is_seldom(at, count.cell);
     Ok(are_all(waits, start, bound, step, cell, last, form, seldom))
 }
@@ -155,8 +201,12 @@ fn counted_from<'a>(
     count: &Count,
     body: &'a [CoreStmt],
     last: bool,
-) -> Result<Option<Counted<'a>>, NoMemory> {
-    if !counts(at, counters, left, count, body, last)? {
+) -> Result<Option<Counted<'a>>, NoMemory>
+    ensures counted { (b r : Code) → Around at.now b counters.now → AreRead at.now.known (asked_count (Some count.now)) → spec.is_end r ≡ last → IfOk result (λ o. option_map (counting_of (cells_at at.now) (counters_of counters.now)) o ≡ spec.counted_by (setting_of at.now b) (counters_of counters.now) (spec.Behind (record { left = (taken_of left.now).left; pick = (taken_of left.now).pick; value = term_of value.now })) (Some (count_of count.now)) (code_of body.now) r) }
+    ensures told { AreCounters at.now.known.cells.now counters.now → IsRead at.now.known value.now → AreRead at.now.known (asked body.now) → IfOk result (λ o. IfSome o (λ g. IsTold at.now counters.now g)) }
+{
+    let counted = counts(at, counters, left, count, body, last)?;
+    if !counted {
         return Ok(None);
     }
     match turning_in(count.cell, body) {
@@ -177,7 +227,10 @@ pub fn counted_by<'a>(
     count: &Option<Count>,
     body: &'a [CoreStmt],
     last: bool,
-) -> Result<Option<Counted<'a>>, NoMemory> {
+) -> Result<Option<Counted<'a>>, NoMemory>
+    ensures counted { (b r : Code) → Around at.now b counters.now → AreRead at.now.known (asked_count count.now) → spec.is_end r ≡ last → IfOk result (λ o. option_map (counting_of (cells_at at.now) (counters_of counters.now)) o ≡ spec.counted_by (setting_of at.now b) (counters_of counters.now) (stand_of stand.entry) (counted count.now) (code_of body.now) r) }
+    ensures told { AreCounters at.now.known.cells.now counters.now → StandIsRead at.now.known stand.entry → AreRead at.now.known (asked body.now) → IfOk result (λ o. IfSome o (λ g. IsTold at.now counters.now g)) }
+{
     match (stand, count) {
         (Stand::Behind { left, value }, Some(count)) => {
             counted_from(at, counters, left, value, count, body, last)

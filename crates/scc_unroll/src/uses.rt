@@ -1,6 +1,8 @@
 //! How often locals are assigned as a whole.
-ghost use Rattle.std.specs.Prelude.{◌≡◌, ◌+◌, ℕ, OnOk, nat_eq};
+ghost use Rattle.std.specs.Prelude.{◌≡◌, ◌+◌, ℕ, OnOk, ◌∷◌, [], map, nat_eq};
 ghost use Rattle.scc_core_spec.specs.Counted as spec;
+ghost use Rattle.scc_core_view.specs.Codes.{code_of};
+ghost use Rattle.scc_core_view.specs.Programs.{cell_of};
 ghost use Rattle.scc_unroll.specs.Used.{used};
 
 use crate::own::own_at;
@@ -63,7 +65,9 @@ fn add_own(own: Option<u32>, times: u64, uses: &mut Uses) -> Result<(), NoMemory
 
 /// Adds what statements assign.
 #[cycle(noted)]
-pub fn note_all(body: &[CoreStmt], cells: &List<Cell>, uses: &mut Uses) -> Result<(), NoMemory> {
+pub fn note_all(body: &[CoreStmt], cells: &List<Cell>, uses: &mut Uses) -> Result<(), NoMemory>
+    ensures { OnOk result ((o : ℕ) → used uses.new o ≡ used uses.old o + spec.uses (map cell_of cells.now) o (code_of body.now)) }
+{
     for s in body {
         note(s, cells, uses)?;
     }
@@ -71,7 +75,9 @@ pub fn note_all(body: &[CoreStmt], cells: &List<Cell>, uses: &mut Uses) -> Resul
 }
 
 #[cycle(noted)]
-fn note(s: &CoreStmt, cells: &List<Cell>, uses: &mut Uses) -> Result<(), NoMemory> {
+fn note(s: &CoreStmt, cells: &List<Cell>, uses: &mut Uses) -> Result<(), NoMemory>
+    ensures { OnOk result ((o : ℕ) → used uses.new o ≡ used uses.old o + spec.uses (map cell_of cells.now) o (code_of (s.now ∷ []))) }
+{
     match &s.node {
         CoreNode::Assign { left, .. } => add_own(own_at(cells, left), 1, uses),
         CoreNode::Alias { target, .. } => add_own(own_at(cells, target), 3, uses),
