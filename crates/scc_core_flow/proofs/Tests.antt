@@ -20,6 +20,10 @@ pub each_both : {A : Type 0} (P : A → Type 0) (xs ys : List A) → Each P xs �
 each_both P [] ys d e = e
 each_both P (x ∷ xs) ys d e = (d.0, each_both P xs ys d.1 e)
 
+pub each_turned : {A : Type 0} (P Q : A → Type 0) → ((x : A) → P x → Q x) → (xs : List A) → Each P xs → Each Q xs
+each_turned P Q f [] e = tt
+each_turned P Q f (x ∷ xs) e = (f x e.0, each_turned P Q f xs e.1)
+
 less : (i : ℕ) (s : CoreStmt) (ss : List CoreStmt) → suc i < length (s ∷ ss) → i < length ss
 less i s ss h = omega arith
 

@@ -1,6 +1,8 @@
 -- What a walk over statements appends of their live part, and which open blocks it finds left. This project's own.
 use Rattle.std.specs.Prelude.{◌≡◌, ℕ, Bool, true, false, ◌||◌, not, nat_eq, List, [], ◌∷◌, ◌++◌, length, map, flat_map, Option, option_map}
 use Rattle.scc_core.specs.declared.expr.CoreExpr.{CoreExpr}
+use Rattle.scc_core.specs.declared.program.Core.{Core}
+use Rattle.scc_core.specs.declared.program.CoreProcess.{CoreProcess}
 use Rattle.scc_core.specs.declared.stmt.CoreStmt.{CoreStmt, fold-CoreStmt}
 use Rattle.scc_core.specs.declared.stmt.CoreNode.TheOpen.{CoreNode-F, CoreStmt-F}
 use Rattle.scc_core.specs.declared.stmt.CoreNode.TheOpen as node
@@ -13,6 +15,7 @@ use Rattle.scc_core_spec.specs.Static.{Cells, goes}
 use Rattle.scc_core_spec.specs.Live.{Alive, alive}
 use Rattle.scc_core_view.specs.Codes.{code_of}
 use Rattle.scc_core_view.specs.Terms.{term_of}
+use Rattle.scc_core_view.specs.Whole.{AreWholeCells, IsWhole}
 
 abbrev pub flat : List (List CoreExpr) → List CoreExpr
 flat [] = []
@@ -48,6 +51,14 @@ Decides known cs e = option_map (λ v. not (nat_eq v.word 0)) (value_in (facts_i
 
 abbrev pub DecidesAll : Known → Cells → List CoreStmt → Type 0
 DecidesAll known cs ss = Each (Decides known cs) (tests_in ss)
+
+-- the cells of a core and the tests of its bodies are whole
+abbrev pub AreWholeTests : Core → CoreProcess → Type 0
+AreWholeTests c p = Each (IsWhole c.cells) (tests_in p.body)
+
+pub record HasWholeTests (c : Core) : Type 0 where
+  pub cells : AreWholeCells c.cells
+  pub tests : Each (AreWholeTests c) c.processes
 
 -- flags of the open blocks, the innermost last, with those that are left besides; blocks are counted outward from 0
 abbrev pub left_by : (ℕ → Bool) → List Bool → List Bool

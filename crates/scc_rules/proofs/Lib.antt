@@ -1,3 +1,6 @@
 pub mod Idle
 pub mod Steps
 pub mod Firsts
+pub mod Lives
+pub mod Terms
+pub mod Told

@@ -1,7 +1,15 @@
 //! What is asked of a core's cells and processes.
+ghost use Rattle.std.specs.Prelude.{◌≡◌, List, [], ◌∷◌, ◌++◌, IfOk, OnOk};
+ghost use Rattle.scc_core.specs.declared.program.CoreProcess.{CoreProcess};
+ghost use Rattle.scc_core_flow.specs.Live.{DecidesAll, Each, HasWholeTests};
+ghost use Rattle.scc_core_spec.specs.Static.{Cells};
+ghost use Rattle.scc_core_static_laws.specs.Held.{Knows};
+ghost use Rattle.scc_core_view.specs.Programs.{program_of};
+ghost use Rattle.scc_rules.specs.Stands.{HasBodies, HasLives};
+
 use scc_base::{List, NoMemory, lost, push};
 use scc_core::{CellSort, Core, CoreProcess, CoreStmt, Known, Sort2};
-use scc_core_flow::{LivePart, Mark, live_part, marked};
+use scc_core_flow::{LivePart, Mark, live_part, marked, whole_tests_are_decided};
 use std::alloc::Global;
 
 /// A core with the live part and the marks of each process.
@@ -26,38 +34,79 @@ pub enum Role {
     Local,
 }
 
+/// The live parts of some processes' bodies, and whether some path comes to the end of each body.
+#[derive(Drop)]
+struct Lives {
+    bodies: Vec<List<CoreStmt>>,
+    ends: Vec<bool>,
+}
+
 /// The facts of a core.
 pub fn facts_of<'a>(
     alloc: Global,
     core: &'a Core,
     known: Known<'a>,
     roots: Vec<u32>,
-) -> Result<Facts<'a>, NoMemory> {
-    let mut facts = Facts {
+) -> Result<Facts<'a>, NoMemory>
+    ensures core { IfOk result (λ f. f.core.now ≡ core.now) }
+    ensures lives { Knows known.entry core.now.cells [] → HasWholeTests core.now → IfOk result (λ f. HasLives f (program_of core.now)) }
+{
+    whole_tests_are_decided();
+    let Lives { bodies, ends } = lives_of(alloc, &known, core.processes.as_slice())?;
+    let mut marks = Vec::new(alloc);
+    mark_each(alloc, &known, bodies.as_slice(), &mut marks)?;
+    Ok(Facts {
         core,
         known,
         roots,
-        lives: Vec::new(alloc),
-        marks: Vec::new(alloc),
+        lives: bodies,
+        marks,
+        ends,
+    })
+}
+
+// The live part of each process.
+fn lives_of(alloc: Global, known: &Known, processes: &[CoreProcess]) -> Result<Lives, NoMemory>
+    ensures { (cs : Cells) → Each (λ p. DecidesAll known.now cs p.body) processes.now → IfOk result (HasBodies cs processes.now) }
+{
+    let mut lives = Lives {
+        bodies: Vec::new(alloc),
         ends: Vec::new(alloc),
     };
-    facts.fill(alloc)?;
-    Ok(facts)
+    for process in processes {
+        add_live(alloc, known, process, &mut lives)?;
+    }
+    Ok(lives)
+}
+
+fn add_live(
+    alloc: Global,
+    known: &Known,
+    process: &CoreProcess,
+    lives: &mut Lives,
+) -> Result<(), NoMemory>
+    ensures { (cs : Cells) (ps : List CoreProcess) → DecidesAll known.now cs process.now.body → HasBodies cs ps lives.old → OnOk result (HasBodies cs (ps ++ process.now ∷ []) lives.new) }
+{
+    let LivePart { body, ends } = live_part(alloc, known, process.body.as_slice())?;
+    push(&mut lives.bodies, body)?;
+    push(&mut lives.ends, ends)
+}
+
+// The marks of each live part.
+fn mark_each(
+    alloc: Global,
+    known: &Known,
+    bodies: &[List<CoreStmt>],
+    marks: &mut Vec<List<Mark>>,
+) -> Result<(), NoMemory> {
+    for body in bodies {
+        let own = marked(alloc, known, body.as_slice())?;
+        push(marks, own)?;
+    }
+    Ok(())
 }
 
 impl<'a> Facts<'a> {
-    // Adds the facts of each process.
-    fn fill(&mut self, alloc: Global) -> Result<(), NoMemory> {
-        for process in self.core.processes.as_slice() {
-            let LivePart { body, ends } = live_part(alloc, &self.known, process.body.as_slice())?;
-            let own = marked(alloc, &self.known, body.as_slice())?;
-            push(&mut self.marks, own)?;
-            push(&mut self.lives, body)?;
-            push(&mut self.ends, ends)?;
-        }
-        Ok(())
-    }
-
     /// The cell, or for a port below the top its root.
     pub fn root(&self, cell: u32) -> Result<u32, NoMemory> {
         self.roots.get(cell as usize).copied().ok_or(lost())

@@ -1,13 +1,16 @@
 //! The rules in the order of their codes.
 ghost use Rattle.std.specs.Prelude.{◌≡◌, true, Some, option_map, IfOk, IfErr, IfSome};
 ghost use Rattle.scc_base.specs.declared.code.Code.TheVariants as code;
-ghost use Rattle.scc_core_spec.specs.First.{first_of, refused};
+ghost use Rattle.scc_base.specs.declared.refusal.Stop.TheVariants as stop;
+ghost use Rattle.scc_core.specs.Tables.{IsTable};
+ghost use Rattle.scc_core_flow.specs.Live.{HasWholeTests};
+ghost use Rattle.scc_core_spec.specs.First.{first_of, or_else, refused};
 ghost use Rattle.scc_core_spec.specs.Program.{Program};
 ghost use Rattle.scc_core_spec.specs.Rules as rule;
 ghost use Rattle.scc_core_view.specs.Programs.{is_thread, program_of};
-ghost use Rattle.scc_rules.specs.Refusals.{Finds, MayStop, is_refusal};
+ghost use Rattle.scc_rules.specs.Refusals.{Finds, MayFind, MayStop};
 ghost use Rattle.scc_rules.specs.Stands as spec;
-ghost use Rattle.scc_rules.specs.Stands.{HasLives, first_along};
+ghost use Rattle.scc_rules.specs.Stands.{HasLives, Tells, first_along, stays};
 
 use crate::clock::{clock_as_data, missing_sensitivity};
 use crate::cycles::{Readers, comb_loop, order_of, readers_of};
@@ -28,6 +31,7 @@ pub type Order = List<u32>;
 /// CombState, WaitInMethod, LoopMayNotWait, EndReached and SignalIndex, the first code by number that stands.
 pub fn check(alloc: Global, c: &Core) -> Result<Order, Stop>
     ensures stop { IfErr result MayStop }
+    ensures tells { HasWholeTests c.now → Tells (program_of c.now) result }
 {
     let places = Places::of(alloc, &c.cells, &c.vectors)?;
     check_known(alloc, &places, c)
@@ -36,6 +40,7 @@ pub fn check(alloc: Global, c: &Core) -> Result<Order, Stop>
 /// The same, where the cells' names are in a table.
 pub fn check_known(alloc: Global, places: &Places, c: &Core) -> Result<Order, Stop>
     ensures stop { IfErr result MayStop }
+    ensures tells { IsTable places.now c.now.cells c.now.vectors → HasWholeTests c.now → Tells (program_of c.now) result }
 {
     let known = Known::new(&c.cells, places);
     let roots = places.roots(alloc, &c.cells)?;
@@ -46,22 +51,40 @@ pub fn check_known(alloc: Global, places: &Places, c: &Core) -> Result<Order, St
 // What owns facts, paths or readers has no branch behind them: each would let all of them go.
 fn check_facts(alloc: Global, f: &Facts<'_>) -> Result<Order, Stop>
     ensures stop { IfErr result MayStop }
+    ensures tells { (p : Program) → p ≡ program_of f.now.core.now → HasLives f.now p → Tells p result }
 {
-    refuse(clock_as_data(alloc, f)?)?;
-    refuse(two_writers(alloc, f)?)?;
-    refuse(shared_variable(alloc, f)?)?;
-    refuse(missing_sensitivity(alloc, f)?)?;
-    let paths = paths_of(alloc, f)?;
-    check_paths(alloc, f, paths.as_slice())
+    match first_clash(alloc, f)? {
+        Some(found) => Err(Stop::Refused(found)),
+        None => {
+            let paths = paths_of(alloc, f)?;
+            check_paths(alloc, f, paths.as_slice())
+        }
+    }
+}
+
+// What the rules find that look at marks alone.
+fn first_clash(alloc: Global, f: &Facts<'_>) -> Result<Option<Refusal>, NoMemory>
+    ensures { IfOk result (MayFind 0) }
+{
+    let clocks = clock_as_data(alloc, f)?;
+    let writers = two_writers(alloc, f)?;
+    let shared = shared_variable(alloc, f)?;
+    let missing = missing_sensitivity(alloc, f)?;
+    Ok(first(clocks, first(writers, first(shared, missing))))
 }
 
 fn check_paths(alloc: Global, f: &Facts<'_>, paths: &[Paths]) -> Result<Order, Stop>
     ensures stop { IfErr result MayStop }
+    ensures tells { (p : Program) → p ≡ program_of f.now.core.now → HasLives f.now p → Tells p result }
 {
     // E504.
-    refuse(first_of(paths, Code::Latch))?;
-    let readers = readers_of(alloc, f)?;
-    check_readers(alloc, f, paths, &readers)
+    match first_of(paths, Code::Latch) {
+        Some(found) => Err(Stop::Refused(found)),
+        None => {
+            let readers = readers_of(alloc, f)?;
+            check_readers(alloc, f, paths, &readers)
+        }
+    }
 }
 
 fn check_readers(
@@ -71,24 +94,52 @@ fn check_readers(
     readers: &Readers,
 ) -> Result<Order, Stop>
     ensures stop { IfErr result MayStop }
+    ensures tells { (p : Program) → p ≡ program_of f.now.core.now → HasLives f.now p → Tells p result }
 {
-    refuse(comb_loop(alloc, f, readers)?)?;
+    let cycle = comb_loop(alloc, f, readers)?;
     // E506.
-    refuse(first_of(paths, Code::CombState))?;
-    refuse(wait_in_method(f))?;
-    refuse(loop_may_not_wait(alloc, f)?)?;
-    refuse(end_reached(f))?;
-    refuse(signal_index(alloc, f)?)?;
+    match first(cycle, first_of(paths, Code::CombState)) {
+        Some(found) => Err(Stop::Refused(found)),
+        None => check_waits(alloc, f, readers),
+    }
+}
+
+fn check_waits(alloc: Global, f: &Facts<'_>, readers: &Readers) -> Result<Order, Stop>
+    ensures stop { IfErr result MayStop }
+    ensures tells { (p : Program) → p ≡ program_of f.now.core.now → HasLives f.now p → Tells p result }
+{
+    let waits = first_stay(alloc, f)?;
+    let chosen = signal_index(alloc, f)?;
+    match first(waits, chosen) {
+        Some(found) => Err(Stop::Refused(found)),
+        None => ordered(alloc, readers),
+    }
+}
+
+fn ordered(alloc: Global, readers: &Readers) -> Result<Order, Stop>
+    ensures stop { IfErr result MayStop }
+    ensures none { IfErr result (λ e. e ≡ stop.NoMemory) }
+{
     Ok(order_of(alloc, readers)?)
 }
 
-fn refuse(found: Option<Refusal>) -> Result<(), Stop>
-    requires { IfSome found (λ r. is_refusal r.code ≡ true) }
-    ensures { IfErr result MayStop }
+// What the rules on waits find.
+fn first_stay(alloc: Global, f: &Facts<'_>) -> Result<Option<Refusal>, NoMemory>
+    ensures code { IfOk result (MayFind 1) }
+    ensures first { (p : Program) → p ≡ program_of f.now.core.now → HasLives f.now p → IfOk result (λ found. found ≡ stays p) }
 {
-    match found {
-        Some(refusal) => Err(Stop::Refused(refusal)),
-        None => Ok(()),
+    let waits = wait_in_method(f);
+    let loops = loop_may_not_wait(alloc, f)?;
+    let ends = end_reached(f);
+    Ok(first(waits, first(loops, ends)))
+}
+
+fn first(a: Option<Refusal>, b: Option<Refusal>) -> Option<Refusal>
+    ensures { result ≡ or_else a b }
+{
+    match a {
+        Some(found) => Some(found),
+        None => b,
     }
 }
 
