@@ -1,5 +1,5 @@
 -- What is asked of a statement by its node, and of the statements of a list.
-use Rattle.std.proofs.Common.{◌≡◌, refl, sym, ap, subst, ◌∙◌, ℕ, suc, ◌+◌, ◌<◌, add-one, List, [], ◌∷◌, ◌++◌, map, drop, drop-cons, get_or, length, Option}
+use Rattle.std.proofs.Common.{◌≡◌, refl, sym, ap, subst, ◌∙◌, ℕ, zero, suc, ◌+◌, ◌<◌, add-one, List, [], ◌∷◌, ◌++◌, map, take, drop, drop-cons, get_or, length, Option}
 use Rattle.scc_core.specs.declared.expr.CoreExpr.{CoreExpr}
 use Rattle.scc_core.specs.declared.expr.CoreLeft.{CoreLeft}
 use Rattle.scc_core.specs.declared.statics.Known.{Known}
@@ -79,3 +79,21 @@ module _ (k : Known) (ss : List CoreStmt) (i : ℕ) (s : CoreStmt) (h : i < leng
 
   pub rest_read : AreRead k (asked (drop (i + 1) ss))
   rest_read = read_back k (asked_in s) (asked (drop (i + 1) ss)) (subst (AreRead k) (from_here ss i s h is) r)
+
+-- ---- behind the first, and so many of them
+
+read_both : (k : Known) (a b : List CoreExpr) → AreRead k a → AreRead k b → AreRead k (a ++ b)
+read_both k [] b h r = r
+read_both k (e ∷ a) b h r = (h.0, read_both k a b h.1 r)
+
+front_read : (k : Known) (n : ℕ) (ss : List CoreStmt) → AreRead k (asked ss) → AreRead k (asked (take n ss))
+front_read k zero ss h = tt
+front_read k (suc n) [] h = tt
+front_read k (suc n) (s ∷ ss) h = read_both k (asked_in s) (asked (take n ss)) (read_front k (asked_in s) (asked ss) h) (front_read k n ss (read_back k (asked_in s) (asked ss) h))
+
+tail_read : (k : Known) (ss : List CoreStmt) → AreRead k (asked ss) → AreRead k (asked (drop 1 ss))
+tail_read k [] h = tt
+tail_read k (s ∷ ss) h = read_back k (asked_in s) (asked ss) h
+
+pub rest_taken : (k : Known) (ss : List CoreStmt) (n : ℕ) → AreRead k (asked ss) → AreRead k (asked (take n (drop 1 ss)))
+rest_taken k ss n h = front_read k n (drop 1 ss) (tail_read k ss h)

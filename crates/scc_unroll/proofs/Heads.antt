@@ -12,11 +12,13 @@ use Rattle.scc_core_spec.specs.Counted.{is_end, is_it, own_at, times, uses}
 use Rattle.scc_core_spec.specs.Static.{Cells}
 use Rattle.scc_core_view.specs.Terms.{taken_of}
 use Rattle.scc_core_view.specs.Codes.{Node, stmt_node, stmt_step, stmt_code, code_of, before}
+use Rattle.scc_unroll.specs.Budgets.{has_loops}
 use Rattle.scc_unroll.specs.Heads.{head_size}
 
 pub record Heads (f : Code → Code) : Type 0 where
   pub sizes : (c : Code) → size (f c) ≡ head_size (f End) + size c
   pub waiting : (c : Code) → holds_wait (f c) ≡ (holds_wait (f End) || holds_wait c)
+  pub looping : (c : Code) → has_loops (f c) ≡ (has_loops (f End) || has_loops c)
   pub goes_on : (c : Code) → is_end (f c) ≡ false
   pub using : (cs : Cells) (o : ℕ) (c : Code) → uses cs o (f c) ≡ uses cs o (f End) + uses cs o c
 
@@ -45,28 +47,31 @@ beside_two : (a b n : ℕ) → a + (b + n) ≡ (a + (b + 0)) + n
 beside_two a b n = omega arith
 
 heads : (y : CoreNode-F Node (Code → Code)) (p : Place) → Heads (stmt_node y p)
-heads (node.Assign l e) p = record { sizes = λ c. refl; waiting = λ c. refl; goes_on = λ c. refl; using = λ cs o c. beside_none (times 1 (is_it o (own_at cs (taken_of l).left))) (uses cs o c) }
+heads (node.Assign l e) p = record { sizes = λ c. refl; waiting = λ c. refl; looping = λ c. refl; goes_on = λ c. refl; using = λ cs o c. beside_none (times 1 (is_it o (own_at cs (taken_of l).left))) (uses cs o c) }
 heads (node.If t a b) p = record {
   sizes = λ c. around_two (size (before a End)) (size (before b End)) (size c);
   waiting = λ c. or_behind_two (holds_wait (before a End)) (holds_wait (before b End)) (holds_wait c);
+  looping = λ c. or_behind_two (has_loops (before a End)) (has_loops (before b End)) (has_loops c);
   goes_on = λ c. refl;
   using = λ cs o c. beside_two (uses cs o (before a End)) (uses cs o (before b End)) (uses cs o c);
 }
 heads (node.Block b) p = record {
   sizes = λ c. around_one (size (before b End)) (size c);
   waiting = λ c. or_behind (holds_wait (before b End)) (holds_wait c);
+  looping = λ c. or_behind (has_loops (before b End)) (has_loops c);
   goes_on = λ c. refl;
   using = λ cs o c. beside_none (uses cs o (before b End)) (uses cs o c);
 }
 heads (node.Loop n b) p = record {
   sizes = λ c. around_one (size (before b End)) (size c);
   waiting = λ c. or_behind (holds_wait (before b End)) (holds_wait c);
+  looping = λ c. refl;
   goes_on = λ c. refl;
   using = λ cs o c. beside_none (uses cs o (before b End)) (uses cs o c);
 }
-heads (node.Exit n) p = record { sizes = λ c. refl; waiting = λ c. refl; goes_on = λ c. refl; using = λ cs o c. alone (uses cs o c) }
-heads (node.Wait n) p = record { sizes = λ c. refl; waiting = λ c. refl; goes_on = λ c. refl; using = λ cs o c. alone (uses cs o c) }
-heads (node.Alias to target) p = record { sizes = λ c. refl; waiting = λ c. refl; goes_on = λ c. refl; using = λ cs o c. beside_none (times 3 (is_it o (own_at cs (taken_of target).left))) (uses cs o c) }
+heads (node.Exit n) p = record { sizes = λ c. refl; waiting = λ c. refl; looping = λ c. refl; goes_on = λ c. refl; using = λ cs o c. alone (uses cs o c) }
+heads (node.Wait n) p = record { sizes = λ c. refl; waiting = λ c. refl; looping = λ c. refl; goes_on = λ c. refl; using = λ cs o c. alone (uses cs o c) }
+heads (node.Alias to target) p = record { sizes = λ c. refl; waiting = λ c. refl; looping = λ c. refl; goes_on = λ c. refl; using = λ cs o c. beside_none (times 3 (is_it o (own_at cs (taken_of target).left))) (uses cs o c) }
 
 abbrev node_fold : CoreNode → Node
 node_fold = fold-CoreNode Node (Code → Code) stmt_node stmt_step
@@ -107,6 +112,9 @@ module _ (ss : List CoreStmt) (i : ℕ) (s : CoreStmt) (h : i < length ss) (is :
 
   pub waits_here : holds_wait (code_of (drop i ss)) ≡ (holds_wait (code_of (s ∷ [])) || holds_wait (code_of (drop (i + 1) ss)))
   waits_here = ap holds_wait (from_here ss i s h is) ∙ (stmt_heads s).waiting (code_of (drop (i + 1) ss))
+
+  pub loops_here : has_loops (code_of (drop i ss)) ≡ (has_loops (code_of (s ∷ [])) || has_loops (code_of (drop (i + 1) ss)))
+  loops_here = ap has_loops (from_here ss i s h is) ∙ (stmt_heads s).looping (code_of (drop (i + 1) ss))
 
   pub uses_here : (cs : Cells) (o : ℕ) → uses cs o (code_of (drop i ss)) ≡ uses cs o (code_of (s ∷ [])) + uses cs o (code_of (drop (i + 1) ss))
   uses_here cs o = ap (uses cs o) (from_here ss i s h is) ∙ (stmt_heads s).using cs o (code_of (drop (i + 1) ss))

@@ -1,5 +1,7 @@
 pub mod Asked
+pub mod Budgets
 pub mod Counting
+pub mod EachTurn
 pub mod Forms
 pub mod Heads
 pub mod Lefts
@@ -8,3 +10,4 @@ pub mod Paths
 pub mod Stmts
 pub mod Sums
 pub mod Trees
+pub mod Wholes

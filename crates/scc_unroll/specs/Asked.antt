@@ -6,6 +6,8 @@ use Rattle.scc_core.specs.declared.stmt.CoreStmt.{CoreStmt, fold-CoreStmt}
 use Rattle.scc_core.specs.declared.stmt.CoreNode.TheOpen.{CoreNode-F, CoreStmt-F}
 use Rattle.scc_core.specs.declared.stmt.CoreNode.TheOpen as node
 use Rattle.scc_core.specs.declared.stmt.Count.{Count}
+use Rattle.scc_unroll.specs.declared.shape.Stand.{Stand}
+use Rattle.scc_unroll.specs.declared.shape.Stand.TheVariants as stand
 use Rattle.scc_unroll.specs.Shape.{IsRead}
 
 abbrev pub asked_count : Option Count → List CoreExpr
@@ -38,3 +40,8 @@ asked ss = joined (map asked_in ss)
 abbrev pub AreRead : Known → List CoreExpr → Type 0
 AreRead known [] = Unit {0}
 AreRead known (e ∷ es) = IsRead known e × AreRead known es
+
+-- what is assigned before a statement has it, too
+abbrev pub StandIsRead : Known → Stand → Type 0
+StandIsRead known (stand.Behind l e) = IsRead known e.now
+StandIsRead known _ = Unit {0}

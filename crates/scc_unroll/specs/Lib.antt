@@ -1,7 +1,10 @@
 pub mod Asked
+pub mod Budgets
 pub mod Counters
 pub mod Heads
 pub mod Shape
 pub mod Spots
+pub mod Turns
 pub mod Unrolled
 pub mod Used
+pub mod Wholes

@@ -1,8 +1,8 @@
 //! The unrolled body.
-use crate::counted::{At, Counted, counted_by};
-use crate::shape::{Stand, behind};
-use crate::turns::{TURNS, is_loop, start_of, turn_at};
-use scc_base::{List, NoMemory, lost};
+use crate::counted::{At, Counted, counted_by, counters_in};
+use crate::shape::{Stand, are_all, behind};
+use crate::turns::{Turn, turns_by};
+use scc_base::{List, NoMemory, Place, lost};
 use scc_bits::Word;
 use scc_core::{Copies, CoreExpr, CoreExprNode, CoreNode, CoreStmt, Count, Counter};
 
@@ -17,16 +17,39 @@ pub fn unrolled(
     let mut stand = stand;
     let mut out = List::new(at.alloc);
     for (i, s) in body.iter().enumerate() {
-        if is_loop(s) {
-            unroll_loop(at, counters, stand, s, i + 1 == body.len(), &mut out)?;
-        } else {
-            let node = copied(at, counters, s)?;
-            let place = s.place;
-            out.push(CoreStmt { place, node })?;
-        }
+        let last = are_all(i + 1, body);
+        unroll(at, counters, stand, s, last, &mut out)?;
         stand = behind(stand, s);
     }
     Ok(out)
+}
+
+// A statement, which is the last of its list or isn't.
+#[cycle(unrolled)]
+fn unroll(
+    at: &At<'_>,
+    counters: &[Counter],
+    stand: Stand<'_>,
+    s: &CoreStmt,
+    last: bool,
+    out: &mut List<CoreStmt>,
+) -> Result<(), NoMemory> {
+    match &s.node {
+        CoreNode::Loop { count, body } => {
+            let of = counted_by(at, counters, stand, count, body.as_slice(), last)?;
+            match of {
+                Some(of) => {
+                    unroll_counted(at, counters, &of, s.place, count, body.as_slice(), out)
+                }
+                None => kept_loop(at, counters, s.place, count, body.as_slice(), out),
+            }
+        }
+        _ => {
+            let node = copied(at, counters, s)?;
+            let place = s.place;
+            out.push(CoreStmt { place, node })
+        }
+    }
 }
 
 // A statement that is no loop.
@@ -60,45 +83,66 @@ fn copied(at: &At<'_>, counters: &[Counter], s: &CoreStmt) -> Result<CoreNode, N
     }
 }
 
-// A loop: where it is counted, its turns, each of which is its block, then the counter's next number.
+// A loop that stays.
 #[cycle(unrolled)]
-fn unroll_loop(
+fn kept_loop(
     at: &At<'_>,
     counters: &[Counter],
-    stand: Stand<'_>,
-    s: &CoreStmt,
-    last: bool,
+    place: Place,
+    count: &Option<Count>,
+    body: &[CoreStmt],
     out: &mut List<CoreStmt>,
 ) -> Result<(), NoMemory> {
-    let CoreNode::Loop { count, body } = &s.node else {
-        return Err(lost());
-    };
-    let place = s.place;
-    let Some(of) = counted_by(at, counters, stand, count, body.as_slice(), last)? else {
-        let count = count_copied(at, counters, count)?;
-        let body = unrolled(at, counters, Stand::Elsewhere, body.as_slice())?;
-        let node = CoreNode::Loop { count, body };
-        return out.push(CoreStmt { place, node });
-    };
-    let [_, block, _] = body.as_slice() else {
+    let count = count_copied(at, counters, count)?;
+    let body = unrolled(at, counters, Stand::Elsewhere, body)?;
+    let node = CoreNode::Loop { count, body };
+    out.push(CoreStmt { place, node })
+}
+
+// A counted loop; one without an end stays.
+#[cycle(unrolled)]
+fn unroll_counted(
+    at: &At<'_>,
+    counters: &[Counter],
+    of: &Counted<'_>,
+    place: Place,
+    count: &Option<Count>,
+    body: &[CoreStmt],
+    out: &mut List<CoreStmt>,
+) -> Result<(), NoMemory> {
+    let turns = turns_by(at, counters, of)?;
+    if turns.ends {
+        write_turns(at, counters, of, turns.list.as_slice(), body, out)
+    } else {
+        kept_loop(at, counters, place, count, body, out)
+    }
+}
+
+// Turns, each of which is its block, then the counter's next number.
+#[cycle(unrolled)]
+fn write_turns(
+    at: &At<'_>,
+    counters: &[Counter],
+    of: &Counted<'_>,
+    list: &[Turn],
+    body: &[CoreStmt],
+    out: &mut List<CoreStmt>,
+) -> Result<(), NoMemory> {
+    let [_, block, _] = body else {
         return Err(lost());
     };
     let CoreNode::Block(inner) = &block.node else {
         return Err(lost());
     };
-    let mut now = start_of(at, counters, of)?;
-    for _ in 0..TURNS + 1 {
-        let Some(turn) = turn_at(at, counters, of, now)? else {
-            return Ok(());
-        };
-        now = turn.next;
-        let around = turn.counters.as_slice();
-        let node = CoreNode::Block(unrolled(at, around, Stand::First, inner.as_slice())?);
+    for turn in list {
+        let around = counters_in(at, counters, of.cell, turn.now)?;
+        let written = unrolled(at, around.as_slice(), Stand::First, inner.as_slice())?;
         let place = block.place;
+        let node = CoreNode::Block(written);
         out.push(CoreStmt { place, node })?;
-        out.push(step(at, of, now)?)?;
+        out.push(step(at, of, turn.next)?)?;
     }
-    Err(lost())
+    Ok(())
 }
 
 // How a loop that stays counts.
@@ -114,7 +158,7 @@ fn count_copied(
 }
 
 // The counter's next number, assigned where its step stood.
-fn step(at: &At<'_>, of: Counted<'_>, next: Word) -> Result<CoreStmt, NoMemory> {
+fn step(at: &At<'_>, of: &Counted<'_>, next: Word) -> Result<CoreStmt, NoMemory> {
     let step = of.turning.step;
     let literal = CoreExprNode::Lit(next);
     let node = CoreNode::Assign {

@@ -1,5 +1,5 @@
 //! Which loops are counted, and what stands in them as literals.
-ghost use Rattle.std.specs.Prelude.{◌≡◌, ◌&&◌, ◌∷◌, not, nat_le, map, slice_get, IfOk, Some, None, option_map, is_some};
+ghost use Rattle.std.specs.Prelude.{◌≡◌, ◌&&◌, ◌∷◌, not, nat_le, map, slice_get, IfOk, IfSome, Some, None, option_map, is_some};
 ghost use Rattle.scc_core_spec.specs.Code.{Code};
 ghost use Rattle.scc_core_spec.specs.Term.{Term};
 ghost use Rattle.scc_core_spec.specs.Counted as spec;
@@ -8,9 +8,10 @@ ghost use Rattle.scc_core_view.specs.Codes.{code_of, count_of, counted};
 ghost use Rattle.scc_core_view.specs.Programs.{cell_of, path_of};
 ghost use Rattle.scc_core_view.specs.Terms.{taken_of, term_of};
 ghost use Rattle.scc_semantics.specs.Location.{same_path};
-ghost use Rattle.scc_unroll.specs.Asked.{AreRead, asked_count};
+ghost use Rattle.scc_unroll.specs.Asked.{AreRead, StandIsRead, asked, asked_count};
 ghost use Rattle.scc_unroll.specs.Counters.{counter_of, counters_of};
-ghost use Rattle.scc_unroll.specs.Shape.{AreCounters, Around, IsCounter, Knows, cells_at, counting_of, read, setting_of, stand_of};
+ghost use Rattle.scc_unroll.specs.Shape.{AreCounters, Around, IsCounter, IsRead, Knows, cells_at, counting_of, read, setting_of, stand_of};
+ghost use Rattle.scc_unroll.specs.Turns.{IsTold};
 ghost use Rattle.scc_unroll.specs.Used.{used};
 
 use crate::own::own_of;
@@ -201,7 +202,8 @@ fn counted_from<'a>(
     body: &'a [CoreStmt],
     last: bool,
 ) -> Result<Option<Counted<'a>>, NoMemory>
-    ensures { (b r : Code) → Around at.now b counters.now → AreRead at.now.known (asked_count (Some count.now)) → spec.is_end r ≡ last → IfOk result (λ o. option_map (counting_of (cells_at at.now) (counters_of counters.now)) o ≡ spec.counted_by (setting_of at.now b) (counters_of counters.now) (spec.Behind (record { left = (taken_of left.now).left; pick = (taken_of left.now).pick; value = term_of value.now })) (Some (count_of count.now)) (code_of body.now) r) }
+    ensures counted { (b r : Code) → Around at.now b counters.now → AreRead at.now.known (asked_count (Some count.now)) → spec.is_end r ≡ last → IfOk result (λ o. option_map (counting_of (cells_at at.now) (counters_of counters.now)) o ≡ spec.counted_by (setting_of at.now b) (counters_of counters.now) (spec.Behind (record { left = (taken_of left.now).left; pick = (taken_of left.now).pick; value = term_of value.now })) (Some (count_of count.now)) (code_of body.now) r) }
+    ensures told { AreCounters at.now.known.cells.now counters.now → IsRead at.now.known value.now → AreRead at.now.known (asked body.now) → IfOk result (λ o. IfSome o (λ g. IsTold at.now counters.now g)) }
 {
     let counted = counts(at, counters, left, count, body, last)?;
     if !counted {
@@ -226,7 +228,8 @@ pub fn counted_by<'a>(
     body: &'a [CoreStmt],
     last: bool,
 ) -> Result<Option<Counted<'a>>, NoMemory>
-    ensures { (b r : Code) → Around at.now b counters.now → AreRead at.now.known (asked_count count.now) → spec.is_end r ≡ last → IfOk result (λ o. option_map (counting_of (cells_at at.now) (counters_of counters.now)) o ≡ spec.counted_by (setting_of at.now b) (counters_of counters.now) (stand_of stand.entry) (counted count.now) (code_of body.now) r) }
+    ensures counted { (b r : Code) → Around at.now b counters.now → AreRead at.now.known (asked_count count.now) → spec.is_end r ≡ last → IfOk result (λ o. option_map (counting_of (cells_at at.now) (counters_of counters.now)) o ≡ spec.counted_by (setting_of at.now b) (counters_of counters.now) (stand_of stand.entry) (counted count.now) (code_of body.now) r) }
+    ensures told { AreCounters at.now.known.cells.now counters.now → StandIsRead at.now.known stand.entry → AreRead at.now.known (asked body.now) → IfOk result (λ o. IfSome o (λ g. IsTold at.now counters.now g)) }
 {
     match (stand, count) {
         (Stand::Behind { left, value }, Some(count)) => {

@@ -4,10 +4,13 @@
 mod built;
 mod counted;
 pub mod laws;
+mod limits;
 mod look;
+mod loops;
 mod own;
 mod pass;
 mod shape;
+mod sizes;
 mod turns;
 mod uses;
 

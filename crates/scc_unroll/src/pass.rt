@@ -1,14 +1,22 @@
 //! The pass.
-ghost use Rattle.std.specs.Prelude.{◌≡◌, Err, IfOk, map};
+ghost use Rattle.std.specs.Prelude.{◌≡◌, [], Err, IfOk, Some, None, map, option_map, slice_get};
 ghost use Rattle.scc_base.specs.declared.refusal.Refusal.{Refusal};
 ghost use Rattle.scc_base.specs.declared.refusal.Stop.TheVariants as stop;
+ghost use Rattle.scc_core_spec.specs.Code.{Code as Statements};
+ghost use Rattle.scc_core_spec.specs.Counted.{Elsewhere};
+ghost use Rattle.scc_core_spec.specs.Unrolled.{earlier, run_turns};
+ghost use Rattle.scc_core_view.specs.Codes.{code_of};
+ghost use Rattle.scc_unroll.specs.Asked.{AreRead, asked};
+ghost use Rattle.scc_unroll.specs.Shape.{Around, setting_of};
+ghost use Rattle.scc_unroll.specs.Spots.{spot_of};
 ghost use Rattle.scc_unroll.specs.Unrolled.{KeepsAllButBodies, IsOfUnrolling, head_of};
 
 use crate::built::unrolled;
 use crate::counted::At;
+use crate::limits::{Budget, count_turns};
 use crate::look::{Spot, first_uncounted};
 use crate::shape::Stand;
-use crate::turns::{STATEMENTS, Turns, count_turns, unrolled_size};
+use crate::sizes::{STATEMENTS, unrolled_size};
 use crate::uses::{Uses, note_all};
 use scc_base::{Code, List, NoMemory, Place, Stop, Tally};
 use scc_core::{Core, CoreProcess, CoreStmt, Known, Pass, Places};
@@ -99,10 +107,11 @@ fn body_at(at: &At<'_>, place: Place, body: &[CoreStmt]) -> Result<List<CoreStmt
 }
 
 // The loop that makes a turn too many.
-fn over_of(at: &At<'_>, body: &[CoreStmt]) -> Result<Option<Spot>, NoMemory> {
-    let mut turns = Turns::new();
-    count_turns(at, &[], Stand::Elsewhere, 0, body, &mut turns)?;
-    Ok(turns.over)
+fn over_of(at: &At<'_>, body: &[CoreStmt]) -> Result<Option<Spot>, NoMemory>
+    ensures { (b : Statements) → Around at.now b [] → AreRead at.now.known (asked body.now) → IfOk result (λ o. option_map spot_of o ≡ slice_get (run_turns (setting_of at.now b) [] Elsewhere 0 (code_of body.now)) 4096) }
+{
+    let budget = count_turns(at, &[], Stand::Elsewhere, 0, body, Budget::new())?;
+    Ok(budget.over)
 }
 
 fn is_too_large(at: &At<'_>, body: &[CoreStmt]) -> Result<bool, NoMemory> {
@@ -113,6 +122,8 @@ fn is_too_large(at: &At<'_>, body: &[CoreStmt]) -> Result<bool, NoMemory> {
 // The earlier one of a loop that isn't counted and one that makes a turn too many.
 fn stop_at(uncounted: Option<Spot>, over: Option<Spot>) -> Result<(), Stop>
     ensures stop { (r : Refusal) → result ≡ Err (stop.Refused r) → IsOfUnrolling r }
+    ensures refused { (r : Refusal) → result ≡ Err (stop.Refused r) → earlier (option_map spot_of uncounted) (option_map spot_of over) ≡ Some r }
+    ensures passed { IfOk result (λ u. earlier (option_map spot_of uncounted) (option_map spot_of over) ≡ None) }
 {
     match (uncounted, over) {
         (None, None) => Ok(()),

@@ -1,11 +1,13 @@
 //! What statements are: their number, their waits, and the form of a counted loop's body.
-ghost use Rattle.std.specs.Prelude.{◌≡◌, nat_eq, length, ◌+◌, ◌&&◌, ◌||◌, IfOk, [], ◌∷◌, None, option_map, if◌then◌else◌};
+ghost use Rattle.std.specs.Prelude.{◌≡◌, nat_eq, length, ◌+◌, ◌&&◌, ◌||◌, IfOk, IfSome, [], ◌∷◌, None, option_map, if◌then◌else◌};
+ghost use Rattle.scc_core.specs.declared.statics.Known.{Known};
 ghost use Rattle.scc_core_spec.specs.Code as code;
 ghost use Rattle.scc_core_spec.specs.Counted as spec;
 ghost use Rattle.scc_core_view.specs.Codes.{code_of};
 ghost use Rattle.scc_core_view.specs.Terms.{taken_of, term_of};
+ghost use Rattle.scc_unroll.specs.Asked.{AreRead, StandIsRead, asked};
 ghost use Rattle.scc_unroll.specs.Heads.{simple, stand_behind};
-ghost use Rattle.scc_unroll.specs.Shape.{stand_of, turned};
+ghost use Rattle.scc_unroll.specs.Shape.{IsRead, stand_of, turned};
 
 use scc_base::{NoMemory, Place, lost};
 use scc_core::{CoreBase, CoreExpr, CoreLeft, CoreNode, CoreStmt};
@@ -65,7 +67,8 @@ pub fn holds_wait(body: &[CoreStmt]) -> bool
     found
 }
 
-fn either(a: bool, b: bool) -> bool
+/// Whether one of two holds.
+pub fn either(a: bool, b: bool) -> bool
     ensures { result ≡ (a || b) }
 {
     a || b
@@ -141,7 +144,8 @@ pub enum Stand<'a> {
 
 /// Where the statement behind another stands.
 pub fn behind<'a>(stand: Stand<'_>, s: &'a CoreStmt) -> Stand<'a>
-    ensures { stand_of result ≡ stand_behind (stand_of stand.entry) (code_of (s.now ∷ [])) }
+    ensures stands { stand_of result ≡ stand_behind (stand_of stand.entry) (code_of (s.now ∷ [])) }
+    ensures read { (known : Known) → AreRead known (asked (s.now ∷ [])) → StandIsRead known result }
 {
     match (stand, &s.node) {
         (Stand::First, CoreNode::Assign { left, value }) => Stand::Behind { left, value },
@@ -164,7 +168,8 @@ pub struct Turning<'a> {
 /// Those of a body with a test that leaves the block where it fails, a block, and an assignment of the counter; None where
 /// the body has another form.
 pub fn turning_in(cell: u32, body: &[CoreStmt]) -> Option<Turning<'_>>
-    ensures { option_map turned result ≡ if spec.is_turning cell (code_of body.now) then spec.turning_of (code_of body.now) else None }
+    ensures parts { option_map turned result ≡ if spec.is_turning cell (code_of body.now) then spec.turning_of (code_of body.now) else None }
+    ensures read { (known : Known) → AreRead known (asked body.now) → IfSome result (λ t. IsRead known t.test.now × IsRead known t.step.now) }
 {
     let [first, rest @ ..] = body else {
         return None;
@@ -194,7 +199,8 @@ fn leaves_block(body: &[CoreStmt]) -> bool
 }
 
 fn turn<'a>(cell: u32, test: &'a CoreExpr, body: &'a [CoreStmt]) -> Option<Turning<'a>>
-    ensures { option_map turned result ≡ if spec.is_turn cell (code_of body.now) then spec.turn_of (term_of test.now) (code_of body.now) else None }
+    ensures parts { option_map turned result ≡ if spec.is_turn cell (code_of body.now) then spec.turn_of (term_of test.now) (code_of body.now) else None }
+    ensures read { (known : Known) → IsRead known test.now → AreRead known (asked body.now) → IfSome result (λ t. IsRead known t.test.now × IsRead known t.step.now) }
 {
     let [block, rest @ ..] = body else {
         return None;
@@ -212,7 +218,8 @@ fn step<'a>(
     turn: &'a [CoreStmt],
     body: &'a [CoreStmt],
 ) -> Option<Turning<'a>>
-    ensures { option_map turned result ≡ if spec.is_step cell (code_of body.now) then spec.step_of (term_of test.now) place (code_of turn.now) (code_of body.now) else None }
+    ensures parts { option_map turned result ≡ if spec.is_step cell (code_of body.now) then spec.step_of (term_of test.now) place (code_of turn.now) (code_of body.now) else None }
+    ensures read { (known : Known) → IsRead known test.now → AreRead known (asked body.now) → IfSome result (λ t. IsRead known t.test.now × IsRead known t.step.now) }
 {
     let [s, rest @ ..] = body else {
         return None;

@@ -52,7 +52,7 @@ first_uncounted-loop-s-preserved t c = (
       let there = stand_behind w (code_of (s ∷ [])) in
       let number = c.loop-s.number + head_size (code_of (s ∷ [])) in (
         rest_read c.args.at.now.known c.args.body.now c.loop-s.s-index s i c.s-item.is inv.0,
-        ap (λ z. first_spot (uncounted S ns z c.in_ok-number.number rest)) c.behind-stand.ensures
+        ap (λ z. first_spot (uncounted S ns z c.in_ok-number.number rest)) c.behind-stand.ensures.stands
             ∙ ap (λ z. first_spot (uncounted S ns there z rest)) (c.in_ok-number.ensures ∙ ap (λ z. c.loop-s.number + z) (c.in_ok-size.ensures ∙ sym (head_sized s)))
             ∙ sym (ap (λ o. or_else (option_map spot_of o) (first_spot (uncounted S ns there number rest))) c.in-None.is)
             ∙ sym here ∙ sym (ap (λ z. first_spot (uncounted S ns w c.loop-s.number z)) (from_here c.args.body.now c.loop-s.s-index s i c.s-item.is)) ∙ inv.1,

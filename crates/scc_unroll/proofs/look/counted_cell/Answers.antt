@@ -9,8 +9,8 @@ cell_in o = option_map (λ g. g.cell) o
 
 pub returns-in-Some : goal.returns-in-Some
 returns-in-Some c = λ b r a reads e.
-    ap (λ o. cell_in (option_map (counting_of (cells_at c.args.at.now) (counters_of c.args.counters.now)) o)) (sym c.in-Some.is) ∙ ap cell_in (c.in_ok-of.ensures b r a reads e)
+    ap (λ o. cell_in (option_map (counting_of (cells_at c.args.at.now) (counters_of c.args.counters.now)) o)) (sym c.in-Some.is) ∙ ap cell_in (c.in_ok-of.ensures.counted b r a reads e)
 
 pub returns-in-None : goal.returns-in-None
 returns-in-None c = λ b r a reads e.
-    ap (λ o. cell_in (option_map (counting_of (cells_at c.args.at.now) (counters_of c.args.counters.now)) o)) (sym c.in-None.is) ∙ ap cell_in (c.in_ok-of.ensures b r a reads e)
+    ap (λ o. cell_in (option_map (counting_of (cells_at c.args.at.now) (counters_of c.args.counters.now)) o)) (sym c.in-None.is) ∙ ap cell_in (c.in_ok-of.ensures.counted b r a reads e)

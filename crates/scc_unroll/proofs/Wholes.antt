@@ -1,0 +1,32 @@
+-- Of whole expressions the code finds the static values.
+use Rattle.std.proofs.Common.{◌≡◌, sym, ap, subst, ◌∙◌, List, [], ◌∷◌, map, option_map}
+use Rattle.scc_core.specs.declared.copy.Counter.{Counter as Held}
+use Rattle.scc_core.specs.declared.expr.CoreExpr.{CoreExpr}
+use Rattle.scc_core.specs.declared.program.Cell.{Cell}
+use Rattle.scc_core.specs.declared.statics.Known.{Known}
+use Rattle.scc_core.specs.Counters.{counted}
+use Rattle.scc_core.specs.Known.{facts_in}
+use Rattle.scc_core.specs.Statics.{value_in}
+use Rattle.scc_core_spec.specs.Counted.{counting}
+use Rattle.scc_core_spec.specs.Static.{static}
+use Rattle.scc_core_static_laws.specs.Held.{Knows}
+use Rattle.scc_core_view.specs.Programs.{cell_of}
+use Rattle.scc_core_view.specs.Terms.{term_of}
+use Rattle.scc_core_view.specs.Whole.{IsWhole}
+use Rattle.scc_unroll.specs.Asked.{AreRead}
+use Rattle.scc_unroll.specs.Counters.{counters_of}
+use Rattle.scc_unroll.specs.Shape.{AreCounters, IsRead}
+use Rattle.scc_unroll.specs.Wholes.{AreWholeCounted}
+use Rattle.scc_unroll.proofs.Counting.{copy_says}
+
+module _ (known : Known) (cells : List Cell) (k : Knows known cells [])
+    (law : (e : CoreExpr) → IsWhole cells e → option_map (λ v. v.word) (value_in (facts_in known) e) ≡ static (map cell_of cells) (term_of e)) where
+  one_read : (e : CoreExpr) → ((ns : List Held) → AreCounters cells ns → IsWhole cells (counted ns e)) → IsRead known e
+  one_read e h = λ ns a.
+      law (counted ns e) (h ns (subst (λ cs. AreCounters cs ns) k.cells_are a))
+      ∙ ap (static (map cell_of cells)) (copy_says ns e)
+      ∙ ap (λ cs. static (map cell_of cs) (counting (counters_of ns) (term_of e))) (sym k.cells_are)
+
+  pub all_read : (es : List CoreExpr) → AreWholeCounted cells es → AreRead known es
+  all_read [] h = tt
+  all_read (e ∷ es) h = (one_read e h.0, all_read es h.1)
