@@ -4,3 +4,4 @@ pub mod Firsts
 pub mod Lives
 pub mod Terms
 pub mod Told
+pub mod Choosing

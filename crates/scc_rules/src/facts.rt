@@ -1,10 +1,11 @@
 //! What is asked of a core's cells and processes.
-ghost use Rattle.std.specs.Prelude.{◌≡◌, List, [], ◌∷◌, ◌++◌, IfOk, OnOk};
+ghost use Rattle.std.specs.Prelude.{◌≡◌, List, [], ◌∷◌, ◌++◌, IfOk, OnOk, slice_get};
 ghost use Rattle.scc_core.specs.declared.program.CoreProcess.{CoreProcess};
 ghost use Rattle.scc_core_flow.specs.Live.{DecidesAll, Each, HasWholeTests};
 ghost use Rattle.scc_core_spec.specs.Static.{Cells};
 ghost use Rattle.scc_core_static_laws.specs.Held.{Knows};
 ghost use Rattle.scc_core_view.specs.Programs.{program_of};
+ghost use Rattle.scc_rules.specs.Chosen.{is_shown, shown_cell};
 ghost use Rattle.scc_rules.specs.Stands.{HasBodies, HasLives};
 
 use scc_base::{List, NoMemory, lost, push};
@@ -127,6 +128,16 @@ impl<'a> Facts<'a> {
         }
     }
 
+    /// Whether a cell is a port or a signal.
+    pub fn is_shown(&self, cell: u32) -> bool
+        ensures { result ≡ shown_cell (slice_get self.now.core.now.cells cell) }
+    {
+        match self.core.cells.get(cell as usize) {
+            Some(cell) => is_shown(&cell.sort),
+            None => false,
+        }
+    }
+
     /// The cells of a mark, ports by their roots.
     pub fn cells(&self, alloc: Global, mark: &Mark) -> Result<Vec<u32>, NoMemory> {
         let mut cells = Vec::new(alloc);
@@ -134,6 +145,20 @@ impl<'a> Facts<'a> {
             push(&mut cells, self.root(mark.named.cell(number))?)?;
         }
         Ok(cells)
+    }
+}
+
+fn is_shown(sort: &CellSort) -> bool
+    ensures { result ≡ is_shown sort.now }
+{
+    match sort {
+        CellSort::Input => true,
+        CellSort::Output => true,
+        CellSort::Signal => true,
+        CellSort::Port(_) => true,
+        CellSort::Variable { .. } => false,
+        CellSort::Local(_) => false,
+        CellSort::Pointer(_) => false,
     }
 }
 

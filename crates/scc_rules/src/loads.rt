@@ -3,6 +3,7 @@ ghost use Rattle.std.specs.Prelude.{◌≡◌, true, false, List, [], ◌∷◌,
 ghost use Rattle.scc_core.specs.Operands.{first_of};
 ghost use Rattle.scc_core_spec.specs.Uses.{Use, inside, loads, picked};
 ghost use Rattle.scc_core_view.specs.Terms.{taken_of, term_of};
+ghost use Rattle.scc_rules.specs.Chosen.{put_uses};
 ghost use Rattle.scc_rules.specs.Loads.{all_loads, first_loads, index_loads, is_load, pick_term, uses_of};
 
 use scc_base::{NoMemory, Place, lost, push};
@@ -254,15 +255,27 @@ pub fn own_loads<'a>(alloc: Global, s: &'a CoreStmt) -> Result<Vec<Load<'a>>, No
     Ok(out)
 }
 
-/// The same with the left side itself between its indices and the value.
-pub fn own_places<'a>(alloc: Global, s: &'a CoreStmt) -> Result<Vec<Load<'a>>, NoMemory> {
-    let CoreNode::Assign { left, value } = &s.node else {
-        return own_loads(alloc, s);
-    };
+/// What an assignment reads and writes: the indices of its left side, the left side, then the value.
+pub fn put_loads<'a>(
+    alloc: Global,
+    left: &'a CoreLeft,
+    value: &'a CoreExpr,
+) -> Result<Vec<Load<'a>>, NoMemory>
+    ensures { IfOk result (λ v. uses_of v.items ≡ put_uses left.now value.now) }
+{
     let mut out = Vec::new(alloc);
     left_loads(alloc, left, &mut out)?;
     let place = left.place;
     push(&mut out, Load { place, left })?;
     value_loads(alloc, value, &mut out)?;
+    Ok(out)
+}
+
+/// What a test reads.
+pub fn test_loads<'a>(alloc: Global, test: &'a CoreExpr) -> Result<Vec<Load<'a>>, NoMemory>
+    ensures { IfOk result (λ v. uses_of v.items ≡ loads (term_of test.now)) }
+{
+    let mut out = Vec::new(alloc);
+    value_loads(alloc, test, &mut out)?;
     Ok(out)
 }

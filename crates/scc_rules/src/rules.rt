@@ -3,11 +3,13 @@ ghost use Rattle.std.specs.Prelude.{◌≡◌, true, Some, option_map, IfOk, IfE
 ghost use Rattle.scc_base.specs.declared.code.Code.TheVariants as code;
 ghost use Rattle.scc_base.specs.declared.refusal.Stop.TheVariants as stop;
 ghost use Rattle.scc_core.specs.Tables.{IsTable};
-ghost use Rattle.scc_core_flow.specs.Live.{HasWholeTests};
+ghost use Rattle.scc_core_flow.specs.Live.{Each, HasWholeTests};
 ghost use Rattle.scc_core_spec.specs.First.{first_of, or_else, refused};
 ghost use Rattle.scc_core_spec.specs.Program.{Program};
 ghost use Rattle.scc_core_spec.specs.Rules as rule;
+ghost use Rattle.scc_core_spec.specs.Static.{Cells};
 ghost use Rattle.scc_core_view.specs.Programs.{is_thread, program_of};
+ghost use Rattle.scc_rules.specs.Chosen.{AreLocated, AreLocatedAll, chosen_by, own_in};
 ghost use Rattle.scc_rules.specs.Refusals.{Finds, MayFind, MayStop};
 ghost use Rattle.scc_rules.specs.Stands as spec;
 ghost use Rattle.scc_rules.specs.Stands.{HasLives, Tells, first_along, stays};
@@ -280,14 +282,36 @@ fn ending(p: &CoreProcess, ends: bool) -> Option<Refusal>
     }
 }
 
+// A signal or port that an index which isn't static chooses.
 fn signal_index(alloc: Global, f: &Facts<'_>) -> Result<Option<Refusal>, NoMemory>
-    ensures { IfOk result (Finds code.SignalIndex) }
+    ensures code { IfOk result (Finds code.SignalIndex) }
+    ensures first { (p : Program) → p ≡ program_of f.now.core.now → AreLocatedAll f.now p → IfOk result (λ found. found ≡ rule.signal_index p) }
 {
-    for p in f.core.processes.as_slice() {
-        if let Some(place) = first_chosen_signal(p.body.as_slice(), alloc, f)? {
-            // E513.
-            return Ok(at(Code::SignalIndex, place));
+    first_choosing(alloc, f, f.core.processes.as_slice())
+}
+
+fn first_choosing(
+    alloc: Global,
+    f: &Facts<'_>,
+    processes: &[CoreProcess],
+) -> Result<Option<Refusal>, NoMemory>
+    ensures code { IfOk result (Finds code.SignalIndex) }
+    ensures first { (cs : Cells) → Each (λ p. AreLocated f.now cs (own_in p)) processes.now → IfOk result (λ found. found ≡ first_of (chosen_by cs) processes.now) }
+{
+    for p in processes {
+        match choosing(alloc, f, p)? {
+            Some(found) => return Ok(Some(found)),
+            None => {}
         }
     }
     Ok(None)
+}
+
+fn choosing(alloc: Global, f: &Facts<'_>, p: &CoreProcess) -> Result<Option<Refusal>, NoMemory>
+    ensures code { IfOk result (Finds code.SignalIndex) }
+    ensures found { (cs : Cells) → AreLocated f.now cs (own_in p.now) → IfOk result (λ found. found ≡ chosen_by cs p.now) }
+{
+    let place = first_chosen_signal(p.body.as_slice(), alloc, f)?;
+    // E513.
+    Ok(told(Code::SignalIndex, place))
 }
