@@ -3,3 +3,7 @@ pub mod Counts
 pub mod Paths
 pub mod Statements
 pub mod Alone
+pub mod Assigns
+pub mod Along
+pub mod Loaded
+pub mod Splitting

@@ -4,3 +4,5 @@ pub mod Counting
 pub mod Live
 pub mod Paths
 pub mod Told
+pub mod Resets
+pub mod Splits

@@ -3,16 +3,11 @@
 
 mod elements;
 mod kept;
-mod measure;
-mod outline;
-mod over;
-mod points;
 mod reset;
-mod segment;
 mod sum;
 mod thread;
 mod types;
 
 pub use sum::{index_sum, index_sum_known};
 pub use thread::{split, split_known};
-pub use types::{SegNode, SegStmt, Split};
+pub use types::Split;

@@ -22,9 +22,10 @@ ghost use Rattle.scc_states.specs.Live.{
 ghost use Rattle.scc_states.specs.Paths.{Lives};
 
 use crate::elements::{number_of, of_expr, of_left, plus};
-use crate::types::{SegNode, SegStmt, Split};
+use crate::types::Split;
 use scc_base::List;
 use scc_core::{Core, CoreExpr, CoreLeft, CoreNode, CoreProcess, CoreStmt, Known, Sort2};
+use scc_states_cut::{SegNode, SegStmt};
 
 /// So deep blocks may nest in a method: more than statements do.
 const DEEPEST: usize = 1088;
