@@ -7,3 +7,7 @@ pub mod Assigns
 pub mod Along
 pub mod Loaded
 pub mod Splitting
+pub mod Patterns
+pub mod Measuring
+pub mod Bodies
+pub mod Summing

@@ -6,3 +6,6 @@ pub mod Paths
 pub mod Told
 pub mod Resets
 pub mod Splits
+pub mod Measured
+pub mod Bodies
+pub mod Summed
