@@ -7,7 +7,8 @@ use scc_lower::{
     Cells, Lowering, View, greatest_exit, greatest_exit_of, lowered_expr, lowered_stmt,
     lowered_stmts,
 };
-use scc_states::{SegNode, SegStmt, Split};
+use scc_states::Split;
+use scc_states_cut::{SegNode, SegStmt};
 use scc_svtree::{SvArm, SvBinary, SvExpr, SvExprNode, SvLeft, SvLiteral, SvStmt, SvUnary, VarId};
 use std::alloc::Global;
 use std::mem::replace;

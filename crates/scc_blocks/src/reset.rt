@@ -7,7 +7,8 @@ use scc_base::{List, NoMemory, lost};
 use scc_bits::Word;
 use scc_core::{CoreNode, CoreStmt};
 use scc_lower::{Cells, cell_of, known_word};
-use scc_states::{SegNode, Split};
+use scc_states::Split;
+use scc_states_cut::SegNode;
 use scc_svtree::{SvLoad, VarId};
 use std::alloc::Global;
 

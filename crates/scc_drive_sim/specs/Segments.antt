@@ -2,9 +2,9 @@
 use Rattle.std.specs.Prelude.{ℕ, ◌+◌, ◌-◌, ◌^◌, List, [], ◌∷◌, map}
 use Rattle.scc_core_spec.specs.Code.{End, size}
 use Rattle.scc_core_view.specs.Codes.{stmt_code}
-use Rattle.scc_states.specs.declared.types.SegStmt.{SegStmt, fold-SegStmt}
-use Rattle.scc_states.specs.declared.types.SegNode.TheOpen.{SegNode-F}
-use Rattle.scc_states.specs.declared.types.SegNode.TheOpen as segment
+use Rattle.scc_states_cut.specs.declared.types.SegStmt.{SegStmt, fold-SegStmt}
+use Rattle.scc_states_cut.specs.declared.types.SegNode.TheOpen.{SegNode-F}
+use Rattle.scc_states_cut.specs.declared.types.SegNode.TheOpen as segment
 use Rattle.scc_states.specs.declared.types.Split.{Split}
 
 -- the greatest number of 64 bits

@@ -4,7 +4,8 @@ ghost use Rattle.scc_drive_sim.specs.Segments.{most, total, statement_statements
 
 use scc_base::List;
 use scc_core_bounds::size_of_one;
-use scc_states::{SegNode, SegStmt, Split};
+use scc_states::Split;
+use scc_states_cut::{SegNode, SegStmt};
 
 /// How many statements a thread's segments have together, a wait counting 1.
 pub fn segments_size(split: &Split) -> u64

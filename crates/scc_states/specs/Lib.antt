@@ -4,3 +4,8 @@ pub mod Counting
 pub mod Live
 pub mod Paths
 pub mod Told
+pub mod Resets
+pub mod Splits
+pub mod Measured
+pub mod Bodies
+pub mod Summed

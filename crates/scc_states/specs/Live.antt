@@ -9,9 +9,9 @@ use Rattle.scc_core.specs.declared.program.Core.{Core}
 use Rattle.scc_core.specs.declared.program.CoreProcess.{CoreProcess}
 use Rattle.scc_core.specs.declared.program.Sort2.{Sort2}
 use Rattle.scc_core.specs.declared.program.Sort2.TheVariants as sort
-use Rattle.scc_states.specs.declared.types.SegStmt.{SegStmt, fold-SegStmt}
-use Rattle.scc_states.specs.declared.types.SegNode.TheOpen.{SegNode-F}
-use Rattle.scc_states.specs.declared.types.SegNode.TheOpen as segment
+use Rattle.scc_states_cut.specs.declared.types.SegStmt.{SegStmt, fold-SegStmt}
+use Rattle.scc_states_cut.specs.declared.types.SegNode.TheOpen.{SegNode-F}
+use Rattle.scc_states_cut.specs.declared.types.SegNode.TheOpen as segment
 use Rattle.scc_states.specs.declared.types.Split.{Split}
 use Rattle.scc_states.specs.Elements.{total, expr_elements, left_elements}
 

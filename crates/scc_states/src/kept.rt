@@ -1,5 +1,4 @@
 //! Which cells live across a wait: some segment may read them before it writes them whole.
-use crate::types::{SegNode, SegStmt, Split};
 use indexmap::IndexMap;
 use scc_base::{List, NoMemory, lost, push};
 use scc_core::{
@@ -7,11 +6,12 @@ use scc_core::{
     LEVELS, deeper, spine,
 };
 use scc_core_flow::{CellSet, Mark, marked};
+use scc_states_cut::{CutBody, SegNode, SegStmt};
 use std::alloc::Global;
 
-/// A process's own cells: its locals and the variables that it writes.
+// A process's own cells: its locals and the variables that it writes.
 #[derive(Drop)]
-pub struct Own<'a> {
+struct Own<'a> {
     known: Known<'a>,
     /// The slot of each of them by its number.
     slots: IndexMap<u32, u32>,
@@ -25,9 +25,9 @@ impl Own<'_> {
     }
 }
 
-/// The own cells of the process of that number; `live` is its live part. Those that it doesn't name are left out, so that
-/// the cost goes with the process and not with the design.
-pub fn own_cells<'a>(
+// The own cells of the process of that number; `live` is its live part. Those that it doesn't name are left out, so that
+// the cost goes with the process and not with the design.
+fn own_cells<'a>(
     alloc: Global,
     known: Known<'a>,
     process: u32,
@@ -79,10 +79,21 @@ fn note_mark(
     Ok(())
 }
 
-/// The own cells that live across a wait, ascending.
-pub fn kept_of(alloc: Global, own: &Own<'_>, split: &Split) -> Result<List<u32>, NoMemory> {
-    let mut all = segment(split.reset.as_slice(), alloc, own)?;
-    for list in split.segments.as_slice() {
+/// The cells of the thread of that number that live across a wait, ascending; `live` is its live part, and it is cut so.
+pub fn kept_of(
+    alloc: Global,
+    known: Known<'_>,
+    process: u32,
+    live: &[CoreStmt],
+    cut: &CutBody,
+) -> Result<List<u32>, NoMemory> {
+    let own = own_cells(alloc, known, process, live)?;
+    kept_among(alloc, &own, cut)
+}
+
+fn kept_among(alloc: Global, own: &Own<'_>, cut: &CutBody) -> Result<List<u32>, NoMemory> {
+    let mut all = segment(cut.reset.as_slice(), alloc, own)?;
+    for list in cut.segments.as_slice() {
         all.join(&segment(list.as_slice(), alloc, own)?);
     }
     let mut kept = List::new(alloc);

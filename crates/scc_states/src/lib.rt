@@ -6,16 +6,16 @@
 
 mod elements;
 mod kept;
-mod measure;
-mod outline;
-mod over;
-mod points;
+mod laws;
 mod reset;
-mod segment;
 mod sum;
 mod thread;
 mod types;
 
+pub use laws::{
+    elements_are_those_of_patterns, elements_of_a_core_are_those_of_its_program,
+    elements_of_statements_are_those_of_code,
+};
 pub use sum::{index_sum, index_sum_known};
 pub use thread::{split, split_known};
-pub use types::{SegNode, SegStmt, Split};
+pub use types::Split;

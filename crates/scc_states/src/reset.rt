@@ -1,161 +1,132 @@
 //! What an asynchronous reset may do: along the one path of the reset segment each assignment gives a whole cell a static value.
-ghost use Rattle.std.specs.Prelude.{IfErr};
+ghost use Rattle.std.specs.Prelude.{◌≡◌, [], ◌∷◌, IfErr, IfOk, Some, not, is_some};
+ghost use Rattle.scc_core.specs.Known.{facts_in};
+ghost use Rattle.scc_core.specs.Statics.{value_in};
+ghost use Rattle.scc_core_flow.specs.Live.{Decides, DecidesAll};
+ghost use Rattle.scc_core_spec.specs.First.{when};
+ghost use Rattle.scc_core_spec.specs.Split.{along, first_along, unloaded};
+ghost use Rattle.scc_core_spec.specs.Static.{Cells, goes};
+ghost use Rattle.scc_core_view.specs.Codes.{code_of};
+ghost use Rattle.scc_core_view.specs.Terms.{term_of};
 ghost use Rattle.scc_states.specs.Refusals.{MayStop};
+ghost use Rattle.scc_states.specs.Resets.{IsAlong, IsLoaded, LoadsAll, all_in, fills, is_zero, loads_in, once_way, pick_all, shut_way};
 
-use crate::outline::Outline;
-use scc_base::{Code, NoMemory, Stop, lost, push};
-use scc_core::{CoreExpr, CoreLeft, CoreNode, CoreStmt, Known};
+use scc_base::{Code, NoMemory, Place, Stop, lost};
+use scc_bits::{Kind, Value, width};
+use scc_core::{CoreExpr, CoreLeft, CoreNode, CorePick, CoreStmt, Known, Named};
+use scc_states_segments::opens;
 use std::alloc::Global;
 
-/// A list of statements, and how far it was walked.
+/// How a path goes on behind some statements.
 #[derive(Clone, Copy)]
-struct Turn<'a> {
-    body: &'a [CoreStmt],
-    lines: &'a [Outline],
-    at: usize,
-    sort: Sort,
-}
-
-#[derive(Clone, Copy, PartialEq, Eq)]
-enum Sort {
-    List,
-    Block,
-    Loop,
+enum Way {
+    On,
+    /// At a wait.
+    Ended,
+    /// It leaves the n-th block around, counted outward from 0.
+    Out(u32),
 }
 
 /// Refuses the first statement of the reset segment, taken from the whole body, that doesn't give a whole cell a static value.
-pub fn check_reset(
-    alloc: Global,
-    known: Known<'_>,
-    body: &[CoreStmt],
-    lines: &[Outline],
-) -> Result<(), Stop>
+pub fn check_reset(alloc: Global, known: Known<'_>, body: &[CoreStmt]) -> Result<(), Stop>
     ensures stop { IfErr result MayStop }
+    ensures first { (cs : Cells) → DecidesAll known.entry cs body.now → LoadsAll known.entry cs body.now → IsLoaded (first_along (along cs (code_of body.now))) result }
 {
-    let mut turns = Vec::new(alloc);
-    let first = Turn {
-        body,
-        lines,
-        at: 0,
-        sort: Sort::List,
-    };
-    push(&mut turns, first)?;
-    for _ in 0..usize::MAX {
-        let Some(turn) = turns.pop() else {
-            return Ok(());
-        };
-        if !next(alloc, known, turn, &mut turns)? {
-            return Ok(());
-        }
-    }
-    Err(Stop::from(lost()))
+    let _way = along(body, alloc, known)?;
+    Ok(())
 }
 
-// Takes one statement; false at a wait.
-fn next<'a>(
-    alloc: Global,
-    known: Known<'_>,
-    turn: Turn<'a>,
-    turns: &mut Vec<Turn<'a>>,
-) -> Result<bool, Stop>
+#[cycle(reset_along)]
+fn along(body: &[CoreStmt], alloc: Global, known: Known<'_>) -> Result<Way, Stop>
     ensures stop { IfErr result MayStop }
+    ensures along { (cs : Cells) → DecidesAll known.entry cs body.now → LoadsAll known.entry cs body.now → IsAlong (along cs (code_of body.now)) result }
 {
-    let (Some(s), Some(line)) = (turn.body.get(turn.at), turn.lines.get(turn.at)) else {
-        if turn.sort == Sort::Loop && !turn.body.is_empty() {
-            push(turns, Turn { at: 0, ..turn })?;
+    for s in body {
+        match along_one(s, alloc, known)? {
+            Way::On => {}
+            Way::Ended => return Ok(Way::Ended),
+            Way::Out(n) => return Ok(Way::Out(n)),
         }
-        return Ok(true);
-    };
-    let rest = Turn {
-        body: turn.body,
-        lines: turn.lines,
-        at: turn.at + 1,
-        sort: turn.sort,
-    };
-    push(turns, rest)?;
-    if line.is_plain() {
+    }
+    Ok(Way::On)
+}
+
+#[cycle(reset_along)]
+fn along_one(s: &CoreStmt, alloc: Global, known: Known<'_>) -> Result<Way, Stop>
+    ensures stop { IfErr result MayStop }
+    ensures along { (cs : Cells) → DecidesAll known.entry cs (s.now ∷ []) → LoadsAll known.entry cs (s.now ∷ []) → IsAlong (along cs (code_of (s.now ∷ []))) result }
+{
+    if !opens(s) {
         inside(s, alloc, known)?;
-        return Ok(true);
+        return Ok(Way::On);
     }
     match &s.node {
-        CoreNode::Wait { .. } => return Ok(false),
+        CoreNode::Wait { .. } => Ok(Way::Ended),
+        CoreNode::Exit(n) => Ok(Way::Out(*n)),
         CoreNode::If { test, yes, no } => match known.goes(test) {
-            None => return Err(Stop::refused(Code::ResetValue, s.place)),
-            Some(true) => enter(yes.as_slice(), line.inner.as_slice(), Sort::List, turns)?,
-            Some(false) => enter(no.as_slice(), line.other.as_slice(), Sort::List, turns)?,
+            None => Err(Stop::refused(Code::ResetValue, s.place)),
+            Some(true) => along(yes.as_slice(), alloc, known),
+            Some(false) => along(no.as_slice(), alloc, known),
         },
-        CoreNode::Block(body) => enter(body.as_slice(), line.inner.as_slice(), Sort::Block, turns)?,
+        CoreNode::Block(body) => {
+            let way = along(body.as_slice(), alloc, known)?;
+            Ok(shut(way))
+        }
         CoreNode::Loop { body, .. } => {
-            enter(body.as_slice(), line.inner.as_slice(), Sort::Loop, turns)?;
+            let way = along(body.as_slice(), alloc, known)?;
+            Ok(once(way))
         }
-        CoreNode::Exit(n) => leave(*n, turns)?,
-        CoreNode::Assign { .. } | CoreNode::Alias { .. } => return Err(Stop::from(lost())),
+        CoreNode::Assign { .. } | CoreNode::Alias { .. } => Err(Stop::from(lost())),
     }
-    Ok(true)
 }
 
-fn enter<'a>(
-    body: &'a [CoreStmt],
-    lines: &'a [Outline],
-    sort: Sort,
-    turns: &mut Vec<Turn<'a>>,
-) -> Result<(), NoMemory> {
-    push(
-        turns,
-        Turn {
-            body,
-            lines,
-            at: 0,
-            sort,
-        },
-    )
+// Behind a block.
+fn shut(way: Way) -> Way
+    ensures { result ≡ shut_way way }
+{
+    match way {
+        Way::On => Way::On,
+        Way::Ended => Way::Ended,
+        Way::Out(n) => { if n == 0 { Way::On } else { Way::Out(n - 1) } }
+    }
 }
 
-// Leaves the n-th open block, counted outward from 0.
-fn leave(n: u32, turns: &mut Vec<Turn<'_>>) -> Result<(), NoMemory> {
-    let mut more = n;
-    for _ in 0..usize::MAX {
-        let Some(turn) = turns.pop() else {
-            return Err(lost());
-        };
-        if turn.sort == Sort::Block {
-            if more == 0 {
-                return Ok(());
-            }
-            more -= 1;
-        }
+// Behind a loop, through whose body a path comes to a wait.
+fn once(way: Way) -> Way
+    ensures { result ≡ once_way way }
+{
+    match way {
+        Way::On => Way::Ended,
+        Way::Ended => Way::Ended,
+        Way::Out(n) => Way::Out(n),
     }
-    Err(lost())
 }
 
 // A statement without a wait, with all that stands in it.
 #[cycle(reset_inside)]
 fn inside(s: &CoreStmt, alloc: Global, known: Known<'_>) -> Result<(), Stop>
     ensures stop { IfErr result MayStop }
+    ensures first { (cs : Cells) → DecidesAll known.entry cs (s.now ∷ []) → LoadsAll known.entry cs (s.now ∷ []) → IsLoaded (unloaded cs (code_of (s.now ∷ []))) result }
 {
     match &s.node {
-        CoreNode::Assign { left, value } => {
-            if gives_static(alloc, known, left, value)? {
-                Ok(())
-            } else {
-                Err(Stop::refused(Code::ResetValue, s.place))
-            }
-        }
+        CoreNode::Assign { left, value } => assigned(s.place, left, value, alloc, known),
         CoreNode::If { test, yes, no } => {
-            if known.goes(test).is_none() {
-                return Err(Stop::refused(Code::ResetValue, s.place));
-            }
+            tested(s.place, test, known)?;
             each(yes.as_slice(), alloc, known)?;
             each(no.as_slice(), alloc, known)
         }
-        CoreNode::Block(body) | CoreNode::Loop { body, .. } => each(body.as_slice(), alloc, known),
-        CoreNode::Exit(_) | CoreNode::Wait { .. } | CoreNode::Alias { .. } => Ok(()),
+        CoreNode::Block(body) => each(body.as_slice(), alloc, known),
+        CoreNode::Loop { body, .. } => each(body.as_slice(), alloc, known),
+        CoreNode::Exit(_) => Ok(()),
+        CoreNode::Wait { .. } => Ok(()),
+        CoreNode::Alias { .. } => Ok(()),
     }
 }
 
 #[cycle(reset_inside)]
 fn each(body: &[CoreStmt], alloc: Global, known: Known<'_>) -> Result<(), Stop>
     ensures stop { IfErr result MayStop }
+    ensures first { (cs : Cells) → DecidesAll known.entry cs body.now → LoadsAll known.entry cs body.now → IsLoaded (unloaded cs (code_of body.now)) result }
 {
     for s in body {
         inside(s, alloc, known)?;
@@ -163,19 +134,92 @@ fn each(body: &[CoreStmt], alloc: Global, known: Known<'_>) -> Result<(), Stop>
     Ok(())
 }
 
+fn assigned(
+    place: Place,
+    left: &CoreLeft,
+    value: &CoreExpr,
+    alloc: Global,
+    known: Known<'_>,
+) -> Result<(), Stop>
+    ensures stop { IfErr result MayStop }
+    ensures first { IsLoaded (when (not (loads_in known.entry left.now value.now)) place) result }
+{
+    if gives_static(alloc, known, left, value)? {
+        Ok(())
+    } else {
+        Err(Stop::refused(Code::ResetValue, place))
+    }
+}
+
+fn tested(place: Place, test: &CoreExpr, known: Known<'_>) -> Result<(), Stop>
+    ensures stop { IfErr result MayStop }
+    ensures first { (cs : Cells) → Decides known.entry cs test.now → IsLoaded (when (not (is_some (goes cs (term_of test.now)))) place) result }
+{
+    match known.goes(test) {
+        Some(_) => Ok(()),
+        None => Err(Stop::refused(Code::ResetValue, place)),
+    }
+}
+
 // Whether an assignment gives one whole cell a static value.
+#[tactic(auto, unfolding(crate::specs::Resets::loads_in))]
 fn gives_static(
     alloc: Global,
     known: Known<'_>,
     left: &CoreLeft,
     value: &CoreExpr,
-) -> Result<bool, NoMemory> {
-    let Some(named) = known.named(alloc, left)? else {
-        return Ok(false);
-    };
-    let Some(cell) = known.cells().get(named.base as usize) else {
-        return Err(lost());
-    };
-    let is_whole = named.is_single() && known.is_whole(left.pick.as_ref(), cell.kind);
-    Ok(is_whole && known.value(value).is_some())
+) -> Result<bool, NoMemory>
+    ensures { IfOk result (λ b. b ≡ loads_in known.entry left.now value.now) }
+{
+    match known.named(alloc, left)? {
+        Some(named) => {
+            let fills = is_filled(&named, left, known)?;
+            Ok(fills && is_static(value, known))
+        }
+        None => Ok(false),
+    }
+}
+
+fn is_static(value: &CoreExpr, known: Known<'_>) -> bool
+    ensures { result ≡ is_some (value_in (facts_in known.entry) value.now) }
+{
+    known.value(value).is_some()
+}
+
+// Whether what is named is one cell, and all of it is taken.
+fn is_filled(named: &Named, left: &CoreLeft, known: Known<'_>) -> Result<bool, NoMemory>
+    ensures { IfOk result (λ b. b ≡ fills known.entry left.now (Some named.now)) }
+{
+    match known.cells().get(named.base as usize) {
+        Some(cell) => Ok(named.is_single() && is_all(left, cell.kind, known)),
+        None => Err(lost()),
+    }
+}
+
+fn is_all(left: &CoreLeft, kind: Kind, known: Known<'_>) -> bool
+    ensures { result ≡ all_in known.entry left.now.pick kind }
+{
+    match &left.pick {
+        Some(pick) => is_all_of(pick, kind, known),
+        None => true,
+    }
+}
+
+#[tactic(auto, unfolding(crate::specs::Resets::pick_all))]
+fn is_all_of(pick: &CorePick, kind: Kind, known: Known<'_>) -> bool
+    ensures { result ≡ pick_all known.entry pick.now kind }
+{
+    match pick {
+        CorePick::Bit { at, .. } => width(kind) == 1 && is_zero(known.value(at)),
+        CorePick::Range { h, l, .. } => *l == 0 && h.saturating_add(1) == width(kind),
+    }
+}
+
+fn is_zero(value: Option<Value>) -> bool
+    ensures { result ≡ is_zero value }
+{
+    match value {
+        Some(value) => !value.is_true(),
+        None => false,
+    }
 }

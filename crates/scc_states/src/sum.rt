@@ -20,11 +20,15 @@ ghost use Rattle.scc_states.specs.Live.{
   most_deep,
 };
 ghost use Rattle.scc_states.specs.Paths.{Lives};
+ghost use Rattle.scc_states.specs.Summed.{HasSplits};
+ghost use Rattle.scc_core_spec.specs.Sizes.{index_sum};
+ghost use Rattle.scc_core_view.specs.Programs.{cells_of, program_of};
 
 use crate::elements::{number_of, of_expr, of_left, plus};
-use crate::types::{SegNode, SegStmt, Split};
+use crate::types::Split;
 use scc_base::List;
 use scc_core::{Core, CoreExpr, CoreLeft, CoreNode, CoreProcess, CoreStmt, Known, Sort2};
+use scc_states_cut::{SegNode, SegStmt};
 
 /// So deep blocks may nest in a method: more than statements do.
 const DEEPEST: usize = 1088;
@@ -42,6 +46,8 @@ pub fn index_sum_known(known: Known<'_>, c: &Core, s: &[Split]) -> u64
     ensures known { processes_deep c.now.processes ≤ most_deep → result ≡ cut (elements_of (numbers_in known.entry) c.now s.now) }
     ensures alone { IsAlone known.entry → processes_deep c.now.processes ≤ most_deep →
         result ≡ cut (elements_of (static_of known.entry.cells.now) c.now s.now) }
+    ensures program { HasSplits (cells_of c.now) (numbers_in known.entry) c.now.processes s.now → processes_deep c.now.processes ≤ most_deep →
+        result ≡ cut (index_sum (program_of c.now)) }
 {
     all(known, c, s)
 }

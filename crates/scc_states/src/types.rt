@@ -1,6 +1,6 @@
 //! The segments of a thread.
-use scc_base::{List, Place};
-use scc_core::{CoreExpr, CoreStmt};
+use scc_base::List;
+use scc_states_cut::SegStmt;
 
 /// What a thread does from each point at which it waits to the next.
 #[derive(Drop)]
@@ -13,26 +13,4 @@ pub struct Split {
     pub segments: List<List<SegStmt>>,
     /// The cells of variables and locals that live across a wait, ascending.
     pub kept: List<u32>,
-}
-
-/// A statement of a segment.
-#[cycle(segment)]
-#[derive(Drop)]
-pub struct SegStmt {
-    pub place: Place,
-    pub node: SegNode,
-}
-
-#[cycle(segment)]
-#[derive(Drop)]
-pub enum SegNode {
-    /// A statement without a wait, which leaves no block that holds one.
-    Plain(CoreStmt),
-    If {
-        test: CoreExpr,
-        yes: List<SegStmt>,
-        no: List<SegStmt>,
-    },
-    /// The segment ends at the wait of that number.
-    Wait(u32),
 }

@@ -1,3 +1,4 @@
 pub mod Statements
 pub mod Counting
 pub mod Behind
+pub mod Refusing

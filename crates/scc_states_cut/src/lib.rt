@@ -6,10 +6,12 @@
 //! limits is built. Blocks, loops and exits are frames alone, so a body is gone over once, and then each segment.
 #![tactic(auto)]
 
+mod body;
 mod cuts;
 mod types;
 mod unfold;
 
+pub use body::{CutBody, cut_body};
 pub use cuts::cuts as segments_behind;
 pub use types::{SegNode, SegStmt};
 pub use unfold::unfolded;

@@ -155,8 +155,8 @@ fn halt(
     }
 }
 
-// Refuses a statement past a limit.
-fn within(count: &Count) -> Result<(), Stop>
+/// Refuses a statement past a limit.
+pub fn within(count: &Count) -> Result<(), Stop>
     ensures { IsWithin count.now result }
 {
     match count.past() {

@@ -4,15 +4,15 @@ use Rattle.std.specs.Prelude.{unwrap_or}
 use Rattle.scc_base.specs.declared.refusal.Place.{Place}
 use Rattle.scc_core.specs.declared.stmt.CoreStmt.{CoreStmt}
 use Rattle.scc_core.specs.declared.expr.CoreExpr.{CoreExpr}
-use Rattle.scc_states.specs.declared.types.SegStmt.{SegStmt, fold-roll-SegStmt}
-use Rattle.scc_states.specs.declared.types.SegNode.{SegNode, roll-SegNode, fold-roll-SegNode}
-use Rattle.scc_states.specs.declared.types.SegNode.TheVariants as variant
-use Rattle.scc_states.specs.declared.types.SegNode.TheOpen as node
+use Rattle.scc_states_cut.specs.declared.types.SegStmt.{SegStmt, fold-roll-SegStmt}
+use Rattle.scc_states_cut.specs.declared.types.SegNode.{SegNode, roll-SegNode, fold-roll-SegNode}
+use Rattle.scc_states_cut.specs.declared.types.SegNode.TheVariants as variant
+use Rattle.scc_states_cut.specs.declared.types.SegNode.TheOpen as node
 use denote.Hole.Carrier.{roll}
 use Rattle.scc_core_spec.specs.Segments.{Segment, Plain, Test, Halt}
 use Rattle.scc_core_view.specs.Codes.{code_of}
 use Rattle.scc_core_view.specs.Terms.{term_of}
-use Rattle.scc_states_view.specs.Segments.{Node, before, segment_node, segment_step, stmt_segment}
+use Rattle.scc_states_cut.specs.Cut.{Node, before, segment_node, segment_step, stmt_segment}
 
 abbrev Behind : Type 0
 Behind = Segment → Segment

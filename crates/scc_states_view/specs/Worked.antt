@@ -1,7 +1,7 @@
 -- A thread that only waits, worked by hand: `wait(); while (true) wait(2);`. Its split has no statement but waits. This project's own.
 use Rattle.std.specs.Prelude.{ℕ, true, [], ◌∷◌}
-use Rattle.scc_states.specs.declared.types.SegStmt.{SegStmt}
-use Rattle.scc_states.specs.declared.types.SegNode.TheVariants as node
+use Rattle.scc_states_cut.specs.declared.types.SegStmt.{SegStmt}
+use Rattle.scc_states_cut.specs.declared.types.SegNode.TheVariants as node
 use Rattle.scc_states.specs.declared.types.Split.{Split}
 use Rattle.scc_core_spec.specs.Code.{Code, End, Block, Wait}
 use Rattle.scc_core_spec.specs.Program.{Program}

@@ -5,15 +5,21 @@ ghost use Rattle.scc_base.specs.declared.refusal.Refusal.{Refusal};
 ghost use Rattle.scc_base.specs.declared.refusal.Stop.TheVariants as stop;
 ghost use Rattle.scc_core.specs.declared.stmt.CoreStmt.{CoreStmt};
 ghost use Rattle.scc_core.specs.declared.expr.CoreExpr.{CoreExpr};
-ghost use Rattle.scc_states.specs.declared.types.SegStmt.{SegStmt};
-ghost use Rattle.scc_states.specs.declared.types.SegNode.TheVariants as node;
+ghost use Rattle.scc_states_cut.specs.declared.types.SegStmt.{SegStmt};
+ghost use Rattle.scc_states_cut.specs.declared.types.SegNode.TheVariants as node;
+ghost use Rattle.scc_core.specs.declared.program.Core.{Core};
+ghost use Rattle.scc_core.specs.declared.program.CoreProcess.{CoreProcess};
+ghost use Rattle.scc_states.specs.declared.types.Split.{Split};
+ghost use Rattle.scc_states.specs.Splits.{IsParted};
+ghost use Rattle.scc_core_spec.specs.Kept.{kept};
+ghost use Rattle.scc_core_view.specs.Programs.{cells_of, process_of, program_of};
 ghost use Rattle.scc_core_spec.specs.Resolved.{Made, Stopped};
 ghost use Rattle.scc_core_spec.specs.Segments.{Segment, Plain, Test, Halt};
 ghost use Rattle.scc_core_view.specs.Codes.{code_of};
 ghost use Rattle.scc_core_view.specs.Terms.{term_of};
 ghost use Rattle.scc_states_view.specs.Answers.{Answers, said_by, unless};
 ghost use Rattle.scc_states_view.specs.IsSplit.{IsSplit};
-ghost use Rattle.scc_states_view.specs.Segments.{before, stmt_segment};
+ghost use Rattle.scc_states_cut.specs.Cut.{before, stmt_segment};
 ghost use Rattle.scc_states_view.specs.Worked.{waiting, waiting_split};
 
 /// A statement of a segment stands before what follows it, a test with that behind each branch; a wait ends the segment.
@@ -30,6 +36,12 @@ pub fn statements_are_segments()
 /// A thread that waits for one edge, and then for two, again and again.
 pub fn a_waiting_thread_is_split()
     ensures { IsSplit waiting 0 waiting_split }
+{}
+
+/// What is said of a thread that is cut, and that its kept cells are the definition's, makes a split of it.
+pub fn a_parted_thread_is_split()
+    ensures { (c : Core) (i : ℕ) (p : CoreProcess) (s : Split) → slice_get c.processes i ≡ Some p → IsParted (program_of c) (process_of p) s
+        → s.kept ≡ kept (cells_of c) i (process_of p) → IsSplit (program_of c) i s }
 {}
 
 /// What is given is the definition's, what is refused is refused by it, and want of memory tells nothing.

@@ -3,4 +3,7 @@
 
 mod laws;
 
-pub use laws::{a_call_answers_its_definition, a_waiting_thread_is_split, statements_are_segments};
+pub use laws::{
+    a_call_answers_its_definition, a_parted_thread_is_split, a_waiting_thread_is_split,
+    statements_are_segments,
+};

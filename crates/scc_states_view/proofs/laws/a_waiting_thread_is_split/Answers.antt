@@ -3,7 +3,7 @@ use Rattle.std.proofs.Common.{refl, ap, ◌∙◌}
 use Rattle.scc_core_spec.specs.Segments.{Segment, Halt, Finish}
 use Rattle.scc_core_spec.specs.Worked.{here, process}
 use Rattle.scc_blocks_spec.specs.Passed.{Thread}
-use Rattle.scc_states_view.specs.Segments.{stmt_segment}
+use Rattle.scc_states_cut.specs.Cut.{stmt_segment}
 use Rattle.scc_states_view.specs.Worked.{waiting_body, waits_at}
 use Rattle.scc_states_view.proofs.Statements.{wait_stands}
 use Rattle.scc_states_view.proofs.laws.a_waiting_thread_is_split.Goals as goal

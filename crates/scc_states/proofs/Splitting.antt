@@ -1,0 +1,105 @@
+-- What is answered of a thread from what is answered of its cut and of its reset.
+use Rattle.std.proofs.Common.{◌≡◌, List, [], ◌∷◌, ℕ, Bool, true, false, if◌then◌else◌, drop, Option, Some, None, refl, sym, ap, subst, ◌∙◌}
+use Rattle.std.specs.Prelude.{option_map, Result, Ok, Err}
+use Rattle.scc_base.specs.declared.refusal.Place.{Place}
+use Rattle.scc_base.specs.declared.refusal.Refusal.{Refusal}
+use Rattle.scc_base.specs.declared.refusal.Stop.{Stop}
+use Rattle.scc_base.specs.declared.refusal.Stop.TheVariants as stop
+use Rattle.scc_base.specs.declared.code.Code.{Code as Reason}
+use Rattle.scc_base.specs.declared.code.Code.TheVariants as reason
+use Rattle.scc_core_spec.specs.Code.{Code, numbered}
+use Rattle.scc_core_spec.specs.First.{or_else, first_of, refused}
+use Rattle.scc_core_spec.specs.Program.{Process, Program}
+use Rattle.scc_core_spec.specs.Rules.{waits}
+use Rattle.scc_core_spec.specs.Segments as part
+use Rattle.scc_core_spec.specs.Segments.{all_segments}
+use Rattle.scc_core_spec.specs.Live.{live}
+use Rattle.scc_core_spec.specs.Split.{first_split, most_waits, too_many_states, segments_too_large, reset_value}
+use Rattle.scc_states_cut.specs.declared.body.CutBody.{CutBody}
+use Rattle.scc_states_cut.specs.Limits.{IsCutOf, Stops, first_cut, too_many, too_large}
+use Rattle.scc_states.specs.Refusals.{MayStop, is_refusal}
+use Rattle.scc_states.specs.Resets.{IsLoaded}
+use Rattle.scc_states.specs.Splits.{IsParted, Refuses, with_kept}
+
+-- ---- by which codes
+
+abbrev from_some : {A : Type 0} → A → Option A → A
+from_some d None = d
+from_some d (Some x) = x
+
+pub some_same : {A : Type 0} (a b : A) → Some a ≡ Some b → a ≡ b
+some_same a b h = ap (from_some a) h
+
+placed_code : (k : Reason) (o : Option Place) (r : Refusal) → is_refusal k ≡ true → option_map (refused k) o ≡ Some r → is_refusal r.code ≡ true
+placed_code k None r is h = absurd cc
+placed_code k (Some p) r is h = ap (λ x. is_refusal x.code) (sym (some_same (refused k p) r h)) ∙ is
+
+first_code : (ps : List Place) (r : Refusal) → first_of (λ at. Some (refused reason.TooManyStates at)) ps ≡ Some r → is_refusal r.code ≡ true
+first_code [] r h = absurd cc
+first_code (p ∷ ps) r h = ap (λ x. is_refusal x.code) (sym (some_same (refused reason.TooManyStates p) r h))
+
+or_code : (o p : Option Refusal) (r : Refusal) → (o ≡ Some r → is_refusal r.code ≡ true) → (p ≡ Some r → is_refusal r.code ≡ true) → or_else o p ≡ Some r → is_refusal r.code ≡ true
+or_code None p r f g h = g h
+or_code (Some a) p r f g h = f h
+
+pub cut_code : (c : Code) (e : Stop) → Stops (first_cut c) e → MayStop e
+cut_code c (stop.Refused r) h =
+    or_code (too_many (waits c)) (too_large (all_segments (numbered 0 c))) r (first_code (drop most_waits (waits c)) r) (placed_code reason.SegmentsTooLarge _ r refl) h
+cut_code c stop.NoMemory h = tt
+
+-- ---- one behind another
+
+none_three : (a b r : Option Refusal) → or_else a b ≡ None → r ≡ None → or_else a (or_else b (or_else r None)) ≡ None
+none_three None None r h k = ap (λ o. or_else o None) k
+none_three None (Some b) r h k = absurd cc
+none_three (Some a) b r h k = absurd cc
+
+stops_two : (a b r : Option Refusal) (e : Stop) → Stops (or_else a b) e → Stops (or_else a (or_else b (or_else r None))) e
+stops_two a b r stop.NoMemory h = tt
+stops_two None None r (stop.Refused x) h = absurd cc
+stops_two None (Some b) r (stop.Refused x) h = h
+stops_two (Some a) b r (stop.Refused x) h = h
+
+none_last : (r : Option Refusal) (x : Refusal) → r ≡ Some x → or_else r None ≡ Some x
+none_last r x h = ap (λ o. or_else o None) h
+
+stops_third : (a b r : Option Refusal) (e : Stop) → or_else a b ≡ None → Stops r e → Stops (or_else a (or_else b (or_else r None))) e
+stops_third a b r stop.NoMemory h k = tt
+stops_third None None r (stop.Refused x) h k = none_last r x k
+stops_third None (Some b) r (stop.Refused x) h k = absurd cc
+stops_third (Some a) b r (stop.Refused x) h k = absurd cc
+
+module _ (p : Program) (q : Process) (c : Code) (is_thread : q.is_thread ≡ true) (is_live : c ≡ live p.cells q.body) where
+  abbrev all_three : Option Refusal
+  all_three = or_else (too_many_states p.cells q) (or_else (segments_too_large p.cells q) (or_else (reset_value p.cells q) None))
+
+  of_thread : first_split p q ≡ all_three
+  of_thread = ap (λ b. if b then all_three else None) is_thread
+
+  fits : (b : CutBody) → IsCutOf c b → or_else (too_many_states p.cells q) (segments_too_large p.cells q) ≡ None
+  fits b is = subst (λ d. first_cut d ≡ None) is_live is.fits
+
+  pub is_parted : (b : CutBody) (kept : List ℕ) → IsCutOf c b → reset_value p.cells q ≡ None → IsParted p q (with_kept b kept)
+  is_parted b kept is none = record {
+    waits = is.counts ∙ ap (λ d. part.counts (numbered 0 d)) is_live;
+    segments = is.segments ∙ ap (λ d. all_segments (numbered 0 d)) is_live;
+    fits = of_thread ∙ none_three (too_many_states p.cells q) (segments_too_large p.cells q) (reset_value p.cells q) (fits b is) none;
+  }
+
+  pub cut_stops : (e : Stop) → Stops (first_cut c) e → Stops (first_split p q) e
+  cut_stops e h =
+      subst (λ o. Stops o e) (sym of_thread) (stops_two (too_many_states p.cells q) (segments_too_large p.cells q) (reset_value p.cells q) e (subst (λ d. Stops (first_cut d) e) is_live h))
+
+  pub reset_stops : (b : CutBody) (e : Stop) → IsCutOf c b → Stops (reset_value p.cells q) e → Stops (first_split p q) e
+  reset_stops b e is h = subst (λ o. Stops o e) (sym of_thread) (stops_third (too_many_states p.cells q) (segments_too_large p.cells q) (reset_value p.cells q) e (fits b is) h)
+
+pub refuses_loaded : (o : Option Place) (r : Result Unit Stop) → IsLoaded o r → Refuses (option_map (refused reason.ResetValue) o) r
+refuses_loaded o (Ok u) h = ap (option_map (refused reason.ResetValue)) h
+refuses_loaded o (Err e) h = h
+
+-- the reset is looked at where it is asynchronous
+pub asked_reset : (o : Option Refusal) (b : Bool) (r : Result Unit Stop) → b ≡ true → Refuses o r → Refuses (if b then o else None) r
+asked_reset o b r is h = subst (λ x. Refuses (if x then o else None) r) (sym is) h
+
+pub not_asked : (o : Option Refusal) (b : Bool) → b ≡ false → (if b then o else None) ≡ None
+not_asked o b is = ap (λ x. if x then o else None) is

@@ -1,4 +1,0 @@
-use Rattle.scc_states.proofs.over.+counted_points.Given as goal
-
-abbrev pub decreases-counted : goal.decreases-counted
-decreases-counted l = l.levels

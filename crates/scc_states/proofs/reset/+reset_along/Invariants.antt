@@ -1,0 +1,10 @@
+use Rattle.std.proofs.Common.{◌≡◌, drop}
+use Rattle.scc_core_flow.specs.Live.{DecidesAll}
+use Rattle.scc_core_spec.specs.Split.{along}
+use Rattle.scc_core_spec.specs.Static.{Cells}
+use Rattle.scc_core_view.specs.Codes.{code_of}
+use Rattle.scc_states.specs.Resets.{LoadsAll}
+use Rattle.scc_states.proofs.reset.+reset_along.Given as goal
+
+abbrev pub invariant-along-loop-s : goal.invariant-along-loop-s
+invariant-along-loop-s l = (cs : Cells) → DecidesAll l.known cs l.body → LoadsAll l.known cs l.body → along cs (code_of (drop l.s-index l.body)) ≡ along cs (code_of l.body)

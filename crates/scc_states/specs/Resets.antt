@@ -1,0 +1,127 @@
+-- What an asynchronous reset loads, by what is known of cells. This project's own.
+use Rattle.std.specs.Prelude.{◌≡◌, ℕ, suc, zero, ◌+◌, ◌&&◌, min, Bool, true, false, nat_eq, List, [], ◌∷◌, ◌++◌, map, length, Option, Some, None, option_map, is_some, slice_get, Result, Ok, Err}
+use Rattle.scc_base.specs.declared.refusal.Place.{Place}
+use Rattle.scc_base.specs.declared.refusal.Stop.{Stop}
+use Rattle.scc_base.specs.declared.code.Code.TheVariants as reason
+use Rattle.scc_bits.specs.Value.{Number}
+use Rattle.scc_bits_kinds.specs.declared.kind.Kind.{Kind}
+use Rattle.scc_bits_kinds.specs.Kinds.{width_of}
+use Rattle.scc_core.specs.declared.expr.CoreBase.{CoreBase}
+use Rattle.scc_core.specs.declared.expr.CoreBase.TheOpen.{CorePick-F}
+use Rattle.scc_core.specs.declared.expr.CoreBase.TheOpen as tree
+use Rattle.scc_core.specs.declared.expr.CoreExpr.{CoreExpr}
+use Rattle.scc_core.specs.declared.expr.CoreExprNode.{CoreExprNode}
+use Rattle.scc_core.specs.declared.expr.CoreLeft.{CoreLeft}
+use Rattle.scc_core.specs.declared.expr.CorePart.{CorePart}
+use Rattle.scc_core.specs.declared.expr.CorePick.{CorePick, out-CorePick}
+use Rattle.scc_core.specs.declared.named.Named.{Named}
+use Rattle.scc_core.specs.declared.program.Cell.{Cell}
+use Rattle.scc_core.specs.declared.statics.Known.{Known}
+use Rattle.scc_core.specs.declared.stmt.CoreStmt.{CoreStmt, fold-CoreStmt}
+use Rattle.scc_core.specs.declared.stmt.CoreNode.TheOpen.{CoreNode-F, CoreStmt-F}
+use Rattle.scc_core.specs.declared.stmt.CoreNode.TheOpen as node
+use Rattle.scc_core.specs.Known.{facts_in}
+use Rattle.scc_core.specs.Located.{named_in}
+use Rattle.scc_core.specs.Statics.{value_in}
+use Rattle.scc_core_flow.specs.Live.{Each}
+use Rattle.scc_core_spec.specs.First.{refused}
+use Rattle.scc_core_spec.specs.Split.{Along, Ended, On, Out, first_along, gives_static}
+use Rattle.scc_core_spec.specs.Static.{Cells}
+use Rattle.scc_core_view.specs.Terms.{taken_of, term_of}
+use Rattle.scc_states_cut.specs.Limits.{Stops}
+use Rattle.scc_states.specs.declared.reset.Way.{Way}
+use Rattle.scc_states.specs.declared.reset.Way.TheVariants as way
+
+-- ---- whether an assignment gives one whole cell a static value
+
+abbrev pub is_zero : Option Number → Bool
+is_zero None = false
+is_zero (Some v) = nat_eq v.word 0
+
+-- what is taken is all of a number of a kind
+abbrev pub all_by : Known → Kind → CorePick-F CoreBase CoreExprNode CorePart CorePick CoreExpr CoreLeft → Bool
+all_by known k (tree.Bit of at) = nat_eq (width_of k) 1 && is_zero (value_in (facts_in known) at)
+all_by known k (tree.Range of h l) = nat_eq l 0 && nat_eq (min (h + 1) 4294967295) (width_of k)
+
+unfoldable pub pick_all : Known → CorePick → Kind → Bool
+pick_all known q k = all_by known k (out-CorePick q)
+
+abbrev pub all_in : Known → Option CorePick → Kind → Bool
+all_in known None k = true
+all_in known (Some q) k = pick_all known q k
+
+abbrev pub fills_cell : Known → CoreLeft → Named → Option Cell → Bool
+fills_cell known l n None = false
+fills_cell known l n (Some c) = nat_eq (length n.dims) 0 && all_in known l.pick c.kind
+
+abbrev pub fills : Known → CoreLeft → Option Named → Bool
+fills known l None = false
+fills known l (Some n) = fills_cell known l n (slice_get known.cells.now n.base)
+
+unfoldable pub loads_in : Known → CoreLeft → CoreExpr → Bool
+loads_in known l e = fills known l (named_in known l) && is_some (value_in (facts_in known) e)
+
+-- ---- the assignments in statements
+
+abbrev pub Given : Type 0
+Given = CoreLeft × CoreExpr
+
+abbrev pub flat : {A : Type 0} → List (List A) → List A
+flat [] = []
+flat (x ∷ xs) = x ++ flat xs
+
+abbrev pub node_assigns : CoreNode-F (List Given) (List Given) → List Given
+node_assigns (node.Assign l e) = (l, e) ∷ []
+node_assigns (node.If t a b) = flat a ++ flat b
+node_assigns (node.Block b) = flat b
+node_assigns (node.Loop n b) = flat b
+node_assigns (node.Exit n) = []
+node_assigns (node.Wait n) = []
+node_assigns (node.Alias to target) = []
+
+abbrev pub assigns_step : CoreStmt-F (List Given) (List Given) → List Given
+assigns_step s = s.node
+
+abbrev pub assigns_of : CoreStmt → List Given
+assigns_of = fold-CoreStmt (List Given) (List Given) node_assigns assigns_step
+
+abbrev pub assigns_in : List CoreStmt → List Given
+assigns_in ss = flat (map assigns_of ss)
+
+-- what is known tells of an assignment what the definition does
+abbrev pub Loads : Known → Cells → Given → Type 0
+Loads known cs g = loads_in known g.0 g.1 ≡ gives_static cs (taken_of g.0).left (taken_of g.0).pick (term_of g.1)
+
+abbrev pub LoadsAll : Known → Cells → List CoreStmt → Type 0
+LoadsAll known cs ss = Each (Loads known cs) (assigns_in ss)
+
+-- ---- what a walk along the reset segment answers
+
+-- nothing is refused, or the first place is this (E514)
+abbrev pub IsLoaded : Option Place → Result Unit Stop → Type 0
+IsLoaded o (Ok u) = o ≡ None
+IsLoaded o (Err e) = Stops (option_map (refused reason.ResetValue) o) e
+
+abbrev pub ending : Way → Along
+ending way.On = On None
+ending way.Ended = Ended None
+ending (way.Out n) = Out n None
+
+abbrev pub IsAlong : Along → Result Way Stop → Type 0
+IsAlong x (Ok w) = x ≡ ending w
+IsAlong x (Err e) = Stops (option_map (refused reason.ResetValue) (first_along x)) e
+
+abbrev pub out_of : ℕ → Way
+out_of zero = way.On
+out_of (suc n) = way.Out n
+
+-- behind a block, and behind a loop
+abbrev pub shut_way : Way → Way
+shut_way way.On = way.On
+shut_way way.Ended = way.Ended
+shut_way (way.Out n) = out_of n
+
+abbrev pub once_way : Way → Way
+once_way way.On = way.Ended
+once_way way.Ended = way.Ended
+once_way (way.Out n) = way.Out n
