@@ -1,17 +1,15 @@
 -- The code of statements behind others.
-use Rattle.std.proofs.Common.{◌≡◌, ℕ, List, [], ◌∷◌, ◌++◌, map, refl, sym, ap, ◌∙◌}
+use Rattle.std.proofs.Common.{◌≡◌, List, [], ◌∷◌, ◌++◌, map, refl, sym, ap, ◌∙◌}
+use denote.Hole.Carrier.{roll}
 use Rattle.scc_svtree.specs.declared.expr.SvExpr.{SvExpr}
 use Rattle.scc_svtree.specs.declared.expr.SvLeft.{SvLeft}
-use Rattle.scc_svtree.specs.declared.expr.SvLiteral.{SvLiteral}
-use Rattle.scc_svtree.specs.declared.stmt.SvArm.{SvArm}
 use Rattle.scc_svtree.specs.declared.stmt.SvStmt.{SvStmt, roll-SvStmt, fold-roll-SvStmt}
 use Rattle.scc_svtree.specs.declared.stmt.SvStmt.TheOpen as stmt
 use Rattle.scc_svtree.specs.declared.stmt.SvStmt.TheVariants as variant
 use Rattle.scc_svtree.specs.Code.{Code, End, Assign, If, Case, Arms, before, stmt_code, code_of}
 use Rattle.scc_svtree.specs.Code as code
-use Rattle.scc_svtree.specs.Sound.{Each}
 use Rattle.scc_svtree.specs.Term.{term_of}
-use Rattle.scc_svtree.proofs.Induction.{by_stmt, arm_made}
+use Rattle.scc_svtree.proofs.Induction.{by_stmt}
 use Rattle.scc_lower_laws.specs.Sequence.{then_code}
 use Rattle.scc_lower_tree_laws.proofs.Leaving.{then-then}
 
@@ -46,11 +44,13 @@ pub code-append : (ss ts : List SvStmt) → code_of (ss ++ ts) ≡ then_code (co
 code-append ss ts = before-more ss ts End ∙ before-code ss (code_of ts)
 
 pub code-assign : (l : SvLeft) (e : SvExpr) → code_of (variant.Assign l e ∷ []) ≡ Assign l (term_of e) End
+unfolding roll-SvStmt roll
 code-assign l e =
     ap (λ s. stmt_code s End) (variant.rolls-Assign l e)
     ∙ ap (λ f. f End) (fold-roll-SvStmt (Code → Code) (Arms → Arms) code.stmt_node code.arm_node (stmt.Assign l e))
 
 pub code-if : (c : SvExpr) (a b : List SvStmt) → code_of (variant.If c a b ∷ []) ≡ If (term_of c) (code_of a) (code_of b) End
+unfolding roll-SvStmt roll
 code-if c a b =
     ap (λ s. stmt_code s End) (variant.rolls-If c a b)
     ∙ ap (λ f. f End) (fold-roll-SvStmt (Code → Code) (Arms → Arms) code.stmt_node code.arm_node (stmt.If c a b))

@@ -6,3 +6,6 @@ pub mod Located
 pub mod Codes
 pub mod Outcomes
 pub mod Steps
+pub mod Greatest
+pub mod Keeping
+pub mod Opens

@@ -1,14 +1,13 @@
 -- What is lowered is what the laws of lowering speak of.
-use Rattle.std.specs.Prelude.{◌≡◌, Bool, true, false, if◌then◌else◌, nat_eq, not, Option, Some, None, option_map, option_and_then}
+use Rattle.std.specs.Prelude.{◌≡◌, if◌then◌else◌, nat_eq, not, Option, Some, option_map, option_and_then}
 use Rattle.std.proofs.Common.{refl, sym, ◌∙◌, ap}
 use Rattle.scc_bits_kinds.specs.declared.kind.Kind.{Kind}
 use Rattle.scc_bits_kinds.specs.declared.kind.Kind.TheVariants as kind
 use Rattle.scc_bits_kinds.specs.declared.op.Op.{Op}
 use Rattle.scc_bits.specs.Placed.{operands_of}
 use Rattle.scc_bits.specs.Value.{Number, exactly}
-use Rattle.scc_bits.specs.Values.{applied, kind_of}
 use Rattle.scc_bits_kinds.specs.Kinds.{is_signed, stored}
-use Rattle.scc_svtree.specs.Term.{Term, Cond, term_of}
+use Rattle.scc_svtree.specs.Term.{Term, Cond}
 use Rattle.scc_lower_spec.specs.Operating.{is_shift}
 use Rattle.scc_lower_laws.specs.Outcome as outcome
 use Rattle.scc_lower_laws.specs.Outcome.{Outcome, number}
@@ -16,7 +15,7 @@ use Rattle.scc_lower.specs.declared.convert.Lowered.{Lowered}
 use Rattle.scc_lower.specs.declared.convert.Lowered.TheVariants.{Known, Made}
 use Rattle.scc_lower.specs.declared.operator.Operand.{Operand}
 use Rattle.scc_lower.specs.Lowered.{text_of, text_in, Converts, IsStored, IsText}
-use Rattle.scc_lower.specs.Operated.{IsAnswer, Makes, right_text, between_text, before_text, Operated, OperatedAlone, choice_text, Chosen}
+use Rattle.scc_lower.specs.Operated.{IsAnswer, Makes, right_text, between_text, Operated, OperatedAlone, choice_text, Chosen}
 use Rattle.scc_lower.specs.Becoming.{outcome_of}
 
 pub text-same : (x : Lowered) → outcome.text_of (outcome_of x) ≡ text_of x

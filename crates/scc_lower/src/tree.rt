@@ -2,16 +2,16 @@
 ghost use Rattle.std.specs.Prelude.{◌≡◌, ◌+◌, ◌*◌, IfOk, map};
 ghost use Rattle.scc_svtree.specs.Term.{term_of};
 ghost use Rattle.scc_lower_laws.specs.Elements.{variable_of, within_text};
-ghost use Rattle.scc_lower_spec.specs.Selected.{below_term, halves_term};
+ghost use Rattle.scc_lower_spec.specs.Selected.{halves_term};
 ghost use Rattle.scc_lower_tree_laws.specs.Choosing.{ReadsElement, ReadsSpan};
 ghost use Rattle.scc_lower.specs.Becoming.{given_of, opened_of, seen_of, slot_of};
 
-use crate::built::{binary, choice, literal};
+use crate::built::{choice, literal};
 use crate::index::Open;
 use crate::lowering::{Cells, Lowering};
 use crate::select::{Bits, read_part};
 use scc_base::{NoMemory, lost};
-use scc_svtree::{SvBinary, SvExpr};
+use scc_svtree::SvExpr;
 use std::alloc::Global;
 
 /// How deep elements' choices may nest: the dimensions of an array, and for each the halvings of its size.
@@ -56,13 +56,13 @@ pub fn element(
 }
 
 // An element of a dimension, 0 past its end.
-fn within(alloc: Global, open: Open, bits: Bits, chosen: SvExpr) -> Result<SvExpr, NoMemory>
-    ensures { IfOk result (λ t. term_of t ≡ within_text (slot_of open.at) open.size bits.h bits.l (term_of chosen)) }
+fn within(alloc: Global, dim: Open, bits: Bits, chosen: SvExpr) -> Result<SvExpr, NoMemory>
+    ensures { IfOk result (λ t. term_of t ≡ within_text (slot_of dim.at) dim.size bits.h bits.l (term_of chosen)) }
 {
-    if !open.at.can_reach(open.size) {
+    if !dim.at.can_reach(dim.size) {
         return Ok(chosen);
     }
-    let inside = below(alloc, open, open.size)?;
+    let inside = dim.at.below(alloc, dim.size)?;
     let zero = literal(alloc, bits.count()?, 0)?;
     choice(alloc, inside, chosen, zero)
 }
@@ -74,21 +74,12 @@ pub struct Span {
     pub high: u32,
 }
 
-// Whether an index is below a number.
-fn below(alloc: Global, open: Open, n: u32) -> Result<SvExpr, NoMemory>
-    ensures { IfOk result (λ t. term_of t ≡ below_term open.at.width (variable_of open.at.var.0) n) }
-{
-    let at = open.at.read(alloc)?;
-    let n = literal(alloc, open.at.width, u128::from(n))?;
-    binary(alloc, SvBinary::Lt, at, n)
-}
-
 // The choice among some elements of a dimension, by halves.
 #[cycle(choices)]
 fn between(
     alloc: Global,
     inner: &[Open],
-    open: Open,
+    dim: Open,
     first: u32,
     span: Span,
     bits: Bits,
@@ -96,14 +87,14 @@ fn between(
     cx: &Lowering<'_>,
     levels: u32,
 ) -> Result<SvExpr, NoMemory>
-    ensures { IfOk result (λ t. ReadsSpan (given_of cells.entry) (map seen_of cx.now.views.now) (opened_of open) (map opened_of inner.now) first span.low span.high bits.h bits.l (term_of t)) }
+    ensures { IfOk result (λ t. ReadsSpan (given_of cells.entry) (map seen_of cx.now.views.now) (opened_of dim) (map opened_of inner.now) first span.low span.high bits.h bits.l (term_of t)) }
 {
     if levels == 0 || span.high <= span.low {
         return Err(lost());
     }
     let half = (span.high - span.low) / 2;
     if half == 0 {
-        let at = element_at(first, span.low, open.stride)?;
+        let at = element_at(first, span.low, dim.stride)?;
         return element(alloc, inner, at, bits, cells, cx, levels - 1);
     }
     let middle = span.low + half;
@@ -111,26 +102,26 @@ fn between(
         low: span.low,
         high: middle,
     };
-    let yes = between(alloc, inner, open, first, low, bits, cells, cx, levels - 1)?;
+    let yes = between(alloc, inner, dim, first, low, bits, cells, cx, levels - 1)?;
     let high = Span {
         low: middle,
         high: span.high,
     };
-    let no = between(alloc, inner, open, first, high, bits, cells, cx, levels - 1)?;
-    halves(alloc, open, middle, yes, no)
+    let no = between(alloc, inner, dim, first, high, bits, cells, cx, levels - 1)?;
+    halves(alloc, dim, middle, yes, no)
 }
 
 // One of two, by whether an index is below a number.
 fn halves(
     alloc: Global,
-    open: Open,
+    dim: Open,
     middle: u32,
     yes: SvExpr,
     no: SvExpr,
 ) -> Result<SvExpr, NoMemory>
-    ensures { IfOk result (λ t. term_of t ≡ halves_term open.at.width (variable_of open.at.var.0) middle (term_of yes) (term_of no)) }
+    ensures { IfOk result (λ t. term_of t ≡ halves_term dim.at.width (variable_of dim.at.var.0) middle (term_of yes) (term_of no)) }
 {
-    let test = below(alloc, open, middle)?;
+    let test = dim.at.below(alloc, middle)?;
     choice(alloc, test, yes, no)
 }
 

@@ -220,9 +220,10 @@ module _ (g : Given) (views : List Seen) where
       let inside : nat_lt low d.size ≡ true = (let q : low < d.size = omega (arith, few) in grind (arith, q)) in
       let here : AreWritten s bits (first + low * d.stride) ds = λ is c r. all (low ∷ is) c (ap (λ b. if b then cell_in (first + low * d.stride) ds is else None) inside ∙ r) in
       let P : ℕ → Type 0 = λ n. PutsElement g views os n z c in
-      let stands : first + low * o.stride ≡ first + low * d.stride = ap (λ n. first + low * n) (sym opened.1) in
-      (subst P stands h.0 s width m bits ds sees opened.2 here (inner-allowed s bits first low d ds z inside allowed),
-       puts-each o os first (suc low) z cs h.1 s width m bits d ds sees opened all allowed (omega (arith, few)))
+      let stands : first + low * o.stride ≡ first + low * d.stride = ap (λ n. first + low * n) (sym opened.1) in (
+        subst P stands h.0 s width m bits ds sees opened.2 here (inner-allowed s bits first low d ds z inside allowed),
+        puts-each o os first (suc low) z cs h.1 s width m bits d ds sees opened all allowed (omega (arith, few)),
+      )
 
   pub puts-case : (o : Opened) (os : List Opened) (first : ℕ) (z : Wanted) (cs : List Code) → length cs ≡ min o.size (2 ^ o.slot.width) → PutsElements g views o os first 0 z cs → PutsElement g views (o ∷ os) first z (case_code o.slot cs)
   puts-case o os first z cs many h s width m bits [] sees opened all allowed = absurd opened

@@ -73,9 +73,9 @@ stmt-adds : (s : CoreStmt) (c : core.Code) → stmt_code s c ≡ append (stmt_co
 stmt-adds = ind-CoreStmt (λ n. (p : Place) (c : core.Code) → node_fold n p c ≡ append (node_fold n p core.End) c) (λ s. (c : core.Code) → stmt_code s c ≡ append (stmt_code s core.End) c)
     (λ x y is p. subst (λ f. (c : core.Code) → f p c ≡ append (f p core.End) c) (sym (fold-roll-CoreNode Node (core.Code → core.Code) stmt_node stmt_step x)) (adds _ p))
     (λ x y is. subst (λ f. (c : core.Code) → f c ≡ append (f core.End) c) (sym (fold-roll-CoreStmt Node (core.Code → core.Code) stmt_node stmt_step x))
-        (subst (λ n. (c : core.Code) → node_fold n x.place c ≡ append (node_fold n x.place core.End) c) (ap (λ z. z.node) is) (y.node.1 x.place)))
+    (subst (λ n. (c : core.Code) → node_fold n x.place c ≡ append (node_fold n x.place core.End) c) (ap (λ z. z.node) is) (y.node.1 x.place)))
 
-code-more : (ss : List CoreStmt) (x : CoreStmt) → code_of (ss ++ x ∷ []) ≡ append (code_of ss) (stmt_code x core.End)
+pub code-more : (ss : List CoreStmt) (x : CoreStmt) → code_of (ss ++ x ∷ []) ≡ append (code_of ss) (stmt_code x core.End)
 code-more [] x = refl
 code-more (s ∷ ss) x =
     ap (stmt_code s) (code-more ss x)
@@ -134,6 +134,17 @@ greatest-then k (core.Block p x r) d = omega (arith, greatest-then k r d)
 greatest-then k (core.Loop p n x r) d = omega (arith, greatest-then k r d)
 greatest-then k (core.Exit p n r) d = omega (arith, greatest-then k r d)
 greatest-then k (core.Wait p l n r) d = greatest-then k r d
+
+-- of two parts the greater number
+pub greatest-append : (k : ℕ) (c d : core.Code) → greatest k (append c d) ≡ max (greatest k c) (greatest k d)
+greatest-append k core.End d = omega arith
+greatest-append k (core.Put p l j e r) d = greatest-append k r d
+greatest-append k (core.Aim p to t r) d = greatest-append k r d
+greatest-append k (core.If p t x y r) d = omega (arith, greatest-append k r d)
+greatest-append k (core.Block p x r) d = omega (arith, greatest-append k r d)
+greatest-append k (core.Loop p n x r) d = omega (arith, greatest-append k r d)
+greatest-append k (core.Exit p n r) d = omega (arith, greatest-append k r d)
+greatest-append k (core.Wait p l n r) d = greatest-append k r d
 
 or-left : (a b : Bool) → a ≡ true → (a || b) ≡ true
 or-left true b e = refl
@@ -383,7 +394,7 @@ module _ (g : Given) (depth : ℕ) where
         let first-wide = wider s width depth p to out more (code_of ys) yes-code (fewer c d hn.keeps) (λ n e. or-left (out n) (new n) e) first in
         let other-wide = wider s width depth to to new more (code_of ns) no-code (omega arith) (λ n e. or-right (out n) (new n) e) other in
         let fits : FitLeaving s width more = fit-of s width a.exit (max (greatest depth (code_of ys)) (greatest depth (code_of ns))) more
-            (λ k e. or-case (k ≤ max (greatest depth (code_of ys)) (greatest depth (code_of ns))) (out k) (new k) e (λ f. (let z = hy.least k f in omega (arith, z))) (λ f. (let z = hn.least k f in omega (arith, z)))) exit (omega (arith, all)) in
+        (λ k e. or-case (k ≤ max (greatest depth (code_of ys)) (greatest depth (code_of ns))) (out k) (new k) e (λ f. (let z = hy.least k f in omega (arith, z))) (λ f. (let z = hn.least k f in omega (arith, z)))) exit (omega (arith, all)) in
         let z = either s width depth to from middle more more x.place (term_of t) (code_of ys) (code_of ns) core.End h.leaves.front yes-code no-code End (Made u) sees.number (fewer (cleared b) d rest) test first-wide other-wide (λ k e. e) (λ k e. skips-end s width) fits (ended s width depth to more) in
         let front : b.before ≡ h.leaves.front = h.leaves.before ∙ ap (λ z. then_code z h.leaves.front) empty in
         let P : Code → Type 0 = λ w. LowersCode s width depth to more (core.If x.place (term_of t) (code_of ys) (code_of ns) core.End) (then_code w (If u yes-code no-code End)) in
@@ -479,7 +490,7 @@ module _ (g : Given) (depth : ℕ) where
         let z = block s width depth to out (around depth out) x.place (code_of body) core.End code End sees.number y (λ k l e. within-both k l e) (λ k l e. skips-end s width) fits (ended s width depth to (around depth out)) in
         let P : Code → Type 0 = λ w. LowersCode s width depth to (around depth out) (core.Block x.place (code_of body) core.End) w in
         let same : block_code s width depth out code ≡ (if out (suc depth) then then_code code (back (length g.cells) a.exit (suc depth)) else code) =
-            ap (λ w. if out (suc depth) then then_code code w else code) (back-same g s width a.views a.exit (suc depth) sees bits) in
+        ap (λ w. if out (suc depth) then then_code code w else code) (back-same g s width a.views a.exit (suc depth) sees bits) in
         let Q : core.Code → Type 0 = λ w. LowersCode s width depth to (around depth out) w (if out (suc depth) then then_code code (back (length g.cells) a.exit (suc depth)) else code) in
         subst Q (sym (blocks x body is core.End)) (subst P (then-end (block_code s width depth out code) ∙ same) z));
   }

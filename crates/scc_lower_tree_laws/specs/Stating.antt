@@ -37,7 +37,7 @@ greatest d (core.Put p l k e r) = greatest d r
 greatest d (core.Aim p to t r) = greatest d r
 greatest d (core.If p t a b r) = max (max (greatest d a) (greatest d b)) (greatest d r)
 greatest d (core.Block p b r) = max (greatest (suc d) b) (greatest d r)
-greatest d (core.Loop p n b r) = max (greatest (suc d) b) (greatest d r)
+greatest d (core.Loop p n b r) = max (greatest d b) (greatest d r)
 greatest d (core.Exit p n r) = max (d - n) (greatest d r)
 greatest d (core.Wait p l n r) = greatest d r
 

@@ -1,5 +1,5 @@
 -- First operands one in another.
-use Rattle.std.proofs.Common.{◌≡◌, refl, sym, ap, ◌∙◌, List, [], ◌∷◌, ◌++◌, map, Option, Some}
+use Rattle.std.proofs.Common.{◌≡◌, refl, sym, ap, ◌∙◌, List, [], ◌∷◌, ◌++◌, map, Some}
 use Rattle.scc_svtree.specs.declared.expr.SvExpr.{SvExpr}
 use Rattle.scc_svtree_renumber.specs.Copies.{IsPath, first_of}
 

@@ -1,4 +1,4 @@
-use Rattle.std.proofs.Common.{ℕ, ◌+◌, ◌*◌}
+use Rattle.std.proofs.Common.{◌+◌, ◌*◌, length}
 use Rattle.scc_lower.proofs.+lowering.Given as goal
 
 abbrev pub decreases-expr::lowered : goal.decreases-expr::lowered
@@ -36,3 +36,6 @@ decreases-expr::leaf c = 10 * c.levels + 7
 
 abbrev pub decreases-expr::over : goal.decreases-expr::over
 decreases-expr::over c = 10 * c.levels + 2
+
+abbrev pub decreases-expr::lowered-loop-outer : goal.decreases-expr::lowered-loop-outer
+decreases-expr::lowered-loop-outer l = length l.chain.items

@@ -1,4 +1,3 @@
-use Rattle.std.proofs.Common.{ℕ}
 use Rattle.scc_lower.proofs.assign.+spread.Given as goal
 
 abbrev pub decreases-spread : goal.decreases-spread

@@ -1,4 +1,3 @@
-use Rattle.std.proofs.Common.{ℕ}
 use Rattle.scc_lower.proofs.tree.+choices.Given as goal
 
 abbrev pub decreases-element : goal.decreases-element

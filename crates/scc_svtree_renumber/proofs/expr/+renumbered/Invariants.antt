@@ -1,5 +1,4 @@
-use Rattle.std.proofs.Common.{◌≡◌, ℕ, true, ◌+◌, ◌*◌, map, take, length}
-use Rattle.scc_svtree.specs.declared.expr.SvExpr.{SvExpr}
+use Rattle.std.proofs.Common.{◌≡◌, true, ◌+◌, ◌*◌, map, take, length}
 use Rattle.scc_svtree_renumber.specs.Copies.{IsPath}
 use Rattle.scc_svtree_renumber.proofs.expr.+renumbered.Given as goal
 
