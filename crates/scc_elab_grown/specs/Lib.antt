@@ -1,0 +1,4 @@
+pub mod Objects
+pub mod Bounds
+pub mod Records
+pub mod Grown

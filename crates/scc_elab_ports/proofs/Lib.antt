@@ -1,0 +1,4 @@
+pub mod Homes
+pub mod Around
+pub mod Rooting
+pub mod Numbered

@@ -1,0 +1,3 @@
+pub mod Homes
+pub mod Bound
+pub mod Unbound

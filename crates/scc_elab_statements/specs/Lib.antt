@@ -1,0 +1,4 @@
+pub mod Frames
+pub mod Locals
+pub mod Things
+pub mod Sensed
