@@ -10,3 +10,6 @@ pub mod Commanded
 pub mod OneModule
 pub mod OneKind
 pub mod Telling
+pub mod OneFile
+pub mod Early
+pub mod WholeRun

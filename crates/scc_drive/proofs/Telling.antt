@@ -22,7 +22,7 @@ use Rattle.scc_tree.specs.declared.item.FileTree.{FileTree}
 use Rattle.scc_drive.proofs.OneKind.{of_bad, one_kind, one_outcome, asks_alike}
 
 -- a status that is not 4 or 5 is the one whose text was said
-said_at : (status n : ℕ) (text : List ℕ) (old new : Option (List ℕ)) (f f' result : ℕ) → Said status text old new f f' result → result ≡ n → n ≢ 4 → n ≢ 5
+pub said_at : (status n : ℕ) (text : List ℕ) (old new : Option (List ℕ)) (f f' result : ℕ) → Said status text old new f f' result → result ≡ n → n ≢ 4 → n ≢ 5
     → (status ≡ n) × Appends old new text
 said_at status n text old new f f' result (inl p) e not4 not5 = (sym p.0 ∙ e, p.1)
 said_at status n text old new f f' result (inr (inl p)) e not4 not5 = absurd (not4 (sym e ∙ p))
@@ -113,12 +113,12 @@ tag (Err NoMemory) = 5
 
 module _ (words : List (String Global)) (held : Option Shelf) (m m' f f' : ℕ) where
   -- an answer by its cause
-  abbrev AnswerOf : Result (List ℕ) Stopped → Type 0
+  abbrev pub AnswerOf : Result (List ℕ) Stopped → Type 0
   AnswerOf (Err BadWords) = are_words words ≡ false
   AnswerOf (Err NoMemory) = Unit {0}
   AnswerOf r = AnswersBy (ComesFor words) (word_at words 1) held m m' f f' r
 
-  answer_of : (r : Result (List ℕ) Stopped) → Answers words held m m' f f' r → AnswerOf r
+  pub answer_of : (r : Result (List ℕ) Stopped) → Answers words held m m' f f' r → AnswerOf r
   unfolding tag
   answer_of (Ok text) (inl p) = absurd (let q : 0 ≡ 1 = ap tag p.1 in cc)
   answer_of (Ok text) (inr (inl p)) = p.1

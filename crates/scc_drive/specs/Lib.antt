@@ -3,6 +3,7 @@ pub mod Stops
 pub mod Outcome
 pub mod CommandOutcome
 pub mod Answer
+pub mod Early
 pub mod MainTheorem
 pub mod Stages
 pub mod Laws

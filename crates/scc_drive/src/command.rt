@@ -2,8 +2,10 @@ ghost use Rattle.std.specs.Prelude.{◌≡◌, ◌≤◌, ◌⊎◌, false, Resu
 ghost use Rattle.std.specs.Io.KnownBytes.{Appends, Keeps};
 ghost use Rattle.scc_base.specs.Outside.{Rose, Told};
 ghost use Rattle.scc_drive.specs.Answer.{Ends, IsDone, IsRefused, IsMissing, HasFailed, IsCutShort};
+ghost use Rattle.scc_drive.specs.Early.{IsDecidedEarly};
 ghost use Rattle.scc_drive.specs.MainTheorem.{MainTheorem};
 ghost use Rattle.scc_drive_errors.specs.Texts.{words_text};
+ghost use Rattle.scc_drive_spec.specs.Whole.{WholeTheorem};
 ghost use Rattle.scc_drive_spec.specs.Words.{are_words};
 
 use crate::answer::answer;
@@ -52,6 +54,9 @@ pub fn run<F: Files, O: Sink, E: Sink>(
     // 4 and 5: a first part of an output that the command may have was written, or nothing was written and a first part of what it may say was
     // said; and then first parts of what is said of faults
     ensures part { (result ≡ 4) ⊎ (result ≡ 5) → IsCutShort words.now (F.held files.old) (F.misses files.old) (F.misses files.new) (F.faults files.old) (F.faults files.new) (O.taken out.old) (O.taken out.new) (E.taken err.old) (E.taken err.new) }
+    // the whole theorem, where no stage after the grammar decides what the command comes to
+    ensures whole { Told (F.held files.old) (λ shelf. IsDecidedEarly shelf words.now
+        → WholeTheorem shelf words.now result (F.misses files.old) (F.misses files.new) (F.faults files.old) (F.faults files.new) (O.taken out.old) (O.taken out.new) (E.taken err.old) (E.taken err.new)) }
     // what the command comes to decides the status, but for want of memory and faults of the outside
     ensures ends { Told (F.held files.old) (λ shelf. Ends shelf words.now (F.faults files.old) (F.faults files.new) result) }
 {

@@ -1,5 +1,5 @@
 -- A request comes to something.
-use Rattle.std.proofs.Common.{◌≡◌, inl, inr, ℕ, List, [], ◌∷◌, ◌++◌, length, Option, Some, None, Result, Ok, Err, ap, refl, sym, ◌∙◌, subst}
+use Rattle.std.proofs.Common.{◌≡◌, inl, inr, ℕ, List, length, Option, Some, None, Result, Ok, Err, ap, refl}
 use Rattle.std.specs.Prelude.{option_and_then}
 use Rattle.scc_base.specs.Names.{fixed_names}
 use Rattle.scc_base.specs.Outside.{Shelf}
@@ -17,7 +17,7 @@ use Rattle.scc_plain_first.specs.Stages.{refusal_in}
 use Rattle.scc_plain_spec.specs.Designs.{Compiled, compiled, design_in}
 use Rattle.scc_plain_laws.proofs.Topped.{stages-answer}
 use Rattle.scc_drive_spec.proofs.Decided.{Decision, decided}
-use Rattle.scc_drive_spec.specs.Comes.{Request, Verdict, Refuses, Absent, Accepts, IsReadAs, stopped_by, name_in, stimulus_refusal, Comes, in_joining, in_the_grammar, in_a_stage, without_stimulus, in_the_stimulus, accepted, on_a_stimulus}
+use Rattle.scc_drive_spec.specs.Comes.{Request, Verdict, IsReadAs, name_in, stimulus_refusal, Comes, in_joining, in_the_grammar, in_a_stage, without_stimulus, in_the_stimulus, accepted, on_a_stimulus}
 
 module _ (q : Request) (shelf : Shelf) where
   abbrev Some_verdict : Type 0

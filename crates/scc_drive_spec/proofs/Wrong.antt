@@ -1,19 +1,17 @@
 -- What wrong compilers answer is ruled out: a request comes to one thing.
-use Rattle.std.proofs.Common.{◌≡◌, ◌⊎◌, inl, inr, ℕ, Bool, List, Option, Some, None, ap, refl, sym, ◌∙◌, subst}
+use Rattle.std.proofs.Common.{◌≡◌, ℕ, List, Some, None, ap, ◌∙◌, subst}
 use Rattle.std.specs.Prelude.{String}
 use Rattle.std.specs.declared.alloc.Global.{Global}
-use Rattle.std.specs.Io.KnownBytes.{Appends}
 use Rattle.scc_base.specs.Outside.{Shelf}
 use Rattle.scc_base.specs.declared.refusal.Refusal.{Refusal}
 use Rattle.scc_tokens_directives.specs.declared.file.Source.{Source}
-use Rattle.scc_drive_words.specs.declared.command.Command.{Command}
 use Rattle.scc_drive_words.specs.declared.command.Command.TheVariants as command
 use Rattle.scc_drive_words.specs.declared.command.Form.{Form}
 use Rattle.scc_drive_spec.specs.Words.{command_by}
-use Rattle.scc_drive_spec.specs.Comes.{Request, Verdict, Refuses, Absent, Accepts, Accepted, Comes}
+use Rattle.scc_drive_spec.specs.Comes.{Request, Verdict, Comes}
 use Rattle.scc_drive_spec.specs.Output.{Output, compiles}
-use Rattle.scc_drive_spec.specs.Answer.{Answer, bad, refused, absent, writes, request, has_clocks, answer_of, WordsCome, CommandComes}
-use Rattle.scc_drive_spec.specs.Whole.{WholeTheorem, IsRefused, text_of_refusal}
+use Rattle.scc_drive_spec.specs.Answer.{Answer, refused, writes, request, has_clocks, answer_of, WordsCome, CommandComes}
+use Rattle.scc_drive_spec.specs.Whole.{text_of_refusal}
 use Rattle.scc_drive_spec.proofs.One.{one_verdict}
 
 module _ (shelf : Shelf) (words : List (String Global)) (count : ℕ) (form : Form) (asked : command_by words ≡ Some (command.Compile count form)) where

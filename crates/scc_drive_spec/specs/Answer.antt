@@ -1,5 +1,5 @@
 -- What a command comes to where the names of files hold this: bad words, a refusal, a file that isn't there, or an output. This project's own.
-use Rattle.std.specs.Prelude.{◌≡◌, ◌≢◌, ℕ, Bool, true, false, nat_lt, List, [], ◌∷◌, length, codes, Option, Some, None, Result, Ok, Err, String, bytes_eq, if◌then◌else◌}
+use Rattle.std.specs.Prelude.{◌≡◌, ◌≢◌, ℕ, Bool, true, false, nat_lt, List, [], ◌∷◌, length, codes, Option, Some, None, Err, String, bytes_eq, if◌then◌else◌}
 use Rattle.std.specs.declared.alloc.Global.{Global}
 use Rattle.scc_base.specs.Outside.{Shelf}
 use Rattle.scc_base.specs.declared.code.Code.TheVariants.{FileTooLong, SvName}

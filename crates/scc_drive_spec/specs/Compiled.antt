@@ -1,5 +1,5 @@
 -- What a module is of an accepted source: all that is promised of the module that `compile` writes. This project's own.
-use Rattle.std.specs.Prelude.{◌≡◌, ℕ, Bool, List}
+use Rattle.std.specs.Prelude.{ℕ, Bool, List}
 use Rattle.scc_semantics.specs.Location.{Location}
 use Rattle.scc_semantics.specs.Design as source
 use Rattle.scc_svtree.specs.declared.module.SvModule.{SvModule}

@@ -96,7 +96,7 @@ module _ (whole : ℕ) where
     next : {ts mid : Bytes} {m : RawHier} {ms : List RawHier} → ReadsWith ts mid m → ReadsModules mid ms → ReadsModules ts (m ∷ ms)
 
   unfoldable pub deep_with : {ts r : Bytes} {m : RawHier} → ℕ → ReadsWith ts r m → Option Bytes
-  deep_with n (module_with w ports d are is blocks) = deep_items n blocks
+  deep_with n (module_with w given d are is blocks) = deep_items n blocks
 
   unfoldable pub deep_modules : {ts : Bytes} {ms : List RawHier} → ℕ → ReadsModules ts ms → Option Bytes
   deep_modules n (last m) = deep_with n m

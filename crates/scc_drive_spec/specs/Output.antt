@@ -1,6 +1,5 @@
 -- What each command writes where nothing stops it. This project's own.
 use Rattle.std.specs.Prelude.{◌≡◌, ℕ, Bool, true, false, List, codes, Option, Some, None}
-use Rattle.scc_base.specs.Outside.{Shelf}
 use Rattle.scc_svtree.specs.declared.module.SvModule.{SvModule}
 use Rattle.scc_svtext.specs.ModuleText.{module_text}
 use Rattle.scc_drive_words.specs.declared.command.Form.{Form}

@@ -1,6 +1,6 @@
 -- What holds of each accepted source by itself, whatever is written: each process comes to its next wait in time, and the order in which the scheduler runs processes
 -- doesn't show. This project's own.
-use Rattle.std.specs.Prelude.{◌≡◌, ℕ, Bool, true, false, List, Some, slice_get, option_map, unwrap_or}
+use Rattle.std.specs.Prelude.{◌≡◌, ℕ, true, false, List, Some, slice_get, option_map, unwrap_or}
 use Rattle.scc_semantics.specs.Location.{Location}
 use Rattle.scc_semantics.specs.Places.{Sort}
 use Rattle.scc_semantics.specs.Design.{Design, Process}

@@ -7,3 +7,4 @@ pub mod Known
 pub mod Live
 pub mod Chosen
 pub mod Decided
+pub mod Larger

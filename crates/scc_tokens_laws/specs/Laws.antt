@@ -1,5 +1,5 @@
 -- What holds of all files.
-use Rattle.std.specs.Prelude.{◌≡◌, ℕ, List, Ok, Err}
+use Rattle.std.specs.Prelude.{◌≡◌, ℕ, List, Ok, Err, Some}
 use Rattle.scc_base.specs.Outside.{Shelf}
 use Rattle.scc_tokens_directives.specs.declared.file.Source.{Source}
 use Rattle.scc_tokens_directives.specs.Steps.{Stopped}
@@ -17,3 +17,11 @@ JoinsWhole = (shelf : Shelf) (before roots names : List (List ℕ)) (sources : L
 abbrev pub StopsFirst : Type 0
 StopsFirst = (shelf : Shelf) (before roots names : List (List ℕ)) (sources : List Source) (h : Stopped)
     → (StopsAt shelf before roots names sources h → join_of shelf before roots ≡ (names, sources, Err h)) × (join_of shelf before roots ≡ (names, sources, Err h) → StopsAt shelf before roots names sources h)
+
+-- the second holds what the first does
+abbrev pub HoldsMore : Shelf → Shelf → Type 0
+HoldsMore f g = (n b : List ℕ) → f n ≡ Some b → g n ≡ Some b
+
+-- where names hold more, roots join to what they joined to
+abbrev pub JoinsAgain : Type 0
+JoinsAgain = (f g : Shelf) (before roots names : List (List ℕ)) (sources : List Source) (j : Joined) → HoldsMore f g → JoinsTo f before roots names sources j → JoinsTo g before roots names sources j

@@ -4,4 +4,4 @@
 
 mod laws;
 
-pub use laws::parts_are_joined;
+pub use laws::{more_files_join_to_the_same, parts_are_joined};

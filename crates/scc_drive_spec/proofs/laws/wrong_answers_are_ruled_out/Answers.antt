@@ -1,4 +1,4 @@
-use Rattle.std.proofs.Common.{ap, sym, ◌∙◌, refl, subst, inl}
+use Rattle.std.proofs.Common.{sym, refl, subst, inl}
 use Rattle.std.specs.Io.KnownBytes.{Appends}
 use Rattle.scc_drive_spec.specs.Comes.{Refuses, Accepts}
 use Rattle.scc_drive_spec.specs.Answer.{refused, writes}
