@@ -1,7 +1,8 @@
 //! Pointers and references, replaced by the objects to which they lead.
 //!
-//! `pass` has `Resolve`; `held` says where pointers lead; `locate`, `walk` and `stmt` have locations, expressions
-//! and statements without them.
+//! `pass` has `Resolve`; `held` says where pointers lead, `follow` what a location follows, `locate` goes on with a
+//! location part by part, `sizes` has the sizes of vectors; `walk` and `stmt` have locations, expressions and
+//! statements without pointers.
 #![tactic(auto)]
 
 mod follow;

@@ -1,8 +1,9 @@
 //! Counted loops, written out turn by turn.
 //!
 //! `pass` has `Unroll`; `own` says which local a location is, `uses` how often each is assigned, `shape` what
-//! statements are and where they stand, `counted` which loops are counted, `look` finds the first that isn't,
-//! `turns` counts turns and the statements of the unrolled body, which `built` writes out.
+//! statements are and where they stand, `counted` which loops are counted, `look` finds the first that isn't. `turns`
+//! has the turns of a counted loop, `limits` counts those of a body, `loops` says whether it has loops, `sizes` counts
+//! the statements of the unrolled body, which `built` writes.
 #![tactic(auto)]
 
 mod built;
