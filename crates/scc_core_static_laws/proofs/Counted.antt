@@ -175,28 +175,28 @@ module _ (cells : List Cell) (ns : List Counter) where
     bases_counted (behind {k = k} n x ps) = no_counter
         (ap (λ b. whole_number ns (out-CoreBase b) (map (with.counted_part ns) (x ∷ ps))) (base_copy ns (tree.Cell n)) ∙ whole_behind ns n (with.counted_part ns x) (map (with.counted_part ns) ps))
         (ap (λ z. z (map (part_in g) (x ∷ ps))) (base_made g (tree.Cell n))
-            ∙ ap (λ z. z (map (part_in f) (map (with.counted_part ns) (x ∷ ps)))) (sym (base_made f (tree.Cell n)))
-            ∙ ap (λ b. base_in f b (map (part_in f) (map (with.counted_part ns) (x ∷ ps)))) (sym (base_copy ns (tree.Cell n))))
+        ∙ ap (λ z. z (map (part_in f) (map (with.counted_part ns) (x ∷ ps)))) (sym (base_made f (tree.Cell n)))
+        ∙ ap (λ b. base_in f b (map (part_in f) (map (with.counted_part ns) (x ∷ ps)))) (sym (base_copy ns (tree.Cell n))))
     bases_counted (front {k = k} name {ps = ps} n w) = no_counter
         (ap (λ b. whole_number ns (out-CoreBase b) (map (with.counted_part ns) ps)) (base_copy ns (tree.Prefix name)) ∙ whole_front ns name (map (with.counted_part ns) ps))
         (ap (λ z. z (map (part_in g) ps)) (base_made g (tree.Prefix name))
-            ∙ ap (λ xs. element f xs name) (parts_counted w)
-            ∙ ap (λ z. z (map (part_in f) (map (with.counted_part ns) ps))) (sym (base_made f (tree.Prefix name)))
-            ∙ ap (λ b. base_in f b (map (part_in f) (map (with.counted_part ns) ps))) (sym (base_copy ns (tree.Prefix name))))
+        ∙ ap (λ xs. element f xs name) (parts_counted w)
+        ∙ ap (λ z. z (map (part_in f) (map (with.counted_part ns) ps))) (sym (base_made f (tree.Prefix name)))
+        ∙ ap (λ b. base_in f b (map (part_in f) (map (with.counted_part ns) ps))) (sym (base_copy ns (tree.Prefix name))))
     bases_counted (follow {k = k} l soft ps) = no_counter
         (ap (λ b. whole_number ns (out-CoreBase b) (map (with.counted_part ns) ps)) (base_copy ns (tree.Follow l soft)) ∙ whole_follow ns (with.counted_left ns l) soft (map (with.counted_part ns) ps))
         (ap (λ z. z (map (part_in g) ps)) (base_made g (tree.Follow l soft))
-            ∙ ap (λ z. z (map (part_in f) (map (with.counted_part ns) ps))) (sym (base_made f (tree.Follow (with.counted_left ns l) soft)))
-            ∙ ap (λ b. base_in f b (map (part_in f) (map (with.counted_part ns) ps))) (sym (base_copy ns (tree.Follow l soft))))
+        ∙ ap (λ z. z (map (part_in f) (map (with.counted_part ns) ps))) (sym (base_made f (tree.Follow (with.counted_left ns l) soft)))
+        ∙ ap (λ b. base_in f b (map (part_in f) (map (with.counted_part ns) ps))) (sym (base_copy ns (tree.Follow l soft))))
     bases_counted (null {k = k} ps) = no_counter
         (ap (λ b. whole_number ns (out-CoreBase b) (map (with.counted_part ns) ps)) (base_copy ns tree.Null) ∙ whole_null ns (map (with.counted_part ns) ps))
         (ap (λ z. z (map (part_in g) ps)) (base_made g tree.Null)
-            ∙ ap (λ z. z (map (part_in f) (map (with.counted_part ns) ps))) (sym (base_made f tree.Null))
-            ∙ ap (λ b. base_in f b (map (part_in f) (map (with.counted_part ns) ps))) (sym (base_copy ns tree.Null)))
+        ∙ ap (λ z. z (map (part_in f) (map (with.counted_part ns) ps))) (sym (base_made f tree.Null))
+        ∙ ap (λ b. base_in f b (map (part_in f) (map (with.counted_part ns) ps))) (sym (base_copy ns tree.Null)))
 
     pub parts_counted : {ps : List CorePart} → AreReadableParts ns ps → map (part_in g) ps ≡ map (part_in f) (map (with.counted_part ns) ps)
     parts_counted none = refl
     parts_counted (member n w) = (λ i. (part_made g (tree.Member n) ∙ sym (ap (part_in f) (part_copy ns (tree.Member n)) ∙ part_made f (tree.Member n))) i ∷ parts_counted w i)
     parts_counted (index size {e = e} v w) =
         (λ i. (part_made g (tree.Index size e) ∙ ap (Element size) (values_counted v) ∙ sym (ap (part_in f) (part_copy ns (tree.Index size e)) ∙ part_made f (tree.Index size (with.counted ns e)))) i
-            ∷ parts_counted w i)
+        ∷ parts_counted w i)

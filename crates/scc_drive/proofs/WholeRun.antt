@@ -48,7 +48,7 @@ no_tree_less : (name : List ℕ) (shelf : Shelf) (roots : List (List ℕ)) → I
 no_tree_less name shelf roots none names sources tree read = none names sources tree (record {
   joined = read.joined;
   joins = joined_again (first_part shelf) (first_part (without name shelf)) fixed_names roots names sources read.joined (holds_less name shelf) read.joins;
-  reads = read.reads
+  reads = read.reads;
 })
 
 early_less : (name : List ℕ) (shelf : Shelf) (words : List (String Global)) → IsDecidedEarly shelf words → IsDecidedEarly (without name shelf) words
@@ -107,7 +107,7 @@ module _ (shelf : Shelf) (words : List (String Global)) (early : IsDecidedEarly 
     sources = sources;
     refusal = found;
     comes = subst (CommandComes shelf words) e c;
-    said = subst (Appends err err') (same_text code found.code spot (spot_of sources found.place) other (option_map (spot_of sources) found.other) (r.0 ∙ sym code_is) (r.1 ∙ sym spot_is) (r.2 ∙ sym (ap (option_map (spot_of sources)) alone))) w
+    said = subst (Appends err err') (same_text code found.code spot (spot_of sources found.place) other (option_map (spot_of sources) found.other) (r.0 ∙ sym code_is) (r.1 ∙ sym spot_is) (r.2 ∙ sym (ap (option_map (spot_of sources)) alone))) w;
   }
   refused_of err err' code spot other (absent name) x c e r w = absurd r
   refused_of err err' code spot other (compiles design) x c e r w = absurd r
@@ -216,7 +216,7 @@ module _ (shelf : Shelf) (words : List (String Global)) (early : IsDecidedEarly 
       missing = λ e. absurd (not_cut 3 status cut e (λ q. cc) (λ q. cc));
       kept = λ e. absurd (not_kept e);
       part = λ e. part;
-      ends = λ x c. cut_ends f f' status cut x
+      ends = λ x c. cut_ends f f' status cut x;
     }
       where
         not_kept : (status ≡ 1) ⊎ (status ≡ 2) ⊎ (status ≡ 3) → ⊥
@@ -281,7 +281,7 @@ module _ (shelf : Shelf) (words : List (String Global)) (held : Option Shelf) (t
       missing = λ z. absent_new err err' (told_absent words held m m' f f' err err' e e' status s a t z);
       kept = λ z. same;
       part = λ z. inl same;
-      ends = ends_new shelf words early f f' status (told_ends words held m m' f f' err err' e e' status s a t shelf told)
+      ends = ends_new shelf words early f f' status (told_ends words held m m' f f' err err' e e' status s a t shelf told);
     }
 
   -- ---- where there is one
@@ -298,7 +298,7 @@ module _ (shelf : Shelf) (words : List (String Global)) (held : Option Shelf) (t
       missing = λ z. absurd (not_zero 3 z (λ q. cc));
       kept = λ z. absurd (not_kept z);
       part = λ z. absurd (not_cut 0 status z zero (λ q. cc) (λ q. cc));
-      ends = ends_new shelf words early f f' status (output_ends words held m m' f f' err err' 0 0 status text a zero shelf told)
+      ends = ends_new shelf words early f f' status (output_ends words held m m' f f' err err' 0 0 status text a zero shelf told);
     }
       where
         not_zero : (n : ℕ) → status ≡ n → n ≢ 0 → ⊥

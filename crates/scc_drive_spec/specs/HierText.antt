@@ -83,12 +83,12 @@ module _ (whole : ℕ) where
         → ReadsName a (codes " (\n" ++ b) name → ReadsPorts b (codes ");\n" ++ c) vars → ReadsItems false c d declarations → AreDeclarations declarations
         → ReadsInstances d f is → ReadsItems true f (codes "endmodule\n" ++ r) blocks
         → ReadsWith (codes "module " ++ a) r (record {
-            at = whole - length (codes "module " ++ a);
-            raw = record { name = name; ports = vars; items = declarations ++ blocks };
-            before = length (codes "module " ++ a) - length d;
-            lines = length d - length f;
-            instances = is;
-          })
+          at = whole - length (codes "module " ++ a);
+          raw = record { name = name; ports = vars; items = declarations ++ blocks };
+          before = length (codes "module " ++ a) - length d;
+          lines = length d - length f;
+          instances = is;
+        })
 
   -- modules, at least one
   pub data ReadsModules : Bytes → List RawHier → Type 0 where
