@@ -54,8 +54,8 @@ def icarus(job):
 
 def verilated(top, files, folder, seconds):
     """What Verilator's program prints for a testbench."""
-    call(["verilator", "--binary", "-j", "1", "-Wno-fatal", "-Wno-lint", "-Wno-style", "--x-initial", "0", "--x-assign", "0",
-          "--timescale", "1ns/1ns", "--top-module", top, "--Mdir", "verilated", "-o", "simulation", *files], folder, seconds)
+    call(["verilator", "--binary", "-j", "1", "-fno-const-bit-op-tree", "-Wno-fatal", "-Wno-lint", "-Wno-style", "--x-initial", "0",
+          "--x-assign", "0", "--timescale", "1ns/1ns", "--top-module", top, "--Mdir", "verilated", "-o", "simulation", *files], folder, seconds)
     return call([folder / "verilated" / "simulation"], folder, seconds)
 
 
