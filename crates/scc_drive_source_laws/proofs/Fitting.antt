@@ -1,5 +1,5 @@
 -- With what the static stage gives, what fits is orderly.
-use Rattle.std.proofs.Common.{◌≡◌, ℕ, zero, suc, ◌^◌, Bool, true, false, ◌&&◌, List, [], ◌∷◌, length, Option, Some, None, is_some, option_map, unwrap_or, slice_get, refl, sym, ap, ◌∙◌, arith}
+use Rattle.std.proofs.Common.{◌≡◌, ℕ, zero, suc, ◌^◌, Bool, true, false, ◌&&◌, List, [], ◌∷◌, length, map, Option, Some, None, is_some, option_map, unwrap_or, slice_get, refl, sym, ap, ◌∙◌, arith}
 use Rattle.std.specs.Prelude.{nat_lt, nat_le}
 use Rattle.std.specs.List.{list_all}
 use Rattle.scc_bits.specs.Values.{kind_of as operator_kind}
@@ -11,7 +11,7 @@ use Rattle.scc_elab_spec.specs.Program.{Base, Number, OfClass, Input, Output, Si
 use Rattle.scc_elab_spec.specs.Design as design
 use Rattle.scc_elab_spec.specs.Design.{Design}
 use Rattle.scc_elab_spec.specs.Numbering.{callee}
-use Rattle.scc_elab_spec.specs.Types.{is_direct}
+use Rattle.scc_elab_spec.specs.Types.{is_direct, is_reference}
 use Rattle.scc_inline_core_laws.specs.Kinded.{is_kinded, kinded_term, kinded_left, kinded_pick, kinded_target, kinded_object, kinded_arguments, kinded_code}
 use Rattle.scc_inline_counter_laws.specs.Even.{are_even}
 use Rattle.scc_inline_laws.specs.Orderly.{is_object}
@@ -22,7 +22,7 @@ use Rattle.scc_inline_orderly_laws.specs.Whole.{are_orderly, differ, is_orderly_
 use Rattle.scc_inline_orderly_laws.proofs.Bools.{and-first, and-second, all-at}
 use Rattle.scc_inline_orderly_laws.proofs.Closed.{reached-closed, reached-itself}
 use Rattle.scc_plain_bounds_laws.specs.Bounds.{are_sizes, finds, is_bounded, is_bounded_function, is_bounded_local, leaves, may_stand}
-use Rattle.scc_plain_bounds_laws.specs.Within.{within_arguments, within_code, within_left, within_object, within_pick, within_target, within_term}
+use Rattle.scc_plain_bounds_laws.specs.Within.{is_object as is_within_object, within_arguments, within_code, within_left, within_object, within_pick, within_target, within_term}
 use Rattle.scc_drive_source_laws.specs.Fitting.{holds_no_name, fits_term, fits_left, fits_pick, fits_target, fits_object, fit_arguments, fits_call, fits_code, is_unnamed, is_fitting_function, is_fitting_at, is_fitting_program}
 
 both : (a b : Bool) → a ≡ true → b ≡ true → (a && b) ≡ true
@@ -89,9 +89,31 @@ there (x ∷ xs) (suc n) e = there xs n (down n (length xs) e)
     down : (n m : ℕ) → nat_lt (suc n) (suc m) ≡ true → nat_lt n m ≡ true
     down n m e = grind (arith, e)
 
+length-map : {A B : Type 0} (f : A → B) (xs : List A) → length (map f xs) ≡ length xs
+length-map f [] = refl
+length-map f (x ∷ xs) = ap suc (length-map f xs)
+
 module _ (p : Plain) (g : Function) where
-  abbrev b : ℕ
-  b = length g.locals
+  -- what the locals hold
+  abbrev b : List Reach
+  b = map (λ m. m.shape.reach) g.locals
+
+  there-by : (n : ℕ) → nat_lt n (length b) ≡ true → is_some (slice_get g.locals n) ≡ true
+  there-by n e = there g.locals n (ap (nat_lt n) (sym (length-map (λ (m : Member). m.shape.reach) g.locals)) ∙ e)
+
+  reference-at : (ms : List Member) (n : ℕ) → unwrap_or (option_map is_reference (slice_get (map (λ (m : Member). m.shape.reach) ms) n)) false ≡ unwrap_or (option_map (λ (m : Member). is_reference m.shape.reach) (slice_get ms n)) false
+  reference-at [] n = refl
+  reference-at (m ∷ ms) zero = refl
+  reference-at (m ∷ ms) (suc n) = reference-at ms n
+
+  -- the same objects
+  object-by : (l : Left) → is_within_object b l ≡ true → is_object p g l ≡ true
+  object-by (Local q n) e = sym (reference-at g.locals n) ∙ e
+  object-by (Answer q n) e = e
+  object-by (This q) e = refl
+  object-by (Follow q l) e = refl
+  object-by (term.Member l m) e = object-by l e
+  object-by (Index l i) e = object-by l e
 
   two : (a c : Term) → (fits_term p g a ≡ true → kinded_term a ≡ true → within_term b a ≡ true → is_orderly_term p g a ≡ true) → (fits_term p g c ≡ true → kinded_term c ≡ true → within_term b c ≡ true → is_orderly_term p g c ≡ true)
       → (fits_term p g a && fits_term p g c) ≡ true → (kinded_term a && kinded_term c) ≡ true → (within_term b a && within_term b c) ≡ true → (is_orderly_term p g a && is_orderly_term p g c) ≡ true
@@ -115,11 +137,11 @@ module _ (p : Plain) (g : Function) where
     term-orderly (Join q k a c) x y z = two a c (λ x y z. term-orderly a x y z) (λ x y z. term-orderly c x y z) x y z
 
     left-orderly : (l : Left) → fits_left p g l ≡ true → kinded_left l ≡ true → within_left b l ≡ true → is_orderly_left p g l ≡ true
-    left-orderly (Local q n) x y z = there g.locals n z
+    left-orderly (Local q n) x y z = there-by n z
     left-orderly (Answer q n) x y z = x
     left-orderly (This q) x y z = refl
     left-orderly (Follow q l) x y z = left-orderly l x y z
-    left-orderly (term.Member l m) x y z = both (is_orderly_left p g l) (is_object p g l) (left-orderly l (and-first (fits_left p g l) (is_object p g l) x) y z) (and-second (fits_left p g l) (is_object p g l) x)
+    left-orderly (term.Member l m) x y z = both (is_orderly_left p g l) (is_object p g l) (left-orderly l x y (and-first (within_left b l) (is_within_object b l) z)) (object-by l (and-second (within_left b l) (is_within_object b l) z))
     left-orderly (Index l e) x y z =
         let k = and-second (kinded_left l) (kinded_term e) y in
         both (is_orderly_left p g l) (is_orderly_term p g e && is_typed e) (left-orderly l (and-first (fits_left p g l) (fits_term p g e) x) (and-first (kinded_left l) (kinded_term e) y) (and-first (within_left b l) (within_term b e) z))
@@ -137,7 +159,7 @@ module _ (p : Plain) (g : Function) where
 
   object-orderly : (o : Option Left) → fits_object p g o ≡ true → kinded_object o ≡ true → within_object b o ≡ true → is_orderly_object p g o ≡ true
   object-orderly None x y z = refl
-  object-orderly (Some l) x y z = both (is_orderly_left p g l) (is_object p g l) (left-orderly l (and-first (fits_left p g l) (is_object p g l) x) y z) (and-second (fits_left p g l) (is_object p g l) x)
+  object-orderly (Some l) x y z = both (is_orderly_left p g l) (is_object p g l) (left-orderly l x y (and-first (within_left b l) (is_within_object b l) z)) (object-by l (and-second (within_left b l) (is_within_object b l) z))
 
   arguments-orderly : (f : Function) (n : ℕ) (args : List Argument) → fit_arguments p g f n args ≡ true → kinded_arguments args ≡ true → within_arguments b args ≡ true → are_orderly_arguments p g f n args ≡ true
   arguments-orderly f n [] x y z = refl
@@ -167,7 +189,7 @@ module _ (p : Plain) (g : Function) where
   code-orderly : (d : ℕ) (c : Code) → fits_code p g c ≡ true → kinded_code c ≡ true → L d c ≡ true → F c ≡ true → W c ≡ true → is_orderly_code p g d c ≡ true
   code-orderly d End x y h i j = refl
   code-orderly d (Declare q n r) x y h i j =
-      let A = is_some (slice_get g.locals n) in both A (is_orderly_code p g d r) (there g.locals n (and-first (nat_lt n b) (W r) j)) (code-orderly d r x y h i (and-second (nat_lt n b) (W r) j))
+      let A = is_some (slice_get g.locals n) in both A (is_orderly_code p g d r) (there-by n (and-first (nat_lt n (length b)) (W r) j)) (code-orderly d r x y h i (and-second (nat_lt n (length b)) (W r) j))
   code-orderly d (Assign q l k e r) x y h i j =
       let X = fits_pick p g k && (fits_term p g e && fits_code p g r) in let Y = kinded_pick k && (kinded_term e && kinded_code r) in let Z = within_pick b k && (within_term b e && W r) in
       let x1 = and-second (fits_left p g l) X x in let x2 = and-second (fits_pick p g k) (fits_term p g e && fits_code p g r) x1 in
@@ -228,7 +250,7 @@ module _ (p : Plain) (g : Function) where
 
 pub function-orderly : (p : Plain) (g : Function) → is_fitting_function p g ≡ true → kinded_code g.body ≡ true → is_bounded_function g ≡ true → is_orderly_function p g ≡ true
 function-orderly p g x y h =
-    let L = leaves (is_some g.result) 0 g.body in let F = finds (callee g.body) g.body in let W = within_code (length g.locals) g.body in let B = list_all is_bounded_local g.locals in
+    let L = leaves (is_some g.result) 0 g.body in let F = finds (callee g.body) g.body in let W = within_code (map (λ m. m.shape.reach) g.locals) g.body in let B = list_all is_bounded_local g.locals in
     let h1 = and-second L (F && (W && B)) h in let h2 = and-second F (W && B) h1 in
     both (list_all is_orderly_local g.locals) (is_orderly_code p g 0 g.body)
     (locals-orderly g.locals (and-second W B h2) (and-first (list_all is_unnamed g.locals) (fits_code p g g.body) x))

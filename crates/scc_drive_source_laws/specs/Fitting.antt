@@ -1,4 +1,4 @@
--- What the law of copied bodies asks of a program and its design, and the static stage isn't proved to give: results that are there, objects, arguments that fit, names of
+-- What the law of copied bodies asks of a program and its design, and the static stage isn't proved to give: results that are there, arguments that fit, names of
 -- processes, elements that are alike. This project's own.
 use Rattle.std.specs.Prelude.{ℕ, suc, Bool, true, false, ◌&&◌, List, [], ◌∷◌, Option, Some, None, option_map, slice_get, unwrap_or}
 use Rattle.std.specs.List.{list_all}
@@ -7,7 +7,6 @@ use Rattle.scc_elab_spec.specs.Term as term
 use Rattle.scc_elab_spec.specs.Program.{Base, Named, Reach, Direct, Code, End, Declare, Assign, Point, Write, Call, If, Loop, Block, Exit, Return, Wait, Make, Bind, Process, Sensitive, Quiet, Reset, Function, Plain, Member}
 use Rattle.scc_elab_spec.specs.Design.{Design}
 use Rattle.scc_inline_counter_laws.specs.Even.{are_even}
-use Rattle.scc_inline_laws.specs.Orderly.{is_object}
 use Rattle.scc_inline_orderly_laws.specs.Program.{same_run}
 use Rattle.scc_inline_orderly_laws.specs.Reached.{reached}
 use Rattle.scc_inline_orderly_laws.specs.Test.{callee_at, has_result, takes}
@@ -37,7 +36,7 @@ module _ (p : Plain) (g : Function) where
     fits_left (Answer q n) = has_result p g (callee_at p g n)
     fits_left (This q) = true
     fits_left (Follow q l) = fits_left l
-    fits_left (term.Member l m) = fits_left l && is_object p g l
+    fits_left (term.Member l m) = fits_left l
     fits_left (Index l e) = fits_left l && fits_term e
 
   abbrev pub fits_pick : Pick → Bool
@@ -52,7 +51,7 @@ module _ (p : Plain) (g : Function) where
 
   abbrev pub fits_object : Option Left → Bool
   fits_object None = true
-  fits_object (Some l) = fits_left l && is_object p g l
+  fits_object (Some l) = fits_left l
 
   -- arguments of a call of f, from the n-th on
   abbrev pub fit_arguments : Function → ℕ → List Argument → Bool

@@ -1,5 +1,5 @@
 -- The statements of a body write what is bounded.
-use Rattle.std.proofs.Common.{◌≡◌, ℕ, suc, ◌+◌, ◌<◌, ◌≤◌, Bool, true, ◌&&◌, List, [], ◌∷◌, length, Option, Some, None, is_some, refl, if◌then◌else◌, arith}
+use Rattle.std.proofs.Common.{◌≡◌, ℕ, suc, ◌+◌, ◌<◌, ◌≤◌, Bool, true, ◌&&◌, List, [], ◌∷◌, length, Option, Some, None, is_some, refl, ap, ◌∙◌, if◌then◌else◌, arith}
 use Rattle.std.specs.Prelude.{nat_lt}
 use Rattle.scc_base.specs.declared.refusal.Place.{Place}
 use Rattle.scc_templates_spec.specs.Walked.{pure}
@@ -14,12 +14,13 @@ use Rattle.scc_plain_spec.specs.Scope.{Answer}
 use Rattle.scc_plain_spec.specs.Room.{Around, Known, Writes, nothing, then_write, Step}
 use Rattle.scc_plain_spec.specs.Single.{local}
 use Rattle.scc_plain_laws.proofs.Walks.{Gives, gives-in, finds-pure}
-use Rattle.scc_plain_laws.specs.Named.{Names}
+use Rattle.scc_plain_laws.proofs.Named.{Names}
 use Rattle.scc_plain_laws.proofs.Expressions.{condition-gives}
 use Rattle.scc_plain_bounds_laws.specs.Bounds.{leaves, one}
 use Rattle.scc_plain_bounds_laws.specs.Within.{within_code, within_term}
-use Rattle.scc_plain_bounds_laws.proofs.Bounded.{Bounded, Mark, both, lt-true, plain, none, in-turn, branch, exit, block, loop}
-use Rattle.scc_plain_bounds_laws.proofs.Flushes.{IsRoom, lifts, Flushes, flush-done, flush-none, flush-keep, flush-then, flush-map, Wrote, written-flushes, plain-flushes}
+use Rattle.scc_plain_bounds_laws.proofs.Before.{Before, longer, lt-true, on}
+use Rattle.scc_plain_bounds_laws.proofs.Bounded.{Bounded, Mark, both, plain, none, in-turn, branch, exit, block, loop}
+use Rattle.scc_plain_bounds_laws.proofs.Flushes.{IsRoom, length-held, lifts, Flushes, flush-done, flush-none, flush-keep, flush-then, flush-map, Wrote, written-flushes, plain-flushes}
 use Rattle.scc_plain_bounds_laws.proofs.Within.{below, term-within, Knows, knows-more, knows-later}
 use Rattle.scc_plain_spec.specs.Loops.{counted, loop_test, turn, looped, for_loop}
 use Rattle.scc_plain_spec.specs.Switch.{Flow, in_turn, in_cases, Cases, no_cases, labels_in, behind_stmts, switched}
@@ -31,7 +32,7 @@ abbrev Positive : ℕ → Type 0
 Positive d = 0 < d
 
 module _ (v : Bool) where
-  pub order-flushes : (D : ℕ → Type 0) (lo : Mark) {f g : Step Writes} → Flushes v lo lo.locals (Wrote v D lo lo.locals) f → ((mid : Mark) → lo.locals ≤ mid.locals → Flushes v mid mid.locals (Wrote v D mid mid.locals) g) → Flushes v lo lo.locals (Wrote v D lo lo.locals) (in_order f g)
+  pub order-flushes : (D : ℕ → Type 0) (lo : Mark) {f g : Step Writes} → Flushes v lo lo.locals (Wrote v D lo lo.locals) f → ((mid : Mark) → Before lo.locals mid.locals → Flushes v mid mid.locals (Wrote v D mid mid.locals) g) → Flushes v lo lo.locals (Wrote v D lo lo.locals) (in_order f g)
   order-flushes D lo h k = flush-then h (λ x mid a. flush-then (k mid a.grows) (λ y hi b. flush-done {x = then_write x y} (in-turn v D a b)))
 
   before-flushes : (D : ℕ → Type 0) (lo mid : Mark) (x : Writes) {g : Step Writes} → Bounded v D lo mid x → Flushes v mid mid.locals (Wrote v D mid mid.locals) g → Flushes v mid mid.locals (Wrote v D lo lo.locals) (before x g)
@@ -71,24 +72,23 @@ module _ (v : Bool) where
         let one : Positive (suc d) = omega arith in
         let i = b.stays n (turn n (step n code.End)) (suc d) one (e.stays n (step n code.End) (suc d) one (c.stays n code.End (suc d) one refl)) in
         both (leaves v (suc d) (before n (code.Loop p count inner code.End))) (leaves v d r) (a.stays n (code.Loop p count inner code.End) (suc d) one (both (leaves v (suc d) inner) true i refl)) h;
-    grows = let g1 = a.grows in let g2 = b.grows in let g3 = c.grows in let g4 = e.grows in omega (arith, g1, g2, g3, g4);
+    grows = on a.grows (on b.grows (on c.grows e.grows));
     within = λ n r k w h.
         let count = if single then counted counter (before n code.End) (test n code.End) (step n code.End) else None in
         let inner = test n (turn n (step n code.End)) in
-        let g2 = b.grows in let g3 = c.grows in let g4 = e.grows in
-        let i = b.within n (turn n (step n code.End)) k (omega (arith, g3, g4, w)) (e.within n (step n code.End) k w (c.within n code.End k (omega (arith, g4, w)) refl)) in
-        both (within_code k (before n (code.Loop p count inner code.End))) (within_code k r) (a.within n (code.Loop p count inner code.End) k (omega (arith, g2, g3, g4, w)) (both (within_code k inner) true i refl)) h;
+        let i = b.within n (turn n (step n code.End)) k (on c.grows (on e.grows w)) (e.within n (step n code.End) k w (c.within n code.End k (on e.grows w) refl)) in
+        both (within_code k (before n (code.Loop p count inner code.End))) (within_code k r) (a.within n (code.Loop p count inner code.End) k (on b.grows (on c.grows (on e.grows w))) (both (within_code k inner) true i refl)) h;
   }
 
-  so-far : (lo : Mark) → Gives (IsRoom v lo lo.locals) (λ (n : ℕ). n ≡ lo.locals) declared_so_far
-  so-far lo = gives-in {f = λ r. pure (length r.locals)} (λ r k. finds-pure k.count)
+  so-far : (lo : Mark) → Gives (IsRoom v lo lo.locals) (λ (n : ℕ). n ≡ length lo.locals) declared_so_far
+  so-far lo = gives-in {f = λ r. pure (length r.locals)} (λ r k. finds-pure (length-held r.locals ∙ ap length k.held))
 
   -- what a body writes, with at least the locals that it begins with
   abbrev WroteBody : Flow → Mark → Stmts → Mark → Writes → Type 0
-  WroteBody f lo b hi x = Bounded v (Fits f) lo hi x × (lo.locals + leads b ≤ hi.locals)
+  WroteBody f lo b hi x = Bounded v (Fits f) lo hi x × (length lo.locals + leads b ≤ length hi.locals)
 
-  flat : (f : Flow) (lo : Mark) {g : Step Writes} → Flushes v lo lo.locals (Wrote v (Fits f) lo lo.locals) g → Flushes v lo lo.locals (λ hi x. Bounded v (Fits f) lo hi x × (lo.locals + 0 ≤ hi.locals)) g
-  flat f lo h = flush-map (λ hi x a. (a, (let g = a.grows in omega (arith, g)))) h
+  flat : (f : Flow) (lo : Mark) {g : Step Writes} → Flushes v lo lo.locals (Wrote v (Fits f) lo lo.locals) g → Flushes v lo lo.locals (λ hi x. Bounded v (Fits f) lo hi x × (length lo.locals + 0 ≤ length hi.locals)) g
+  flat f lo h = flush-map (λ hi x a. (a, (let g = longer a.grows in omega (arith, g)))) h
 
   module _ (s : Source) (w : World Answer) (a : Around) (is : is_some a.result ≡ v) where
     abbrev IsHeaded : Mark → Mark → Headed → Type 0
@@ -119,7 +119,7 @@ module _ (v : Bool) where
     first f lo b h = flush-map (λ hi x t. t.0) h
 
     -- what stands behind, with the names known before
-    rest : (lo mid : Mark) (f : Flow) (ks : List Known) → Knows lo.locals ks → (b : Stmts) → lo.locals ≤ mid.locals → (Knows mid.locals ks → Flushes v mid mid.locals (WroteBody f mid b) (body s w a f ks b))
+    rest : (lo mid : Mark) (f : Flow) (ks : List Known) → Knows lo.locals ks → (b : Stmts) → Before lo.locals mid.locals → (Knows mid.locals ks → Flushes v mid mid.locals (WroteBody f mid b) (body s w a f ks b))
         → Flushes v mid mid.locals (Wrote v (Fits f) mid mid.locals) (body s w a f ks b)
     rest lo mid f ks known b g h = first f mid b (h (knows-later lo.locals mid.locals ks g known))
 
@@ -132,8 +132,8 @@ module _ (v : Bool) where
           flush-done {x = then_write d.writes y} (in-turn v (Fits f) x.0 b.0, (let i = x.2 in let j = b.1 in omega (arith, i, j)))))
       body-flushes lo f ks known (If p t b c r) = flat f lo (flush-keep (condition-gives (below lo.locals) (lifts v lo lo.locals) s w a ks known f.late t) (λ x h. flush-then (written-flushes v (Fits f) lo lo.locals (λ k. none v (Fits f) (record { calls = k; locals = lo.locals }))) (λ calls m1 k.
           flush-then (rest lo m1 f ks known b k.grows (λ z. body-flushes m1 f ks z b)) (λ y m2 i. flush-then (rest m1 m2 f ks (knows-later lo.locals m1.locals ks k.grows known) c i.grows (λ z. body-flushes m2 f ks z c)) (λ z m3 j.
-          before-flushes (Fits f) lo m3 (then_write calls (λ n k. code.If p x.term (y n code.End) (z n code.End) k)) (in-turn v (Fits f) k (branch v (Fits f) p x.term y z (λ b g. term-within lo.locals b (let u = k.grows in omega (arith, u, g)) x.term h) i j))
-          (rest m2 m3 f ks (knows-later lo.locals m2.locals ks (let u = k.grows in let g = i.grows in omega (arith, u, g)) known) r j.grows (λ z. body-flushes m3 f ks z r)))))))
+          before-flushes (Fits f) lo m3 (then_write calls (λ n k. code.If p x.term (y n code.End) (z n code.End) k)) (in-turn v (Fits f) k (branch v (Fits f) p x.term y z (λ b g. term-within lo.locals b (on k.grows g) x.term h) i j))
+          (rest m2 m3 f ks (knows-later lo.locals m2.locals ks (on k.grows i.grows) known) r j.grows (λ z. body-flushes m3 f ks z r)))))))
       body-flushes lo f ks known (Switch p e is r) = flat f lo (flush-then (selected-flushes v s w a f lo ks known f.late p e) (λ x m1 k.
           let g = k.0.grows in
           flush-then (items-flush m1 m1 f x k.1 (no_cases ks is) is (cases-begin v f m1 ks is (knows-later lo.locals m1.locals ks g known))) (λ c m2 h.
@@ -145,7 +145,7 @@ module _ (v : Bool) where
           before-flushes (Fits f) lo m2 (looped p None (then_write (turn p y) x)) (loop-bounded (Fits f) p (then_write (turn p y) x) (in-turn v Positive (turn-bounded f p y i) h)) (rest m1 m2 f ks (knows-later lo.locals m1.locals ks i.grows known) r h.grows (λ z. body-flushes m2 f ks z r)))))
       body-flushes lo f ks known (For p h t e b r) = flat f lo (flush-keep (so-far lo) (λ n u. flush-then (head-flushes lo ks known h) (λ x m1 i. flush-then (tested-if-flushes m1 x.known i.1 t) (λ y m2 j.
           flush-then (changed-flushes m2 x.known (knows-later m1.locals m2.locals x.known j.grows i.1) e) (λ z m3 k. flush-then (rest m2 m3 (in_turn f) x.known (knows-later m1.locals m2.locals x.known j.grows i.1) b k.grows (λ z. body-flushes m3 (in_turn f) x.known z b)) (λ u m4 l.
-          let g : lo.locals ≤ m4.locals = let g1 = i.0.grows in let g2 = j.grows in let g3 = k.grows in let g4 = l.grows in omega (arith, g1, g2, g3, g4) in
+          let g : Before lo.locals m4.locals = on i.0.grows (on j.grows (on k.grows l.grows)) in
           before-flushes (Fits f) lo m4 (for_loop p (one_name h) n x.writes y (turn p u) z) (for-bounded (Fits f) p (one_name h) n lo m1 m2 m3 m4 x.writes y z (turn p u) i.0 j k (turn-bounded f p u l)) (rest lo m4 f ks known r g (λ z. body-flushes m4 f ks z r))))))))
       body-flushes lo f ks known (Break p r) = flat f lo (order-flushes (Fits f) lo (leave-flushes (Fits f) lo p f.leave (λ d u. u.0)) (λ m g. rest lo m f ks known r g (λ z. body-flushes m f ks z r)))
       body-flushes lo f ks known (Continue p r) = flat f lo (order-flushes (Fits f) lo (leave-flushes (Fits f) lo p f.next (λ d u. u.1)) (λ m g. rest lo m f ks known r g (λ z. body-flushes m f ks z r)))
@@ -157,7 +157,7 @@ module _ (v : Bool) where
       body-flushes lo f ks known (Reset p e l asynchronous r) = flat f lo (order-flushes (Fits f) lo (reset-flushes v (Fits f) lo s w a ks known f.late p e l asynchronous) (λ m g. rest lo m f ks known r g (λ z. body-flushes m f ks z r)))
       body-flushes lo f ks known (Simply e r) = flat f lo (order-flushes (Fits f) lo (simple-flushes v (Fits f) lo s w a ks known f.late e) (λ m g. rest lo m f ks known r g (λ z. body-flushes m f ks z r)))
 
-      items-flush : (lo hi : Mark) (f : Flow) (x : Selected) → below lo.locals x.local ≡ true → (c : Cases) (is : Items) → IsCases v f lo hi (labels_in is) c → Flushes v hi hi.locals (λ m c. IsCases v f lo m 0 c) (items s w a f x c is)
+      items-flush : (lo hi : Mark) (f : Flow) (x : Selected) → nat_lt x.local (length lo.locals) ≡ true → (c : Cases) (is : Items) → IsCases v f lo hi (labels_in is) c → Flushes v hi hi.locals (λ m c. IsCases v f lo m 0 c) (items s w a f x c is)
       items-flush lo hi f x there c NoItems k = flush-done {x = c} k
       items-flush lo hi f x there c (Case p e is) k = flush-keep (case-finds v s w a f lo hi (labels_in is) c x p e there k) (λ d h. items-flush lo hi f x there d is h)
       items-flush lo hi f x there c (Otherwise p is) k = flush-keep (otherwise-finds v s w a f lo hi (labels_in is) c p k) (λ d h. items-flush lo hi f x there d is h)

@@ -11,6 +11,7 @@ use Rattle.scc_templates_spec.specs.Tree as tree
 use Rattle.scc_templates_spec.specs.Source.{Source}
 use Rattle.scc_elab_spec.specs.Term.{Left, Target, Whole}
 use Rattle.scc_elab_spec.specs.Term as term
+use Rattle.scc_elab_spec.specs.Program.{Reach}
 use Rattle.scc_plain_spec.specs.Types.{Base, OfNumber}
 use Rattle.scc_plain_spec.specs.Names.{Entry, IsField, meaning_in}
 use Rattle.scc_plain_spec.specs.Scope.{Answer}
@@ -21,7 +22,7 @@ use Rattle.scc_plain_spec.specs.Shapes.{field_form}
 use Rattle.scc_plain_spec.specs.Simple.{only}
 use Rattle.scc_plain_spec.specs.Single.{begun}
 use Rattle.scc_plain_laws.proofs.Walks.{gives-found}
-use Rattle.scc_plain_laws.specs.Named.{NamesLeft}
+use Rattle.scc_plain_laws.proofs.Named.{NamesLeft}
 use Rattle.scc_plain_laws.proofs.Calls.{converted-finds}
 use Rattle.scc_plain_laws.proofs.Values.{any-found, IsTypedValue, IsTypedGoal, only-typed, each-gives, made-gives, make-gives, names-give, last-gives}
 use Rattle.scc_plain_bounds_laws.proofs.Bounded.{Mark, none}
@@ -31,7 +32,7 @@ use Rattle.scc_plain_spec.specs.Inits.{is_object, aimed, made_at, pointed, numbe
 use Rattle.scc_plain_spec.specs.Inits as inits
 
 module _ (v : Bool) (D : ℕ → Type 0) (lo : Mark) (s : Source) (w : World Answer) (a : Around) (ks : List Known) (known : Knows lo.locals ks) where
-  abbrev m : ℕ
+  abbrev m : List Reach
   m = lo.locals
 
   abbrev Flat : Step Writes → Type 0
@@ -67,7 +68,7 @@ module _ (v : Bool) (D : ℕ → Type 0) (lo : Mark) (s : Source) (w : World Ans
 
   member-flushes : (c : ℕ) (as_given : Args) (p : Place) (xs : Trees) (e : Option Entry) → Flat (member_begun s w a ks c as_given p xs e)
   member-flushes c as_given p xs None = flush-none (λ r. refl)
-  member-flushes c as_given p xs (Some (IsField k)) = flush-keep (any-found (and_walk (field_form s w c as_given k p) (λ f. and_walk (meets Uses) (λ u. pure f)))) (λ f t. begun-flushes p f (term.Member (term.This p) k) xs tt)
+  member-flushes c as_given p xs (Some (IsField k)) = flush-keep (any-found (and_walk (field_form s w c as_given k p) (λ f. and_walk (meets Uses) (λ u. pure f)))) (λ f t. begun-flushes p f (term.Member (term.This p) k) xs (tt, refl))
   member-flushes c as_given p xs (Some e) = flush-none (λ r. refl)
 
   owner-flushes : (o : Owner) (p : Place) (x : ℕ) (xs : Trees) → Flat (by_owner s w a ks o p x xs)

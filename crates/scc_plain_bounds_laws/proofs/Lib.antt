@@ -1,3 +1,5 @@
+pub mod Before
+pub mod Needed
 pub mod Bounded
 pub mod Found
 pub mod Shapes

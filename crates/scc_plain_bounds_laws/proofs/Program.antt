@@ -11,13 +11,14 @@ use Rattle.scc_templates_spec.specs.Replace.{Bound, replace_all}
 use Rattle.scc_templates_spec.specs.ReplaceBody.{replace_stmts}
 use Rattle.scc_templates_spec.specs.Source.{Source, Function, Init}
 use Rattle.scc_elab_spec.specs.Program as code
+use Rattle.scc_elab_spec.specs.Program.{Reach}
 use Rattle.scc_elab_spec.specs.Numbering.{callee}
 use Rattle.scc_plain_first.specs.Static.{staged, refusal_of}
 use Rattle.scc_plain_spec.specs.Scope.{Answer}
 use Rattle.scc_plain_spec.specs.Functions.{Routine}
 use Rattle.scc_plain_spec.specs.Meaning.{site_of}
 use Rattle.scc_plain_spec.specs.Keys.{outermost}
-use Rattle.scc_plain_spec.specs.Room.{Around, Known, Numbering, Writes, nothing}
+use Rattle.scc_plain_spec.specs.Room.{Around, Known, Local, Numbering, Writes, nothing}
 use Rattle.scc_plain_spec.specs.Shapes.{owner_of}
 use Rattle.scc_plain_spec.specs.Switch.{start}
 use Rattle.scc_plain_spec.specs.ClassWalk.{Met}
@@ -27,10 +28,11 @@ use Rattle.scc_plain_spec.specs.Program.{numbering, function_of, walks, plain_of
 use Rattle.scc_plain_laws.proofs.Drafted.{some-is}
 use Rattle.scc_plain_laws.proofs.Walks.{Finds, finds-pure, finds-then, finds-behind}
 use Rattle.scc_plain_bounds_laws.specs.Bounds.{finds, is_bounded, is_bounded_function, is_bounded_local, leaves, one, times}
+use Rattle.scc_plain_bounds_laws.proofs.Before.{same}
 use Rattle.scc_plain_bounds_laws.proofs.Bounded.{Bounded, Mark, Anywhere, both, none}
 use Rattle.scc_plain_bounds_laws.proofs.Found.{finds-own}
-use Rattle.scc_plain_bounds_laws.proofs.Shapes.{AllLocals, locals-bounded, params-are, signature-finds}
-use Rattle.scc_plain_bounds_laws.proofs.Flushes.{Flushes, flush-done, flush-then, Wrote}
+use Rattle.scc_plain_bounds_laws.proofs.Shapes.{AllLocals, reaches, locals-bounded, params-are, signature-finds}
+use Rattle.scc_plain_bounds_laws.proofs.Flushes.{Flushes, length-held, flush-done, flush-then, Wrote}
 use Rattle.scc_plain_bounds_laws.proofs.Inits.{init-flushes}
 use Rattle.scc_plain_bounds_laws.proofs.Switch.{Fits}
 use Rattle.scc_plain_bounds_laws.proofs.Within.{Knows, knows-later, knows-more, knows-none}
@@ -44,7 +46,7 @@ record IsWithin (x : Routed) : Type 0 where
   stays : (n : Numbering) → leaves (is_some x.result) 0 (x.body n code.End) ≡ true
   calls : (n : Numbering) (k : ℕ) → times k (x.body n code.End) ≤ 1
   locals : AllLocals x.locals
-  names : (n : Numbering) → within_code (length x.locals) (x.body n code.End) ≡ true
+  names : (n : Numbering) → within_code (reaches x.locals) (x.body n code.End) ≡ true
 
 made-is : {A : Type 0} {x y : A} → Made x ≡ Made y → x ≡ y
 made-is e = cc
@@ -53,9 +55,10 @@ kept-all : (o : Option code.Function) (fs : List code.Function) → ((f : code.F
 kept-all None fs h k = k
 kept-all (Some f) fs h k = both (is_bounded_function f) (list_all is_bounded_function fs) (h f refl) k
 
-length-map : {A B : Type 0} (f : A → B) (xs : List A) → length (map f xs) ≡ length xs
-length-map f [] = refl
-length-map f (x ∷ xs) = ap suc (length-map f xs)
+-- in the program locals hold what they hold here
+reaches-in : (n : Numbering) (ls : List Local) → map (λ (m : code.Member). m.shape.reach) (map (member_in n) ls) ≡ reaches ls
+reaches-in n [] = refl
+reaches-in n (l ∷ ls) = ap (λ rs. l.shape.reach ∷ rs) (reaches-in n ls)
 
 few : (b : Bool) (i : ℕ) → i ≤ 0 + one b → i ≤ 1
 few true i e = omega (arith, e)
@@ -78,11 +81,11 @@ module _ (s : Source) (w : World Answer) where
   written-within v x lo hi b = (
     (λ n. b.stays n code.End 0 (tt, tt) refl),
     (λ n k. few (nat_lt k hi.calls) (times k (x n code.End)) (let z : times k (x n code.End) + one (nat_lt k lo.calls) ≤ 0 + one (nat_lt k hi.calls) = b.calls n code.End k in omega (arith, z))),
-    (λ n. b.within n code.End hi.locals (omega arith) refl),
+    (λ n. b.within n code.End hi.locals (same hi.locals) refl),
   )
 
   -- the names of parameters mean the first locals
-  params-know : (n m : ℕ) (qs : List source.Taken) (ks : List Known) → n + length qs ≤ m → Knows m ks → Knows m (param_names n qs ks)
+  params-know : (n : ℕ) (m : List Reach) (qs : List source.Taken) (ks : List Known) → n + length qs ≤ length m → Knows m ks → Knows m (param_names n qs ks)
   params-know n m [] ks h f = f
   params-know n m (q ∷ qs) ks h f = params-know (suc n) m qs (record { name = q.name; local = n } ∷ ks) (omega (arith, h)) (knows-more m (record { name = q.name; local = n }) ks (omega (arith, h)) f)
 
@@ -96,16 +99,17 @@ module _ (s : Source) (w : World Answer) where
       down m n e = omega (arith, e)
 
   routed-finds : (f : Callee) (r : Routine) (p : Place) → Finds IsWithin (routed s w f r p)
-  routed-finds f r p = finds-then (signature-finds s w (owner_of f) r p) (λ g h. finds-behind (site_of s w (owner_of f) p) (λ at. finds-then {P = λ x. ((n : Numbering) → leaves (is_some g.result) 0 (x.it.body n code.End) ≡ true) × ((n : Numbering) (k : ℕ) → times k (x.it.body n code.End) ≤ 1) × AllLocals x.room.locals × ((n : Numbering) → within_code (length x.room.locals) (x.it.body n code.End) ≡ true)}
+  routed-finds f r p = finds-then (signature-finds s w (owner_of f) r p) (λ g h. finds-behind (site_of s w (owner_of f) p) (λ at. finds-then {P = λ x. ((n : Numbering) → leaves (is_some g.result) 0 (x.it.body n code.End) ≡ true) × ((n : Numbering) (k : ℕ) → times k (x.it.body n code.End) ≤ 1) × AllLocals x.room.locals × ((n : Numbering) → within_code (reaches x.room.locals) (x.it.body n code.End) ≡ true)}
       (record {
         holds = λ x e.
             let a : Around = record { owner = owner_of f; own = at.scope.own; result = g.result } in
             let qs = r.function.params in
             let many = params-many qs g.params h.1 in
-            let lo : Mark = record { calls = 0; locals = length qs } in
-            let z = (parts-flush (is_some g.result) a refl (param_names 0 qs []) (hide_params qs r.bound) lo (params-know 0 (length qs) qs [] (omega arith) (knows-none (length qs))) r.function).holds (room_of s w g r.function)
-            (record { lifted = none (is_some g.result) Anywhere lo; count = many; locals = params-are qs g.params h.0 }) x e in
-            let u = written-within (is_some g.result) x.it.body z.1.0 z.0 z.1.1 in (u.0, u.1, z.2.locals, (λ n. subst (λ m. within_code m (x.it.body n code.End) ≡ true) (sym z.2.count) (u.2 n)));
+            let ms = reaches (param_locals qs g.params) in
+            let lo : Mark = record { calls = 0; locals = ms } in
+            let z = (parts-flush (is_some g.result) a refl (param_names 0 qs []) (hide_params qs r.bound) lo (params-know 0 ms qs [] (let held = length-held (param_locals qs g.params) in omega (arith, many, held)) (knows-none ms)) r.function).holds (room_of s w g r.function)
+            (record { lifted = none (is_some g.result) Anywhere lo; held = refl; locals = params-are qs g.params h.0 }) x e in
+            let u = written-within (is_some g.result) x.it.body z.1.0 z.0 z.1.1 in (u.0, u.1, z.2.locals, (λ n. subst (λ m. within_code m (x.it.body n code.End) ≡ true) (sym z.2.held) (u.2 n)));
       })
       (λ x t. finds-pure {x = record { routine = r; owner = owner_of f; result = g.result; locals = x.room.locals; inits = x.it.inits; body = x.it.body }} (record { stays = t.0; calls = t.1; locals = t.2; names = t.3 }))))
 
@@ -115,10 +119,11 @@ module _ (s : Source) (w : World Answer) where
       let i = h x refl in
       let b = x.body n code.End in
       let ms = map (member_in n) x.locals in
+      let rs = map (λ (m : code.Member). m.shape.reach) ms in
       subst (λ f. is_bounded_function f ≡ true) (some-is e)
-      (both (leaves (is_some x.result) 0 b) (finds (callee b) b && (within_code (length ms) b && list_all is_bounded_local ms)) (i.stays n)
-      (both (finds (callee b) b) (within_code (length ms) b && list_all is_bounded_local ms) (finds-own b (i.calls n))
-      (both (within_code (length ms) b) (list_all is_bounded_local ms) (subst (λ m. within_code m b ≡ true) (sym (length-map (member_in n) x.locals)) (i.names n)) (locals-bounded n x.locals i.locals))))
+      (both (leaves (is_some x.result) 0 b) (finds (callee b) b && (within_code rs b && list_all is_bounded_local ms)) (i.stays n)
+      (both (finds (callee b) b) (within_code rs b && list_all is_bounded_local ms) (finds-own b (i.calls n))
+      (both (within_code rs b) (list_all is_bounded_local ms) (subst (λ m. within_code m b ≡ true) (sym (reaches-in n x.locals)) (i.names n)) (locals-bounded n x.locals i.locals))))
 
   functions-bounded : (n : Numbering) (ms : List Met) → list_all is_bounded_function (filter_map (function_of s w n) ms) ≡ true
   functions-bounded n [] = refl

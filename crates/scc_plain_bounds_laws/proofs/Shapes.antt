@@ -24,7 +24,7 @@ use Rattle.scc_plain_spec.specs.Room.{Around, Local, Numbering, base_number}
 use Rattle.scc_plain_spec.specs.Shapes.{Signature, size, sizes, shape, may_be_param, param_form, param_forms, result_of, signature}
 use Rattle.scc_plain_spec.specs.Single.{may_be_local, checked}
 use Rattle.scc_plain_spec.specs.Whole.{member_in, param_locals}
-use Rattle.scc_plain_laws.proofs.Walks.{Finds, finds-pure, finds-none, finds-then, finds-behind, by-option}
+use Rattle.scc_plain_laws.proofs.Walks.{Finds, finds-pure, finds-none, finds-then, finds-behind, finds-when, by-option}
 use Rattle.scc_plain_bounds_laws.specs.Bounds.{are_sizes, is_bounded_local, may_stand}
 use Rattle.scc_plain_bounds_laws.proofs.Bounded.{both}
 
@@ -42,13 +42,13 @@ abbrev pub AllLocals : List Local → Type 0
 AllLocals [] = Unit {0}
 AllLocals (l ∷ ls) = IsLocal l.shape × AllLocals ls
 
+-- what locals hold
+abbrev pub reaches : List Local → List Reach
+reaches ls = map (λ l. l.shape.reach) ls
+
 pub locals-more : (ls : List Local) (l : Local) → AllLocals ls → IsLocal l.shape → AllLocals (ls ++ l ∷ [])
 locals-more [] l h i = (i, tt)
 locals-more (k ∷ ls) l h i = (h.0, locals-more ls l h.1 i)
-
-finds-when : {A : Type 0} {P : A → Type 0} {x y : Walked A} (b : Bool) → (b ≡ true → Finds P x) → Finds P y → Finds P (if b then x else y)
-finds-when true f g = f refl
-finds-when false f g = g
 
 and-second : (a b : Bool) → (a && b) ≡ true → b ≡ true
 and-second true b e = e

@@ -8,6 +8,7 @@ use Rattle.scc_templates_spec.specs.World.{World}
 use Rattle.scc_templates_spec.specs.Tree.{Tree, Trees, place_of}
 use Rattle.scc_templates_spec.specs.Tree as tree
 use Rattle.scc_templates_spec.specs.Source.{Source}
+use Rattle.scc_elab_spec.specs.Program.{Reach}
 use Rattle.scc_plain_spec.specs.Scope.{Answer}
 use Rattle.scc_plain_spec.specs.Calls.{is_zero}
 use Rattle.scc_plain_spec.specs.Drafts.{Draft}
@@ -17,7 +18,7 @@ use Rattle.scc_plain_spec.specs.Room.{Around, Known}
 use Rattle.scc_plain_spec.specs.Simple.{assigned, left_kind, stored, store, combined, pointing, point, assign, only, written_to, binds, refused, port_call, on_subject, called}
 use Rattle.scc_plain_laws.proofs.Meanings.{value-at-is}
 use Rattle.scc_plain_laws.proofs.Walks.{Finds, finds-none, finds-if, gives-found, finds-pure, finds-then, by-base}
-use Rattle.scc_plain_laws.specs.Named.{Names, NamesLoc, NamesMeant, NamesPick, NamesSubject, NamesTaken}
+use Rattle.scc_plain_laws.proofs.Named.{Names, NamesLoc, NamesMeant, NamesPick, NamesSubject, NamesTaken}
 use Rattle.scc_plain_laws.proofs.Calls.{IsTypedDraft, converted-finds, target-finds}
 use Rattle.scc_plain_laws.proofs.Expressions.{operate-finds, meant-gives, any-gives}
 use Rattle.scc_plain_laws.proofs.Values.{any-found, IsTypedValue, only-typed, right-gives, each-gives, bound-gives, made-gives}
@@ -25,19 +26,19 @@ use Rattle.scc_plain_bounds_laws.proofs.Bounded.{Bounded, Mark, none}
 use Rattle.scc_plain_bounds_laws.proofs.Flushes.{lifts, Flushes, flush-none, flush-keep, flush-if, Wrote, written-flushes, plain-flushes}
 use Rattle.scc_plain_bounds_laws.proofs.Within.{below, Knows, assign-plain, point-plain, write-plain}
 
-pub assigned-finds : (m : ℕ) (p : Place) (n : Meant) → NamesMeant (below m) n → Finds (NamesLoc (below m)) (assigned p n)
+pub assigned-finds : (m : List Reach) (p : Place) (n : Meant) → NamesMeant (below m) n → Finds (NamesLoc (below m)) (assigned p n)
 assigned-finds m p (Stands l) t = finds-if (nat_eq l.form.dims 0 && (not l.form.vector || is_pointer l.form)) (finds-pure t) (finds-none refl)
 assigned-finds m p n t = finds-none refl
 
-pick-named : (m : ℕ) (t : Taken) → NamesTaken (below m) t → NamesPick (below m) (pick_in t)
+pick-named : (m : List Reach) (t : Taken) → NamesTaken (below m) t → NamesPick (below m) (pick_in t)
 pick-named m AllOf t = tt
 pick-named m (BitsOf k j) t = t
 
-pub combined-finds : (m : ℕ) (p : Place) (l : Loc) (o : Option Op) (at : Place) (x : Draft) → NamesLoc (below m) l → Names (below m) x.term → Finds (IsTypedDraft (below m)) (combined p l o at x)
+pub combined-finds : (m : List Reach) (p : Place) (l : Loc) (o : Option Op) (at : Place) (x : Draft) → NamesLoc (below m) l → Names (below m) x.term → Finds (IsTypedDraft (below m)) (combined p l o at x)
 combined-finds m p l None at x t u = finds-pure u
 combined-finds m p l (Some o) at x t u = finds-then {P = IsTypedDraft (below m)} (record { holds = λ y e. value-at-is (below m) p l y t e }) (λ old h. operate-finds (below m) p at o old x h u)
 
-module _ (v : Bool) (D : ℕ → Type 0) (lo : Mark) (m : ℕ) where
+module _ (v : Bool) (D : ℕ → Type 0) (lo : Mark) (m : List Reach) where
   stored-bounded : (k : ℕ) (p : Place) (l : Loc) (x : Draft) → NamesLoc (below m) l → Names (below m) x.term → Bounded v D (record { calls = k; locals = m }) (record { calls = k; locals = m }) (stored p l x)
   stored-bounded k p l x t u = by-base l.form.base (λ j g. rw g (assign-plain v D k m p l.left (pick_in l.taken) x.term t.0 (pick-named m l.taken t.1) u)) (λ c xs g. rw g (write-plain v D k m p l.left x.term t.0 u)) (λ j g. rw g (write-plain v D k m p l.left x.term t.0 u))
       (λ j g. rw g (write-plain v D k m p l.left x.term t.0 u)) (λ j g. rw g (write-plain v D k m p l.left x.term t.0 u)) (λ g. rw g (write-plain v D k m p l.left x.term t.0 u))

@@ -1,5 +1,6 @@
 -- Statements that hold no others write what is bounded.
-use Rattle.std.proofs.Common.{◌≡◌, ℕ, ◌+◌, ◌<◌, ◌≤◌, Bool, true, nat_eq, List, ◌∷◌, Option, Some, None, is_some, refl, arith}
+use Rattle.std.proofs.Common.{◌≡◌, ℕ, ◌+◌, ◌<◌, ◌≤◌, Bool, true, nat_eq, List, [], ◌∷◌, ◌++◌, length, Option, Some, None, is_some, refl, ap, arith}
+use Rattle.std.specs.Prelude.{nat_lt}
 use Rattle.scc_base.specs.declared.refusal.Place.{Place}
 use Rattle.scc_bits_kinds.specs.declared.kind.Kind.{Kind}
 use Rattle.scc_templates_spec.specs.World.{World}
@@ -10,6 +11,7 @@ use Rattle.scc_templates_spec.specs.Source.{Source}
 use Rattle.scc_elab_spec.specs.Term.{Target, Whole}
 use Rattle.scc_elab_spec.specs.Term as term
 use Rattle.scc_elab_spec.specs.Program as code
+use Rattle.scc_elab_spec.specs.Program.{Reach}
 use Rattle.scc_plain_spec.specs.Numbers.{int, number}
 use Rattle.scc_plain_spec.specs.Types.{OfNumber, OfObject, InPort, OutPort, OfSignal, OfName}
 use Rattle.scc_plain_spec.specs.Scope.{Answer}
@@ -23,11 +25,12 @@ use Rattle.scc_plain_spec.specs.Simple.{left_kind, last_args}
 use Rattle.scc_plain_spec.specs.Single.{Declaring, unless_array, number_begun, target_begun, begun, local, simple, give, edges, wait}
 use Rattle.scc_plain_spec.specs.Processes.{process_named, process, reset, senses}
 use Rattle.scc_plain_laws.proofs.Walks.{Finds, finds-none, finds-if, gives-found, gives-then, finds-pure, finds-then, by-base}
-use Rattle.scc_plain_laws.specs.Named.{Names, NamesTarget}
+use Rattle.scc_plain_laws.proofs.Named.{Names, NamesTarget}
 use Rattle.scc_plain_laws.proofs.Calls.{IsTypedDraft, converted-finds, target-finds}
 use Rattle.scc_plain_laws.proofs.Expressions.{meant-gives, value-gives, condition-gives}
 use Rattle.scc_plain_laws.proofs.Values.{any-found, senses-give, edge-gives}
-use Rattle.scc_plain_bounds_laws.proofs.Bounded.{Bounded, Mark, lt-true}
+use Rattle.scc_plain_bounds_laws.proofs.Before.{length-next, lt-true, next}
+use Rattle.scc_plain_bounds_laws.proofs.Bounded.{Bounded, Mark}
 use Rattle.scc_plain_bounds_laws.proofs.Shapes.{local-finds}
 use Rattle.scc_plain_bounds_laws.proofs.Flushes.{lifts, Flushes, flush-done, flush-none, flush-keep, flush-then, flush-if, flush-declare, Wrote, written-flushes, plain-flushes, written-at}
 use Rattle.scc_plain_bounds_laws.proofs.Within.{below, Knows, knows-more, knows-later, assign-plain, point-plain, declare-plain, return-plain}
@@ -35,10 +38,10 @@ use Rattle.scc_plain_bounds_laws.proofs.Simple.{assigned-finds, combined-finds, 
 
 module _ (v : Bool) (D : ℕ → Type 0) (lo : Mark) (s : Source) (w : World Answer) (a : Around) where
   -- what begins a local, of which there are so many then
-  abbrev Began : ℕ → Mark → Writes → Type 0
+  abbrev Began : List Reach → Mark → Writes → Type 0
   Began m hi x = Bounded v D lo hi x × (hi.locals ≡ m)
 
-  module _ (m : ℕ) (ks : List Known) (known : Knows m ks) (late : Bool) (p : Place) (n : ℕ) (f : Form) (there : below m n ≡ true) where
+  module _ (m : List Reach) (ks : List Known) (known : Knows m ks) (late : Bool) (p : Place) (n : ℕ) (f : Form) (there : nat_lt n (length m) ≡ true) where
     number-flushes : (k : Kind) (e : Tree) → Flushes v lo m (Began m) (number_begun s w a ks late p n f k e)
     number-flushes k e = flush-keep (value-gives (below m) (lifts v lo m) s w a ks known late e) (λ x t. flush-keep (gives-found (finds-then (unless-finds x t) (λ y u. converted-finds (below m) k y u))) (λ y u. written-at v D lo m (λ i. assign-plain v D i m p (term.Local p n) Whole y.term there tt u)))
       where
@@ -51,7 +54,7 @@ module _ (v : Bool) (D : ℕ → Type 0) (lo : Mark) (s : Source) (w : World Ans
         unless-finds : (x : Target) → NamesTarget (below m) x → Finds (NamesTarget (below m)) (unless_array s w a p f x)
         unless-finds x t = finds-if (nat_eq f.dims 0) (finds-pure t) (finds-none refl)
 
-  begins : (m : ℕ) (ks : List Known) → Knows m ks → (late : Bool) (p : Place) (n : ℕ) (f : Form) → below m n ≡ true → (e : Option Tree) → Flushes v lo m (Began m) (begun s w a ks late p n f e)
+  begins : (m : List Reach) (ks : List Known) → Knows m ks → (late : Bool) (p : Place) (n : ℕ) (f : Form) → nat_lt n (length m) ≡ true → (e : Option Tree) → Flushes v lo m (Began m) (begun s w a ks late p n f e)
   begins m ks known late p n f there None = written-at v D lo m (λ i. declare-plain v D i m p n there)
   begins m ks known late p n f there (Some e) = flush-if (is_direct f) (by-base f.base (λ k g. rw g (number-flushes m ks known late p n (record f { base = OfNumber k }) there k e)) (λ c xs g. rw g (target-flushes m ks known late p n (record f { base = OfObject c xs }) there e))
       (λ k g. rw g (target-flushes m ks known late p n (record f { base = InPort k }) there e)) (λ k g. rw g (target-flushes m ks known late p n (record f { base = OutPort k }) there e)) (λ k g. rw g (target-flushes m ks known late p n (record f { base = OfSignal k }) there e)) (λ g. rw g (target-flushes m ks known late p n (record f { base = OfName }) there e)))
@@ -59,16 +62,18 @@ module _ (v : Bool) (D : ℕ → Type 0) (lo : Mark) (s : Source) (w : World Ans
 
   -- what is written of a declaration, and the local that is known behind it
   abbrev pub Declared : Mark → Declaring → Type 0
-  Declared hi d = Bounded v D lo hi d.writes × (d.known.local < hi.locals) × (lo.locals + 1 ≤ hi.locals)
+  Declared hi d = Bounded v D lo hi d.writes × (d.known.local < length hi.locals) × (length lo.locals + 1 ≤ length hi.locals)
 
   pub local-flushes : (ks : List Known) → Knows lo.locals ks → (late : Bool) (l : Local) → Flushes v lo lo.locals Declared (local s w a ks late l)
   local-flushes ks known late l = flush-keep (gives-found (local-finds s w a (scope_in a ks) l.type l.hold l.sizes l.place)) (λ h i. flush-declare v lo lo.locals (record { name = l.name; place = l.place; shape = h }) i (λ n same.
-      let there : n < lo.locals + 1 = omega (arith, same) in
-      flush-then (begins (lo.locals + 1) (record { name = l.name; local = n } ∷ ks) (knows-more (lo.locals + 1) (record { name = l.name; local = n }) ks there (knows-later lo.locals (lo.locals + 1) ks (omega arith) known)) late l.place n (form_of h) (lt-true n (lo.locals + 1) there) l.value)
-      (λ x hi k. flush-done {x = record { writes = x; known = record { name = l.name; local = n } }} (k.0, (let z = k.1 in omega (arith, z, same)), (let z = k.1 in omega (arith, z))))))
+      let m = lo.locals ++ h.reach ∷ [] in
+      let more : length m ≡ length lo.locals + 1 = length-next lo.locals h.reach in
+      let there : n < length m = omega (arith, same, more) in
+      flush-then (begins m (record { name = l.name; local = n } ∷ ks) (knows-more m (record { name = l.name; local = n }) ks there (knows-later lo.locals m ks (next lo.locals h.reach) known)) late l.place n (form_of h) (lt-true n (length m) there) l.value)
+      (λ x hi k. flush-done {x = record { writes = x; known = record { name = l.name; local = n } }} (k.0, (let z = ap length k.1 in omega (arith, z, same, more)), (let z = ap length k.1 in omega (arith, z, more))))))
 
   module _ (ks : List Known) (known : Knows lo.locals ks) (late : Bool) where
-    abbrev m : ℕ
+    abbrev m : List Reach
     m = lo.locals
 
     pub simple-flushes : (e : Simple) → Flushes v lo m (Wrote v D lo m) (simple s w a ks late e)

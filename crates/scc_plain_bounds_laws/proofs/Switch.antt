@@ -1,5 +1,5 @@
 -- A switch writes what is bounded: tests leave no more blocks than labels make, and what stands behind a label stands in as many blocks more as labels follow.
-use Rattle.std.proofs.Common.{◌≡◌, ℕ, suc, ◌+◌, ◌<◌, ◌≤◌, Bool, true, false, ◌&&◌, List, [], ◌∷◌, Option, Some, None, option_map, ◌-◌, refl, sym, ap, ◌∙◌, subst, if◌then◌else◌, arith}
+use Rattle.std.proofs.Common.{◌≡◌, ℕ, suc, ◌+◌, ◌<◌, ◌≤◌, Bool, true, false, ◌&&◌, List, [], ◌∷◌, ◌++◌, length, Option, Some, None, option_map, ◌-◌, refl, sym, ap, ◌∙◌, subst, if◌then◌else◌, arith}
 use Rattle.std.specs.Prelude.{nat_lt}
 use Rattle.scc_base.specs.declared.refusal.Place.{Place}
 use Rattle.scc_bits_kinds.specs.declared.kind.Kind.{Kind}
@@ -13,7 +13,7 @@ use Rattle.scc_templates_spec.specs.Statements.{Stmts, Declare, Items, Local}
 use Rattle.scc_templates_spec.specs.Source.{Source}
 use Rattle.scc_elab_spec.specs.Term.{Term, Whole}
 use Rattle.scc_elab_spec.specs.Term as term
-use Rattle.scc_elab_spec.specs.Program.{Direct}
+use Rattle.scc_elab_spec.specs.Program.{Reach, Direct}
 use Rattle.scc_elab_spec.specs.Program as code
 use Rattle.scc_plain_spec.specs.Types.{OfNumber}
 use Rattle.scc_plain_spec.specs.Scope.{Answer}
@@ -24,12 +24,13 @@ use Rattle.scc_plain_spec.specs.Shapes.{shape}
 use Rattle.scc_plain_spec.specs.Expressions.{value}
 use Rattle.scc_plain_spec.specs.Single.{local}
 use Rattle.scc_plain_laws.proofs.Walks.{Finds, Gives, gives-found, gives-then, gives-if, gives-none, gives-done, finds-pure, finds-behind, finds-then}
-use Rattle.scc_plain_laws.specs.Named.{Names}
+use Rattle.scc_plain_laws.proofs.Named.{Names}
 use Rattle.scc_plain_laws.proofs.Calls.{IsTypedDraft, converted-finds}
 use Rattle.scc_plain_laws.proofs.Expressions.{operate-finds, value-gives}
 use Rattle.scc_plain_bounds_laws.specs.Bounds.{leaves}
 use Rattle.scc_plain_bounds_laws.specs.Within.{within_code, within_term}
-use Rattle.scc_plain_bounds_laws.proofs.Bounded.{Bounded, Mark, both, lt-true, plain, none, in-turn, exit, block, weaker}
+use Rattle.scc_plain_bounds_laws.proofs.Before.{Before, length-next, lt-true, next, same, on}
+use Rattle.scc_plain_bounds_laws.proofs.Bounded.{Bounded, Mark, both, plain, none, in-turn, exit, block, weaker}
 use Rattle.scc_plain_bounds_laws.proofs.Flushes.{IsRoom, lifts, Flushes, flush-done, flush-keep, flush-then, flush-declare, written-at}
 use Rattle.scc_plain_bounds_laws.proofs.Within.{below, names-later, term-within, Knows, knows-more, knows-later, assign-plain}
 use Rattle.scc_plain_spec.specs.Switch.{Flow, in_cases, Label, Cases, labels_in, no_cases, unless_met, test, leaving, behind_label, at_case, at_default, behind_stmts, declared_from, numbers_from, exit_number, switched}
@@ -72,8 +73,8 @@ exit-within c (Some n) g d = let q : exit_number c ≡ n = rw g refl in subst (�
 pub record IsCases (v : Bool) (f : Flow) (lo hi : Mark) (left : ℕ) (c : Cases) : Type 0 where
   pub still : c.left ≡ left
   pub default : IsDefault c.met c.default
-  pub tests : (m : Mark) → lo.locals ≤ m.locals → Bounded v (λ d. c.met ≤ d) m m c.tests
-  pub blocks : (head : Writes) (b : ℕ) → ((m : Mark) → lo.locals ≤ m.locals → Bounded v (λ d. b ≤ d) m m head) → Bounded v (λ d. (b ≤ d + c.met) × IsIn f left d) lo hi (c.blocks head)
+  pub tests : (m : Mark) → Before lo.locals m.locals → Bounded v (λ d. c.met ≤ d) m m c.tests
+  pub blocks : (head : Writes) (b : ℕ) → ((m : Mark) → Before lo.locals m.locals → Bounded v (λ d. b ≤ d) m m head) → Bounded v (λ d. (b ≤ d + c.met) × IsIn f left d) lo hi (c.blocks head)
   pub known : Knows hi.locals c.known
   pub numbers : Knows hi.locals c.numbers
 
@@ -82,12 +83,12 @@ cases-begin v f lo ks is known = record {
   still = refl;
   default = tt;
   tests = λ m z. none v (λ d. 0 ≤ d) m;
-  blocks = λ head b h. weaker v (λ d. (b ≤ d + 0) × IsIn f (labels_in is) d) (λ d w. let z = w.0 in omega (arith, z)) (h lo (omega arith));
+  blocks = λ head b h. weaker v (λ d. (b ≤ d + 0) × IsIn f (labels_in is) d) (λ d w. let z = w.0 in omega (arith, z)) (h lo (same lo.locals));
   known = known;
   numbers = known;
 }
 
-label-cases : (v : Bool) (f : Flow) (lo hi : Mark) (left : ℕ) (c : Cases) (l : Label) (x : Writes) (o : Option ℕ) → IsCases v f lo hi (suc left) c → ((m : Mark) → lo.locals ≤ m.locals → Bounded v (λ d. c.met + 1 ≤ d) m m x) → IsDefault (c.met + 1) o
+label-cases : (v : Bool) (f : Flow) (lo hi : Mark) (left : ℕ) (c : Cases) (l : Label) (x : Writes) (o : Option ℕ) → IsCases v f lo hi (suc left) c → ((m : Mark) → Before lo.locals m.locals → Bounded v (λ d. c.met + 1 ≤ d) m m x) → IsDefault (c.met + 1) o
     → IsCases v f lo hi left (behind_label c l x o)
 label-cases v f lo hi left c l x o k t d = record {
   still = let z : suc left - 1 ≡ left = omega arith in ap (λ n. n - 1) k.still ∙ z;
@@ -104,11 +105,11 @@ abbrev pub leads : Stmts → ℕ
 leads (Declare l r) = leads r + 1
 leads b = 0
 
-declared-knows : (b : Stmts) (n m : ℕ) (ks : List Known) → n + leads b ≤ m → Knows m ks → Knows m (declared_from n b ks)
+declared-knows : (b : Stmts) (n : ℕ) (m : List Reach) (ks : List Known) → n + leads b ≤ length m → Knows m ks → Knows m (declared_from n b ks)
 declared-knows (Declare l r) n m ks h f = declared-knows r (suc n) m (record { name = l.name; local = n } ∷ ks) (omega (arith, h)) (knows-more m (record { name = l.name; local = n }) ks (omega (arith, h)) f)
 declared-knows b n m ks h f = f
 
-numbers-know : (b : Stmts) (n m : ℕ) (ks : List Known) → n + leads b ≤ m → Knows m ks → Knows m (numbers_from n b ks)
+numbers-know : (b : Stmts) (n : ℕ) (m : List Reach) (ks : List Known) → n + leads b ≤ length m → Knows m ks → Knows m (numbers_from n b ks)
 numbers-know (Declare l r) n m ks h f = numbers-know r (suc n) m (if is_number l.hold then record { name = l.name; local = n } ∷ ks else ks) (omega (arith, h)) (by (is_number l.hold))
   where
     by : (b : Bool) → Knows m (if b then record { name = l.name; local = n } ∷ ks else ks)
@@ -116,53 +117,57 @@ numbers-know (Declare l r) n m ks h f = numbers-know r (suc n) m (if is_number l
     by false = f
 numbers-know b n m ks h f = f
 
-pub stmts-cases : (v : Bool) (f : Flow) (lo mid hi : Mark) (left : ℕ) (c : Cases) (n : ℕ) (s : Stmts) (x : Writes) → n ≡ mid.locals → IsCases v f lo mid left c → Bounded v (Fits (in_cases c.left f)) mid hi x → mid.locals + leads s ≤ hi.locals → IsCases v f lo hi left (behind_stmts c n s x)
+pub stmts-cases : (v : Bool) (f : Flow) (lo mid hi : Mark) (left : ℕ) (c : Cases) (n : ℕ) (s : Stmts) (x : Writes) → n ≡ length mid.locals → IsCases v f lo mid left c → Bounded v (Fits (in_cases c.left f)) mid hi x → length mid.locals + leads s ≤ length hi.locals → IsCases v f lo hi left (behind_stmts c n s x)
 stmts-cases v f lo mid hi left c n s x e k a g = record {
   still = k.still;
   default = k.default;
   tests = k.tests;
   blocks = λ head b h. in-turn v (λ d. (b ≤ d + c.met) × IsIn f left d) (k.blocks head b h)
       (weaker v (λ d. (b ≤ d + c.met) × IsIn f left d) (λ d w. fits-cases f c.left d (subst (λ n. IsIn f n d) (sym k.still) w.1)) a);
-  known = declared-knows s n hi.locals c.known (omega (arith, e, g)) (knows-later mid.locals hi.locals c.known (omega (arith, g)) k.known);
-  numbers = numbers-know s n hi.locals c.numbers (omega (arith, e, g)) (knows-later mid.locals hi.locals c.numbers (omega (arith, g)) k.numbers);
+  known = declared-knows s n hi.locals c.known (omega (arith, e, g)) (knows-later mid.locals hi.locals c.known a.grows k.known);
+  numbers = numbers-know s n hi.locals c.numbers (omega (arith, e, g)) (knows-later mid.locals hi.locals c.numbers a.grows k.numbers);
 }
 
 pub switched-bounded : (v : Bool) (f : Flow) (lo hi : Mark) (p : Place) (c : Cases) → IsCases v f lo hi 0 c → Bounded v (Fits f) lo hi (switched p c)
 switched-bounded v f lo hi p c k =
     let head : Writes = then_write c.tests (λ m j. code.Exit p (exit_number c) j) in
     let w = exit-within c c.default refl k.default in
-    let h : (m : Mark) → lo.locals ≤ m.locals → Bounded v (λ d. suc c.met ≤ d) m m head = λ m z. in-turn v (λ d. suc c.met ≤ d) (weaker v (λ d. suc c.met ≤ d) (λ d u. omega (arith, u)) (k.tests m z))
+    let h : (m : Mark) → Before lo.locals m.locals → Bounded v (λ d. suc c.met ≤ d) m m head = λ m z. in-turn v (λ d. suc c.met ≤ d) (weaker v (λ d. suc c.met ≤ d) (λ d u. omega (arith, u)) (k.tests m z))
     (exit v (λ d. suc c.met ≤ d) m p (exit_number c) (λ d u. omega (arith, u, w))) in
     block v (Fits f) (λ d. (suc c.met ≤ d + c.met) × IsIn f 0 d) (λ d u. (omega arith, (d, u, omega arith))) p (c.blocks head) (k.blocks head (suc c.met) h)
 
-leaving-bounded : (v : Bool) (b : ℕ) (m : Mark) (p : Place) (n : ℕ) (t : Term) → n < b → ((c : ℕ) → m.locals ≤ c → within_term c t ≡ true) → Bounded v (λ d. b ≤ d) m m (leaving p n t)
+leaving-bounded : (v : Bool) (b : ℕ) (m : Mark) (p : Place) (n : ℕ) (t : Term) → n < b → ((c : List Reach) → Before m.locals c → within_term c t ≡ true) → Bounded v (λ d. b ≤ d) m m (leaving p n t)
 leaving-bounded v b m p n t h i = plain v (λ d. b ≤ d) m (λ j c k. omega arith) (λ j c d w e. both (nat_lt n d && true) (true && leaves v d c) (both (nat_lt n d) true (lt-true n d (omega (arith, w, h))) refl) e)
     (λ j c k z w. both (within_term k t) (true && (true && within_code k c)) (i k z) w)
 
-test-named : (m : ℕ) (p : Place) (n : ℕ) (k : Kind) (e : Place) (i : Number) → below m n ≡ true → Finds (Names (below m)) (test p n k e i)
+test-named : (m : List Reach) (p : Place) (n : ℕ) (k : Kind) (e : Place) (i : Number) → nat_lt n (length m) ≡ true → Finds (Names (below m)) (test p n k e i)
 test-named m p n k e i h = finds-then (operate-finds (below m) p p op.Eq (drafted p (term.Load p k (term.Local p n))) (literal e i) h tt) (λ x t. finds-pure t)
 
 module _ (v : Bool) (s : Source) (w : World Answer) (a : Around) (f : Flow) where
-  pub case-finds : (lo hi : Mark) (left : ℕ) (c : Cases) (x : Selected) (p : Place) (e : Tree) → below lo.locals x.local ≡ true → IsCases v f lo hi (suc left) c → Gives (IsRoom v hi hi.locals) (IsCases v f lo hi left) (case s w a c x p e)
+  pub case-finds : (lo hi : Mark) (left : ℕ) (c : Cases) (x : Selected) (p : Place) (e : Tree) → nat_lt x.local (length lo.locals) ≡ true → IsCases v f lo hi (suc left) c → Gives (IsRoom v hi hi.locals) (IsCases v f lo hi left) (case s w a c x p e)
   case-finds lo hi left c x p e there k = gives-found (finds-behind (constant s w a c.numbers false p e) (λ i. finds-then (test-named lo.locals p x.local (kind_in x.draft) (place_of e) i there) (λ t named. finds-behind (unless_met c (record { value = Some i; place = p })) (λ u.
-      finds-pure {x = at_case c p i t} (label-cases v f lo hi left c (record { value = Some i; place = p }) (leaving p c.met t) c.default k (λ m z. leaving-bounded v (c.met + 1) m p c.met t (omega arith) (λ b h. term-within lo.locals b (omega (arith, z, h)) t named)) (default-later c.met c.default k.default))))))
+      finds-pure {x = at_case c p i t} (label-cases v f lo hi left c (record { value = Some i; place = p }) (leaving p c.met t) c.default k (λ m z. leaving-bounded v (c.met + 1) m p c.met t (omega arith) (λ b h. term-within lo.locals b (on z h) t named)) (default-later c.met c.default k.default))))))
 
   pub otherwise-finds : (lo hi : Mark) (left : ℕ) (c : Cases) (p : Place) → IsCases v f lo hi (suc left) c → Gives (IsRoom v hi hi.locals) (IsCases v f lo hi left) (otherwise s w a c p)
   otherwise-finds lo hi left c p k = gives-found (finds-behind (unless_met c (record { value = None; place = p })) (λ u.
       finds-pure {x = at_default c p} (label-cases v f lo hi left c (record { value = None; place = p }) nothing (Some c.met) k (λ m z. none v (λ d. c.met + 1 ≤ d) m) (omega arith))))
 
   abbrev pub IsSelected : Mark → Mark → Selected → Type 0
-  IsSelected lo hi x = Bounded v (Fits f) lo hi x.writes × (below hi.locals x.local ≡ true)
+  IsSelected lo hi x = Bounded v (Fits f) lo hi x.writes × (nat_lt x.local (length hi.locals) ≡ true)
 
   small-gives : (lo : Mark) (p : Place) (x : Draft) → Names (below lo.locals) x.term → Gives (IsRoom v lo lo.locals) (IsTypedDraft (below lo.locals)) (small_one s w a p x)
   small-gives lo p x t = gives-if (is_small (group_of (kind_in x))) (gives-done {x = x} t) (gives-none (λ r. refl))
 
-  later-term : (m : ℕ) (e : Term) → Names (below m) e → Names (below (m + 1)) e
-  later-term m e t = names-later m (m + 1) (omega arith) e t
+  -- the selector's local is a number
+  abbrev selector : List Reach → List Reach
+  selector m = m ++ Direct ∷ []
+
+  later-term : (m : List Reach) (e : Term) → Names (below m) e → Names (below (selector m)) e
+  later-term m e t = names-later m (selector m) (next m Direct) e t
 
   pub selected-flushes : (lo : Mark) (ks : List Known) → Knows lo.locals ks → (late : Bool) (p : Place) (e : Tree) → Flushes v lo lo.locals (IsSelected lo) (selected s w a ks late p e)
   selected-flushes lo ks known late p e = flush-keep (gives-then (value-gives (below lo.locals) (lifts v lo lo.locals) s w a ks known late e) (λ x t. small-gives lo (place_of e) x t)) (λ x t. flush-keep (gives-found (converted-finds (below lo.locals) (promoted (kind_in x)) x t)) (λ y u.
       flush-declare v lo lo.locals (record { name = selector_name; place = p; shape = record { base = OfNumber (promoted (kind_in x)); reach = Direct; vector = false; sizes = [] } }) (refl, refl) (λ n same.
-      let there : below (lo.locals + 1) n ≡ true = lt-true n (lo.locals + 1) (omega (arith, same)) in
-      flush-then {P = λ hi ws. Bounded v (Fits f) lo hi ws × (hi.locals ≡ lo.locals + 1)} (written-at v (Fits f) lo (lo.locals + 1) (λ i. assign-plain v (Fits f) i (lo.locals + 1) p (term.Local p n) Whole y.term there tt (later-term lo.locals y.term u)))
-      (λ ws hi b. flush-done {x = record { writes = ws; local = n; draft = y }} (b.0, ap (λ m. below m n) b.1 ∙ there)))))
+      let there : nat_lt n (length (selector lo.locals)) ≡ true = lt-true n (length (selector lo.locals)) (let more = length-next lo.locals Direct in omega (arith, same, more)) in
+      flush-then {P = λ hi ws. Bounded v (Fits f) lo hi ws × (hi.locals ≡ selector lo.locals)} (written-at v (Fits f) lo (selector lo.locals) (λ i. assign-plain v (Fits f) i (selector lo.locals) p (term.Local p n) Whole y.term there tt (later-term lo.locals y.term u)))
+      (λ ws hi b. flush-done {x = record { writes = ws; local = n; draft = y }} (b.0, ap (λ m. nat_lt n (length m)) b.1 ∙ there)))))

@@ -1,6 +1,6 @@
 -- How far statements reach, as a test: exits leave blocks of their own function, values are returned where there is a result, calls have different numbers, and locals that are named are
--- there (ISO C++ [stmt.jump], [basic.scope.block]); and what is declared directly is a number, or a module's name (ISO C++ [dcl.dcl]; IEEE 1666-2011, 5.3).
-use Rattle.std.specs.Prelude.{ℕ, suc, ◌+◌, Bool, true, false, ◌&&◌, nat_eq, nat_lt, nat_le, List, length, Option, Some, None, is_some}
+-- there, and members and calls are those of objects (ISO C++ [stmt.jump], [basic.scope.block], [expr.ref]); and what is declared directly is a number, or a module's name (ISO C++ [dcl.dcl]; IEEE 1666-2011, 5.3).
+use Rattle.std.specs.Prelude.{ℕ, suc, ◌+◌, Bool, true, false, ◌&&◌, nat_eq, nat_lt, nat_le, List, map, Option, Some, None, is_some}
 use Rattle.std.specs.List.{list_all}
 use Rattle.scc_core_spec.specs.Counted.{is_it}
 use Rattle.scc_elab_spec.specs.Program.{Base, Number, Named, Reach, Direct, Code, End, Declare, Assign, Point, Write, Call, If, Loop, Block, Exit, Return, Wait, Make, Bind, Process, Sensitive, Quiet, Reset, Function, Plain, Member}
@@ -88,7 +88,7 @@ abbrev pub is_bounded_local : Member → Bool
 is_bounded_local m = may_stand m.shape.reach m.shape.base && are_sizes m.shape.sizes
 
 abbrev pub is_bounded_function : Function → Bool
-is_bounded_function g = leaves (is_some g.result) 0 g.body && (finds (callee g.body) g.body && (within_code (length g.locals) g.body && list_all is_bounded_local g.locals))
+is_bounded_function g = leaves (is_some g.result) 0 g.body && (finds (callee g.body) g.body && (within_code (map (λ m. m.shape.reach) g.locals) g.body && list_all is_bounded_local g.locals))
 
 abbrev pub is_bounded : Plain → Bool
 is_bounded p = list_all is_bounded_function p.functions

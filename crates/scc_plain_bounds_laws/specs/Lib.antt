@@ -1,3 +1,4 @@
 pub mod Bounds
+pub mod Needed
 pub mod Within
 pub mod Worked

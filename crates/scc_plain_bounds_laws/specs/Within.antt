@@ -1,10 +1,22 @@
--- Statements that name no locals but the first so many (ISO C++ [basic.scope.block]), as a test; statements of construction alone count only by their rest.
-use Rattle.std.specs.Prelude.{ℕ, Bool, true, ◌&&◌, nat_lt, List, [], ◌∷◌, Option, Some, None}
+-- Statements that name no locals but some ([basic.scope.block]), and of which members and calls are those of objects (ISO C++ [expr.ref]), as a test; statements of
+-- construction alone count only by their rest.
+use Rattle.std.specs.Prelude.{ℕ, Bool, true, false, ◌&&◌, nat_lt, List, [], ◌∷◌, length, Option, Some, None, option_map, slice_get, unwrap_or}
 use Rattle.scc_elab_spec.specs.Term.{Term, Literal, Load, Read, Convert, Unary, Binary, Choose, Bit, Range, Join, Left, Local, Answer, This, Follow, Index, Pick, Whole, OneBit, Bits, Target, Null, Address, Copy, Argument, Value, Leads, ModuleName}
 use Rattle.scc_elab_spec.specs.Term as term
-use Rattle.scc_elab_spec.specs.Program.{Code, End, Declare, Assign, Point, Write, Call, If, Loop, Block, Exit, Return, Wait, Make, Bind, Process, Sensitive, Quiet, Reset}
+use Rattle.scc_elab_spec.specs.Types.{is_reference}
+use Rattle.scc_elab_spec.specs.Program.{Reach, Code, End, Declare, Assign, Point, Write, Call, If, Loop, Block, Exit, Return, Wait, Make, Bind, Process, Sensitive, Quiet, Reset}
 
-module _ (most : ℕ) where
+-- What the locals hold: a number, a pointer or a reference each.
+module _ (locals : List Reach) where
+  -- an object: no element of a local
+  abbrev pub is_object : Left → Bool
+  is_object (Local p n) = unwrap_or (option_map is_reference (slice_get locals n)) false
+  is_object (Answer p n) = false
+  is_object (This p) = true
+  is_object (Follow p l) = true
+  is_object (term.Member l m) = is_object l
+  is_object (Index l e) = is_object l
+
   abbrev mutual
     pub within_term : Term → Bool
     within_term (Literal p k w) = true
@@ -19,11 +31,11 @@ module _ (most : ℕ) where
     within_term (Join p k a b) = within_term a && within_term b
 
     pub within_left : Left → Bool
-    within_left (Local p n) = nat_lt n most
+    within_left (Local p n) = nat_lt n (length locals)
     within_left (Answer p n) = true
     within_left (This p) = true
     within_left (Follow p l) = within_left l
-    within_left (term.Member l m) = within_left l
+    within_left (term.Member l m) = within_left l && is_object l
     within_left (Index l e) = within_left l && within_term e
 
   abbrev pub within_pick : Pick → Bool
@@ -38,7 +50,7 @@ module _ (most : ℕ) where
 
   abbrev pub within_object : Option Left → Bool
   within_object None = true
-  within_object (Some l) = within_left l
+  within_object (Some l) = within_left l && is_object l
 
   abbrev pub within_arguments : List Argument → Bool
   within_arguments [] = true
@@ -52,7 +64,7 @@ module _ (most : ℕ) where
 
   abbrev pub within_code : Code → Bool
   within_code End = true
-  within_code (Declare p n r) = nat_lt n most && within_code r
+  within_code (Declare p n r) = nat_lt n (length locals) && within_code r
   within_code (Assign p l k e r) = within_left l && (within_pick k && (within_term e && within_code r))
   within_code (Point p l t r) = within_left l && (within_target t && within_code r)
   within_code (Write p l e r) = within_left l && (within_term e && within_code r)

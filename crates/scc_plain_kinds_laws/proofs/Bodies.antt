@@ -31,7 +31,7 @@ use Rattle.scc_plain_laws.proofs.Expressions.{operate-finds, value-gives, condit
 use Rattle.scc_plain_kinds_laws.proofs.Kept.{any-known, Keeps, RoomKeeps, lifts, keeps-nothing, keeps-then, keeps-plain, keeps-assign, keeps-if, keeps-loop, keeps-block, written-gives}
 use Rattle.scc_plain_laws.proofs.Values.{senses-give}
 use Rattle.scc_plain_kinds_laws.proofs.Single.{declare-gives, local-gives, simple-gives, give-gives, wait-gives, process-gives, reset-gives}
-use Rattle.scc_plain_laws.specs.Named.{Names, any_local}
+use Rattle.scc_plain_laws.proofs.Named.{Names, any_local}
 
 pub order-gives : {f g : Step Writes} → Gives RoomKeeps Keeps f → Gives RoomKeeps Keeps g → Gives RoomKeeps Keeps (in_order f g)
 order-gives h k = gives-then h (λ x t. gives-then k (λ y u. gives-done (keeps-then t u)))

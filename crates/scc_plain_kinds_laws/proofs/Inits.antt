@@ -23,7 +23,7 @@ use Rattle.scc_plain_laws.proofs.Walks.{Gives, gives-done, gives-found, gives-no
 use Rattle.scc_plain_laws.proofs.Calls.{converted-finds}
 use Rattle.scc_plain_kinds_laws.proofs.Kept.{any-known, Keeps, RoomKeeps, lifts, keeps-nothing, keeps-plain, keeps-assign, keeps-point, written-gives}
 use Rattle.scc_plain_laws.proofs.Values.{any-found, IsTypedValue, IsTypedGoal, each-gives, only-typed, names-give, last-gives, make-gives, made-gives}
-use Rattle.scc_plain_laws.specs.Named.{NamesLeft, any_local}
+use Rattle.scc_plain_laws.proofs.Named.{NamesLeft, any_local}
 
 module _ (s : Source) (w : World Answer) (a : Around) (ks : List Known) where
   aimed-gives : (p : Place) (f : Form) (l : Left) (t : Option Target) → NamesLeft any_local l → IsTypedGoal any_local t → Gives RoomKeeps Keeps (aimed s w a ks p f l t)
@@ -56,7 +56,7 @@ module _ (s : Source) (w : World Answer) (a : Around) (ks : List Known) where
 
   member-gives : (c : ℕ) (as_given : Args) (p : Place) (xs : Trees) (e : Option Entry) → Gives RoomKeeps Keeps (member_begun s w a ks c as_given p xs e)
   member-gives c as_given p xs None = gives-none (λ r. refl)
-  member-gives c as_given p xs (Some (IsField k)) = gives-then (any-found (and_walk (field_form s w c as_given k p) (λ f. and_walk (meets Uses) (λ u. pure f)))) (λ f t. begun-gives p f (term.Member (This p) k) xs tt)
+  member-gives c as_given p xs (Some (IsField k)) = gives-then (any-found (and_walk (field_form s w c as_given k p) (λ f. and_walk (meets Uses) (λ u. pure f)))) (λ f t. begun-gives p f (term.Member (This p) k) xs (tt, refl))
   member-gives c as_given p xs (Some e) = gives-none (λ r. refl)
 
   owner-gives : (o : Owner) (p : Place) (x : ℕ) (xs : Trees) → Gives RoomKeeps Keeps (by_owner s w a ks o p x xs)

@@ -14,7 +14,7 @@ use Rattle.scc_plain_laws.proofs.Drafted.{some-is}
 use Rattle.scc_inline_core_laws.specs.Kinded.{kinded_term, kinded_left, kinded_pick, kinded_target, kinded_object, kinded_arguments, kinded_code}
 use Rattle.scc_plain_laws.proofs.Walks.{Gives}
 use Rattle.scc_plain_laws.proofs.Calls.{AreTypedArguments, LiftsKeep}
-use Rattle.scc_plain_laws.specs.Named.{Names, NamesLeft, NamesObject, NamesPick, NamesTarget, any_local}
+use Rattle.scc_plain_laws.proofs.Named.{Names, NamesLeft, NamesObject, NamesPick, NamesTarget, any_local}
 
 pub both : (a b : Bool) → a ≡ true → b ≡ true → (a && b) ≡ true
 both a b e f = (λ z. e z && f z)
@@ -57,7 +57,7 @@ mutual
   typed-left (Answer p n) t = refl
   typed-left (This p) t = refl
   typed-left (Follow p l) t = typed-left l t
-  typed-left (term.Member l m) t = typed-left l t
+  typed-left (term.Member l m) t = typed-left l t.0
   typed-left (Index l e) t = both (kinded_left l) (kinded_term e) (typed-left l t.0) (typed-term e t.1)
 
 typed-pick : (k : Pick) → NamesPick any_local k → kinded_pick k ≡ true
@@ -72,7 +72,7 @@ typed-target (Copy l) t = typed-left l t
 
 typed-object : (o : Option Left) → NamesObject any_local o → kinded_object o ≡ true
 typed-object None t = refl
-typed-object (Some l) t = typed-left l t
+typed-object (Some l) t = typed-left l t.0
 
 typed-arguments : (xs : List Argument) → AreTypedArguments any_local xs → kinded_arguments xs ≡ true
 typed-arguments [] t = refl
@@ -122,7 +122,7 @@ pub keeps-block : (p : Place) (x : Writes) → Keeps x → Keeps (λ n c. Block 
 keeps-block p x k = record { kept = λ n c h. both (kinded_code (x n End)) (kinded_code c) (k.kept n End refl) h }
 
 -- any local may be named
-pub any-known : (ks : List Known) (x n : ℕ) → known_as ks x ≡ Some n → any_local n ≡ true
+pub any-known : (ks : List Known) (x n : ℕ) → known_as ks x ≡ Some n → any_local.local n ≡ true
 any-known ks x n e = refl
 
 -- the calls that stand before the statement in work
@@ -130,7 +130,7 @@ abbrev pub RoomKeeps : Room → Type 0
 RoomKeeps r = Keeps r.lifted
 
 pub lifts : LiftsKeep any_local RoomKeeps
-lifts r f o args p t u k = keeps-then k (keeps-call p r.calls f o args t u)
+lifts = record { lifted = λ r f o args p t u k. keeps-then k (keeps-call p r.calls f o args t u); forms = λ r k p n g e. refl }
 
 pub written-gives : {x : Writes} → Keeps x → Gives RoomKeeps Keeps (written x)
 written-gives {x} h = record { holds = λ r k y e. subst (λ (y : With Writes). Keeps y.it × Keeps y.room.lifted) (some-is e) (keeps-then k h, keeps-nothing) }

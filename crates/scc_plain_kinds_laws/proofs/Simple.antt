@@ -23,7 +23,7 @@ use Rattle.scc_plain_laws.proofs.Calls.{IsTypedDraft, converted-finds, target-fi
 use Rattle.scc_plain_laws.proofs.Expressions.{operate-finds, meant-gives, any-gives}
 use Rattle.scc_plain_laws.proofs.Values.{any-found, IsTypedValue, right-gives, each-gives, only-typed, bound-gives, made-gives}
 use Rattle.scc_plain_kinds_laws.proofs.Kept.{any-known, Keeps, RoomKeeps, lifts, keeps-nothing, keeps-plain, keeps-assign, keeps-point, keeps-write, written-gives}
-use Rattle.scc_plain_laws.specs.Named.{Names, NamesLoc, NamesMeant, NamesPick, NamesSubject, NamesTaken, NamesTarget, any_local}
+use Rattle.scc_plain_laws.proofs.Named.{Names, NamesLoc, NamesMeant, NamesPick, NamesSubject, NamesTaken, NamesTarget, any_local}
 
 pub assigned-finds : (p : Place) (m : Meant) → NamesMeant any_local m → Finds (NamesLoc any_local) (assigned p m)
 assigned-finds p (Stands l) t = finds-if (nat_eq l.form.dims 0 && (not l.form.vector || is_pointer l.form)) (finds-pure t) (finds-none refl)

@@ -30,7 +30,7 @@ use Rattle.scc_plain_laws.proofs.Expressions.{meant-gives, value-gives, conditio
 use Rattle.scc_plain_laws.proofs.Values.{any-found, edge-gives}
 use Rattle.scc_plain_kinds_laws.proofs.Kept.{any-known, Keeps, RoomKeeps, lifts, keeps-plain, keeps-assign, keeps-point, written-gives, typed-return}
 use Rattle.scc_plain_kinds_laws.proofs.Simple.{assigned-finds, store-gives, combined-finds, assign-gives, called-keeps}
-use Rattle.scc_plain_laws.specs.Named.{Names, NamesTarget, any_local}
+use Rattle.scc_plain_laws.proofs.Named.{Names, NamesTarget, any_local}
 
 pub declare-gives : (l : room.Local) → Gives RoomKeeps IsAny (declare l)
 declare-gives l = record { holds = λ r k y e. subst (λ (y : With ℕ). Unit {0} × RoomKeeps y.room) (some-is e) (tt, k) }

@@ -7,7 +7,7 @@ use Rattle.scc_plain_spec.specs.Forms.{Loc, Taken, AllOf, BitsOf, Subject, OfDra
 use Rattle.scc_plain_spec.specs.Meant.{Meant, Valued, Stands, Function, Built, Done, Void, Nothing, Own, At, Words}
 use Rattle.scc_plain_laws.specs.DraftsTyped.{AllTyped}
 use Rattle.scc_plain_laws.specs.MeantTyped.{IsTypedTaken, IsTypedLoc, IsTypedSubject, IsTypedObject, IsTypedMeant}
-use Rattle.scc_plain_laws.specs.Named.{any_local, AllNames, Names, NamesLeft, NamesLoc, NamesMeant, NamesObject, NamesPick, NamesSubject, NamesTaken}
+use Rattle.scc_plain_laws.proofs.Named.{any_local, AllNames, Names, NamesLeft, NamesLoc, NamesMeant, NamesObject, NamesPick, NamesSubject, NamesTaken}
 
 mutual
   pub named-term : (e : Term) → IsTyped e → Names any_local e
@@ -27,7 +27,7 @@ mutual
   named-left (Answer p n) t = tt
   named-left (This p) t = tt
   named-left (Follow p l) t = named-left l t
-  named-left (Member l m) t = named-left l t
+  named-left (Member l m) t = (named-left l t, refl)
   named-left (Index l e) t = (named-left l t.0, named-term e t.1)
 
 mutual
@@ -48,7 +48,7 @@ mutual
   typed-left (Answer p n) t = tt
   typed-left (This p) t = tt
   typed-left (Follow p l) t = typed-left l t
-  typed-left (Member l m) t = typed-left l t
+  typed-left (Member l m) t = typed-left l t.0
   typed-left (Index l e) t = (typed-left l t.0, typed-term e t.1)
 
 pub all-named : (xs : List Draft) → AllTyped xs → AllNames any_local xs
@@ -74,7 +74,7 @@ typed-taken AllOf t = tt
 typed-taken (BitsOf k j) t = typed-pick k t
 
 named-loc : (l : Loc) → IsTypedLoc l → NamesLoc any_local l
-named-loc l t = (named-left l.left t.0, named-taken l.taken t.1)
+named-loc l t = (named-left l.left t.0, named-taken l.taken t.1, refl)
 
 pub typed-loc : (l : Loc) → NamesLoc any_local l → IsTypedLoc l
 typed-loc l t = (typed-left l.left t.0, typed-taken l.taken t.1)
@@ -89,11 +89,11 @@ typed-subject (OfLoc l) t = typed-loc l t
 
 named-object : (o : Option Left) → IsTypedObject o → NamesObject any_local o
 named-object None t = tt
-named-object (Some l) t = named-left l t
+named-object (Some l) t = (named-left l t, refl)
 
 typed-object : (o : Option Left) → NamesObject any_local o → IsTypedObject o
 typed-object None t = tt
-typed-object (Some l) t = typed-left l t
+typed-object (Some l) t = typed-left l t.0
 
 pub named-meant : (m : Meant) → IsTypedMeant m → NamesMeant any_local m
 named-meant (Valued x) t = named-term x.term t

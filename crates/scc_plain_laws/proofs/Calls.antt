@@ -1,6 +1,6 @@
 -- Operators, arguments and brackets of expressions have the kinds that they say, where the calls that stand before a statement keep what is asked of a room.
 use Rattle.std.specs.Prelude.{nat_lt}
-use Rattle.std.proofs.Common.{ℕ, ◌+◌, ◌-◌, Bool, true, false, ◌&&◌, nat_eq, List, [], ◌∷◌, length, Option, Some, None, refl, subst, if◌then◌else◌}
+use Rattle.std.proofs.Common.{◌≡◌, ℕ, ◌+◌, ◌-◌, Bool, true, false, ◌&&◌, nat_eq, List, [], ◌∷◌, length, Option, Some, None, refl, subst, if◌then◌else◌}
 use Rattle.scc_base.specs.declared.refusal.Place.{Place}
 use Rattle.scc_bits_kinds.specs.declared.kind.Kind.{Kind}
 use Rattle.scc_bits_kinds.specs.declared.kind.Kind.TheVariants as kind
@@ -16,7 +16,7 @@ use Rattle.scc_templates_spec.specs.Walked.{pure, meets, and_walk}
 use Rattle.scc_templates_spec.specs.World.{Owner, World}
 use Rattle.scc_templates_spec.specs.Tree.{Tree, Trees, Nil, Cons, place_of, count}
 use Rattle.scc_templates_spec.specs.Source.{Source}
-use Rattle.scc_elab_spec.specs.Term.{Left, Argument, Value, Leads, ModuleName, Bits, Pick}
+use Rattle.scc_elab_spec.specs.Term.{Left, Local, Argument, Value, Leads, ModuleName, Bits, Pick}
 use Rattle.scc_elab_spec.specs.Program.{Call}
 use Rattle.scc_plain_spec.specs.Numbers.{int, small}
 use Rattle.scc_plain_spec.specs.Scope as scope
@@ -25,19 +25,19 @@ use Rattle.scc_plain_spec.specs.Drafts.{Draft, kind_in, converted, operate_one}
 use Rattle.scc_plain_spec.specs.Forms.{Form, is_pointer, is_direct, Subject, OfDraft, OfLoc, subject_value}
 use Rattle.scc_plain_spec.specs.Meant.{Meant, Valued, Stands, Function, Built, Done, Void, Nothing, Own, At, Words, taken, is_name, is_module_name, bits_of, some_bits}
 use Rattle.scc_plain_spec.specs.Methods.{Brackets, CallsFunction, StandsAlone, TakesRange, CallsMethod, Wrong, is_range, ranged, subject_is_port, converting, method, of_subject, brackets}
-use Rattle.scc_plain_spec.specs.Room.{Around, Known, Room, With, Step, then_write, lift}
+use Rattle.scc_plain_spec.specs.Room.{Around, Known, Room, With, Step, local_form, then_write, lift}
 use Rattle.scc_plain_spec.specs.Shapes.{Signature}
 use Rattle.scc_plain_spec.specs.Calls.{is_bit_select, unary, target, argument, made_argument, how, late_at, constant, range, callee, answer, lifted, called, in_brackets, behind_call}
 use Rattle.scc_plain_laws.proofs.Drafted.{some-is, converted-is, operate-one-is}
 use Rattle.scc_plain_laws.proofs.Meanings.{taken-is, subject-is, followed-is, addressed-is, some-bits-is}
 use Rattle.scc_plain_laws.proofs.Walks.{Finds, finds-pure, finds-none, finds-any, finds-then, finds-behind, finds-if, by-option, by-base, Gives, gives-done, gives-found, gives-none, gives-then, gives-if}
 use Rattle.scc_plain_laws.proofs.Things.{aimed-finds}
-use Rattle.scc_plain_laws.specs.Named.{Names, NamesLoc, NamesMeant, NamesObject, NamesPick, NamesSubject, NamesTarget}
+use Rattle.scc_plain_laws.proofs.Named.{Namable, Names, NamesLoc, NamesMeant, NamesObject, NamesPick, NamesSubject, NamesTarget}
 
 abbrev pub IsAny : {A : Type 0} → A → Type 0
 IsAny x = Unit {0}
 
-module _ (some : ℕ → Bool) where
+module _ (some : Namable) where
   abbrev pub IsTypedDraft : Draft → Type 0
   IsTypedDraft x = Names some x.term
 
@@ -128,14 +128,15 @@ module _ (some : ℕ → Bool) where
   brackets-typed n Words t = tt
 
   module _ (R : Room → Type 0) where
-    -- a call that stands before a statement keeps what is asked of a room
-    abbrev pub LiftsKeep : Type 0
-    LiftsKeep = (r : Room) (f : Callee) (o : Option Left) (args : List Argument) (p : Place) → NamesObject some o → AreTypedArguments args → R r
-        → R (record { locals = r.locals; calls = r.calls + 1; lifted = then_write r.lifted (λ n c. Call p r.calls (n.function f) o args c) })
+    -- a call that stands before a statement keeps what is asked of a room, and each local of the room may have its form
+    pub record LiftsKeep : Type 0 where
+      pub lifted : (r : Room) (f : Callee) (o : Option Left) (args : List Argument) (p : Place) → NamesObject some o → AreTypedArguments args → R r
+          → R (record { locals = r.locals; calls = r.calls + 1; lifted = then_write r.lifted (λ n c. Call p r.calls (n.function f) o args c) })
+      pub forms : (r : Room) → R r → (p : Place) (n : ℕ) (g : Form) → local_form r n ≡ Some g → some.stands (Local p n) g ≡ true
 
   module _ {R : Room → Type 0} (lifts : LiftsKeep R) where
     lift-gives : (f : Callee) (o : Option Left) (args : List Argument) (p : Place) → NamesObject some o → AreTypedArguments args → Gives R (λ (n : ℕ). Unit {0}) (lift f o args p)
-    lift-gives f o args p t u = record { holds = λ r k y e. subst (λ (y : With ℕ). Unit {0} × R y.room) (some-is e) (tt, lifts r f o args p t u k) }
+    lift-gives f o args p t u = record { holds = λ r k y e. subst (λ (y : With ℕ). Unit {0} × R y.room) (some-is e) (tt, lifts.lifted r f o args p t u k) }
 
     pub made-argument-gives : (p : Place) (f : Form) (any : Step (Unit {0})) → Gives R (λ (u : Unit {0}). Unit {0}) any → Gives R IsTypedArgument (made_argument p f any)
     made-argument-gives p f any h = gives-if (is_name f.base) (gives-none (λ r. refl)) (gives-then h (λ u t. gives-none (λ r. refl)))

@@ -12,7 +12,7 @@ use Rattle.scc_templates_spec.specs.Walked.{Walked, pure, fault, and_walk}
 use Rattle.scc_elab_spec.specs.Term.{Term, Unary, Binary, Join, place_of}
 use Rattle.scc_plain_spec.specs.Numbers.{by_table, choice_of, divides, answered, concat_kind}
 use Rattle.scc_plain_spec.specs.Drafts.{Draft, kind_in, wrapped, converted, cast, draft_beside, left_beside, right_beside, both_known, operate, operate_one, choose, kinds_of, joined_terms, all_known, known_of, concat}
-use Rattle.scc_plain_laws.specs.Named.{AllNames, Names}
+use Rattle.scc_plain_laws.proofs.Named.{Namable, AllNames, Names}
 
 pub some-is : {A : Type 0} {x y : A} → Some x ≡ Some y → x ≡ y
 some-is e = cc
@@ -65,7 +65,7 @@ table-is p o j k f x e = by (operator_kind o j k) refl
     by None h = absurd (let z = rw h at e in cc)
     by (Some answer) h = (answer, h, wide answer (is_too_wide o j k) (let z = rw h at e in z))
 
-module _ (some : ℕ → Bool) where
+module _ (some : Namable) where
   pub converted-is : (k : Kind) (a x : Draft) → Names some a.term → (converted k a).value ≡ Some x → (kind_in x ≡ k) × Names some x.term
   converted-is k a x t e = by (same_kind (kind_in a) k) refl (is_convertible (kind_in a) k) e
     where

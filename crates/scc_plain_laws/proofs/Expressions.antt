@@ -23,12 +23,12 @@ use Rattle.scc_plain_laws.proofs.Meanings.{indexed-is}
 use Rattle.scc_plain_laws.proofs.Walks.{Finds, finds-pure, finds-none, finds-any, finds-then, finds-behind, by-option, Gives, gives-done, gives-found, gives-none, gives-then, gives-in}
 use Rattle.scc_plain_laws.proofs.Things.{given-finds, this-finds, named-finds, scoped-finds, dot-finds, arrow-finds}
 use Rattle.scc_plain_laws.proofs.Calls.{IsTypedDraft, AreTypedArguments, IsAny, LiftsKeep, taken-finds, converted-finds, unary-finds, argument-finds, made-argument-gives, behind-gives}
-use Rattle.scc_plain_laws.specs.Named.{AllNames, Names, NamesMeant}
+use Rattle.scc_plain_laws.proofs.Named.{Namable, AllNames, Names, NamesMeant}
 
 abbrev pub AnyUnit : Unit {0} → Type 0
 AnyUnit u = Unit {0}
 
-module _ (some : ℕ → Bool) where
+module _ (some : Namable) where
   pub operate-finds : (p at : Place) (o : Op) (x y : Draft) → Names some x.term → Names some y.term → Finds (IsTypedDraft some) (operate p at o x y)
   operate-finds p at o x y t u = record { holds = λ z e. operate-is some p at o x y z t u e }
 
@@ -51,7 +51,7 @@ module _ (some : ℕ → Bool) where
     value-given : {x : Walked Draft} → Finds (IsTypedDraft some) x → Gives R (NamesMeant some) (a_value x)
     value-given h = gives-found (finds-then h (λ x t. finds-pure t))
 
-    module _ (s : Source) (w : World Answer) (a : Around) (ks : List Known) (known : (x n : ℕ) → known_as ks x ≡ Some n → some n ≡ true) where
+    module _ (s : Source) (w : World Answer) (a : Around) (ks : List Known) (known : (x n : ℕ) → known_as ks x ≡ Some n → some.local n ≡ true) where
       mutual
         pub meant-gives : (late : Bool) (t : Tree) → Gives R (NamesMeant some) (meant s w a ks late t)
         meant-gives late (tree.Number p k v) = gives-done tt
@@ -59,7 +59,7 @@ module _ (some : ℕ → Bool) where
         meant-gives late (This p) = gives-found (this-finds some p a.owner)
         meant-gives late (Null p) = gives-done tt
         meant-gives late (Text p) = gives-done tt
-        meant-gives late (Name p x) = gives-in (λ r k. named-finds some s w a p x (known_as ks x) (known x) r (look s (scope_in a ks) x))
+        meant-gives late (Name p x) = gives-in (λ r k. named-finds some s w a p x (known_as ks x) (known x) r (lifts.forms r k p) (look s (scope_in a ks) x))
         meant-gives late (Scoped p t x) = gives-found (finds-behind (typed s w (scope_in a ks) t) (λ y. scoped-finds some s w a p x (object_in y)))
         meant-gives late (Operate p at o l r) = gives-then (valued-gives (place_of l) (meant-gives late l)) (λ x t. gives-then (valued-gives (place_of r) (meant-gives (late || is_lazy o) r)) (λ y u. value-given (operate-finds p at o x y t u)))
         meant-gives late (Before p o of) = gives-then (meant-gives late of) (λ m t. gives-found (unary-finds some p of m t o a.owner))

@@ -1,5 +1,6 @@
 pub mod Constant
 pub mod Started
+pub mod Named
 pub mod Drafted
 pub mod Meanings
 pub mod Topped

@@ -8,15 +8,15 @@ use Rattle.scc_bits_kinds.specs.Groups.{group_of, is_small}
 use Rattle.scc_templates_spec.specs.Walked.{pure, fault, and_walk}
 use Rattle.scc_elab_spec.specs.Term.{Term, Load, Left, Follow, Index, Pick, Whole, OneBit, Bits}
 use Rattle.scc_elab_spec.specs.Program.{Direct}
-use Rattle.scc_plain_spec.specs.Types.{Base, OfNumber, InPort, OutPort, OfSignal}
+use Rattle.scc_plain_spec.specs.Types.{Base, OfNumber, OfObject, InPort, OutPort, OfSignal}
 use Rattle.scc_plain_spec.specs.Drafts.{Draft, kind_in, drafted}
-use Rattle.scc_plain_spec.specs.Forms.{Form, is_all, is_pointer, Loc, Taken, AllOf, BitsOf, located, is_whole, picked, loaded, value_at, Subject, OfDraft, OfLoc, subject_value}
+use Rattle.scc_plain_spec.specs.Forms.{Form, direct, is_all, is_pointer, Loc, Taken, AllOf, BitsOf, located, is_whole, picked, loaded, value_at, Subject, OfDraft, OfLoc, subject_value}
 use Rattle.scc_templates_spec.specs.World.{Owner, File, In}
 use Rattle.scc_plain_spec.specs.Meant.{behind, own_object, followed, addressed, Meant, Valued, Stands, Function, Built, Done, Void, Nothing, Own, At, Words, taken, bits_of, some_bits, bit, has_elements, inner_form, at_index, indexed}
 use Rattle.scc_plain_laws.proofs.Drafted.{some-is, walk-is}
-use Rattle.scc_plain_laws.specs.Named.{Names, NamesLeft, NamesLoc, NamesMeant, NamesPick, NamesSubject, NamesTaken}
+use Rattle.scc_plain_laws.proofs.Named.{Namable, Names, NamesLeft, NamesLoc, NamesMeant, NamesPick, NamesSubject, NamesTaken}
 
-module _ (some : ℕ → Bool) where
+module _ (some : Namable) where
   picked-is : (p : Place) (k : Kind) (e : Term) (j : Pick) → Names some e → NamesPick some j → Names some (picked p k e j)
   picked-is p k e Whole t s = t
   picked-is p k e (OneBit i) t s = (t, s)
@@ -64,19 +64,19 @@ module _ (some : ℕ → Bool) where
 
   pub some-bits-is : (p : Place) (k : Kind) (j : Pick) (s : Subject) (m : Meant) → NamesPick some j → NamesSubject some s → (some_bits p k j s).value ≡ Some m → NamesMeant some m
   some-bits-is p k j (OfDraft x) m i t e = meant-is (Valued (drafted p (picked p k x.term j))) m (picked-is p k x.term j t i) e
-  some-bits-is p k j (OfLoc l) m i t e = by l.form.base e
+  some-bits-is p k j (OfLoc l) m i t e = by l.form.base t.2 e
     where
       -- the location with another base
       based : Base → Loc
       based b = record { left = l.left; form = record { base = b; reach = l.form.reach; vector = l.form.vector; dims = l.form.dims }; taken = l.taken }
 
-      shown : (b : Base) → (and_walk (value_at p (based b)) (λ x. pure (Valued (drafted p (picked p k x.term j))))).value ≡ Some m → NamesMeant some m
-      shown b e = let u = walk-is (value_at p (based b)) (λ x. pure (Valued (drafted p (picked p k x.term j)))) m e in
-          meant-is (Valued (drafted p (picked p k u.0.term j))) m (picked-is p k u.0.term j (value-at-is p (based b) u.0 t u.1) i) u.2
+      shown : (b : Base) → some.stands l.left (based b).form ≡ true → (and_walk (value_at p (based b)) (λ x. pure (Valued (drafted p (picked p k x.term j))))).value ≡ Some m → NamesMeant some m
+      shown b h e = let u = walk-is (value_at p (based b)) (λ x. pure (Valued (drafted p (picked p k x.term j)))) m e in
+          meant-is (Valued (drafted p (picked p k u.0.term j))) m (picked-is p k u.0.term j (value-at-is p (based b) u.0 (t.0, t.1, h) u.1) i) u.2
 
-      by : (b : Base) → (some_bits p k j (OfLoc (based b))).value ≡ Some m → NamesMeant some m
-      by (OfNumber n) e = meant-is (Stands (record { left = l.left; form = (based (OfNumber n)).form; taken = BitsOf j k })) m (t.0, i) e
-      by b e = shown b e
+      by : (b : Base) → some.stands l.left (based b).form ≡ true → (some_bits p k j (OfLoc (based b))).value ≡ Some m → NamesMeant some m
+      by (OfNumber n) h e = meant-is (Stands (record { left = l.left; form = (based (OfNumber n)).form; taken = BitsOf j k })) m (t.0, i, h) e
+      by b h e = shown b h e
 
   bit-is : (p : Place) (i : Draft) (s : Subject) (m : Meant) → Names some i.term → NamesSubject some s → (bit p i s).value ≡ Some m → NamesMeant some m
   bit-is p i s m h t e = by (bits_of s) refl
@@ -89,11 +89,11 @@ module _ (some : ℕ → Bool) where
   indexed-is p m i n t h e = by (is_small (group_of (kind_in i))) e
     where
       at : (m : Meant) → NamesMeant some m → (at_index p i m).value ≡ Some n → NamesMeant some n
-      at (Stands l) t e = element (has_elements l.form) e
+      at (Stands l) t e = element (has_elements l.form) refl e
         where
-          element : (b : Bool) → (if b then pure (Stands (located (Index l.left i.term) (inner_form l.form))) else bit p i (OfLoc l)).value ≡ Some n → NamesMeant some n
-          element true e = meant-is (Stands (located (Index l.left i.term) (inner_form l.form))) n ((t.0, h), tt) e
-          element false e = bit-is p i (OfLoc l) n h t e
+          element : (b : Bool) → has_elements l.form ≡ b → (if b then pure (Stands (located (Index l.left i.term) (inner_form l.form))) else bit p i (OfLoc l)).value ≡ Some n → NamesMeant some n
+          element true g e = meant-is (Stands (located (Index l.left i.term) (inner_form l.form))) n ((t.0, h), tt, some.element l.left i.term l.form t.2 g) e
+          element false g e = bit-is p i (OfLoc l) n h t e
       at (Valued x) t e = bit-is p i (OfDraft x) n h t e
       at (Function owner name object place) t e = absurd cc
       at (Built method of) t e = absurd cc
@@ -115,12 +115,12 @@ module _ (some : ℕ → Bool) where
       at f = located (Follow p l.left) f
 
       by : (b : Bool) → (if b then pure (at (record { base = l.form.base; reach = Direct; vector = l.form.vector; dims = 0 })) else fault reason.Mismatch p).value ≡ Some m → NamesLoc some m
-      by true e = subst (NamesLoc some) (some-is e) (t.0, tt)
+      by true e = subst (NamesLoc some) (some-is e) (t.0, tt, some.follow p l.left (record { base = l.form.base; reach = Direct; vector = l.form.vector; dims = 0 }))
       by false e = absurd cc
 
   own-object-is : (p : Place) (o : Owner) (m : Loc) → (own_object p o).value ≡ Some m → NamesLoc some m
   own-object-is p File m e = absurd cc
-  own-object-is p (In c as_given) m e = subst (NamesLoc some) (some-is e) (tt, tt)
+  own-object-is p (In c as_given) m e = subst (NamesLoc some) (some-is e) (tt, tt, some.this p (direct (OfObject c as_given)))
 
   -- what a pointer leads to
   pub followed-is : (p : Place) (o : Owner) (m : Meant) (l : Loc) → NamesMeant some m → (followed p o m).value ≡ Some l → NamesLoc some l

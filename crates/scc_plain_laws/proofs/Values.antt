@@ -26,12 +26,12 @@ use Rattle.scc_templates_spec.specs.Walked.{Walked}
 use Rattle.scc_templates_spec.specs.World.{World}
 use Rattle.std.proofs.Common.{◌≡◌, ℕ, Bool, true, false, not, ◌||◌, nat_eq, List, [], ◌∷◌, length, Option, Some, None, refl, if◌then◌else◌}
 use Rattle.std.specs.Prelude.{nat_le}
-use Rattle.scc_plain_laws.specs.Named.{Names, NamesTarget}
+use Rattle.scc_plain_laws.proofs.Named.{Namable, Names, NamesTarget}
 
 pub any-found : {R : Room → Type 0} {A : Type 0} (w : Walked A) → Gives R IsAny (found w)
 any-found w = gives-found finds-any
 
-module _ (some : ℕ → Bool) where
+module _ (some : Namable) where
   abbrev pub AreTypedValues : List (Option Draft) → Type 0
   AreTypedValues [] = Unit {0}
   AreTypedValues (None ∷ xs) = AreTypedValues xs
@@ -53,7 +53,7 @@ module _ (some : ℕ → Bool) where
     gives-any : {A : Type 0} (w : Walked A) → Gives R IsAny (found w)
     gives-any w = gives-found finds-any
 
-    module _ (s : Source) (w : World Answer) (a : Around) (ks : List Known) (known : (x n : ℕ) → known_as ks x ≡ Some n → some n ≡ true) (late : Bool) where
+    module _ (s : Source) (w : World Answer) (a : Around) (ks : List Known) (known : (x n : ℕ) → known_as ks x ≡ Some n → some.local n ≡ true) (late : Bool) where
       -- objects that are made
       module _ (xs : Trees) where
         given-gives : (p : Place) (fs : List Form) → Gives R IsAny (given s w a ks late xs p fs)
@@ -121,7 +121,7 @@ module _ (some : ℕ → Bool) where
       edge-gives stmts.Method = gives-done {x = None} tt
       edge-gives stmts.Thread = gives-done {x = None} tt
 
-    module _ (s : Source) (w : World Answer) (a : Around) (ks : List Known) (known : (x n : ℕ) → known_as ks x ≡ Some n → some n ≡ true) where
+    module _ (s : Source) (w : World Answer) (a : Around) (ks : List Known) (known : (x n : ℕ) → known_as ks x ≡ Some n → some.local n ≡ true) where
       pub names-give : (xs : Trees) → Gives R AnyUnit (names s w a ks xs)
       names-give Nil = gives-done tt
       names-give (Cons (tree.Make p t xs) ts) = gives-then (made-argument-gives some lifts p (direct OfName) (done tt) (gives-done tt)) (λ x h. names-give ts)

@@ -31,6 +31,11 @@ pub finds-if : {A : Type 0} {P : A → Type 0} {x y : Walked A} (b : Bool) → F
 finds-if true f g = f
 finds-if false f g = g
 
+-- where the test is known
+pub finds-when : {A : Type 0} {P : A → Type 0} {x y : Walked A} (b : Bool) → (b ≡ true → Finds P x) → Finds P y → Finds P (if b then x else y)
+finds-when true f g = f refl
+finds-when false f g = g
+
 pub finds-value : {A : Type 0} {P : A → Type 0} {w : Walked A} {x : A} → w.value ≡ Some x → P x → Finds P w
 finds-value {A} {P} {w} {x} v p = record { holds = λ y e. subst P (some-is (sym v ∙ e)) p }
 

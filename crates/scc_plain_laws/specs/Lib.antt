@@ -1,3 +1,2 @@
 pub mod DraftsTyped
 pub mod MeantTyped
-pub mod Named

@@ -1,4 +1,4 @@
-use Rattle.scc_plain_laws.specs.Named.{any_local}
+use Rattle.scc_plain_laws.proofs.Named.{any_local}
 use Rattle.scc_plain_laws.proofs.AnyLocal.{all-named, named-term, typed-term}
 use Rattle.scc_plain_laws.proofs.Drafted.{operate-is, operate-one-is, cast-is, choose-is, concat-is}
 use Rattle.scc_plain_laws.proofs.laws.operators_have_the_kinds_that_they_say.Goals as goal

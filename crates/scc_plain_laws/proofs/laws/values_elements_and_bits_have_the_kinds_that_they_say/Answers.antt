@@ -1,4 +1,4 @@
-use Rattle.scc_plain_laws.specs.Named.{any_local}
+use Rattle.scc_plain_laws.proofs.Named.{any_local}
 use Rattle.scc_plain_laws.proofs.AnyLocal.{named-term, named-meant, typed-term, typed-loc, typed-meant}
 use Rattle.scc_plain_laws.proofs.Meanings.{taken-is, indexed-is, followed-is, addressed-is}
 use Rattle.scc_plain_laws.proofs.laws.values_elements_and_bits_have_the_kinds_that_they_say.Goals as goal
