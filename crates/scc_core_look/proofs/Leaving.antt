@@ -61,7 +61,7 @@ more d (x ∷ xs) s e h =
     let both-are : (exits_within d (stmt_code x End) && exits_within d (code_of xs)) ≡ true = sym split ∙ e in
     (stmt_parts x).holds d (code_of (xs ++ s ∷ []))
     ∙ both (exits_within d (stmt_code x End)) (exits_within d (code_of (xs ++ s ∷ []))) (first (exits_within d (stmt_code x End)) (exits_within d (code_of xs)) both-are)
-      (more d xs s (second (exits_within d (stmt_code x End)) (exits_within d (code_of xs)) both-are) h)
+    (more d xs s (second (exits_within d (stmt_code x End)) (exits_within d (code_of xs)) both-are) h)
 
 -- a walk along a list that is one further
 pub goes_on : (d : ℕ) (ss : List CoreStmt) (i : ℕ) (s : CoreStmt) → i < length ss → s ≡ get_or ss i s → (stay one now : Bool) → (stay ≡ true → exits_within d (code_of (take i ss)) ≡ true) → (one ≡ true → exits_within d (stmt_code s End) ≡ true)

@@ -6,7 +6,7 @@ ghost use Rattle.scc_core_view.specs.Codes.{code_of, stmt_code};
 
 use scc_core::{CoreNode, CoreStmt};
 
-fn both(a: bool, b: bool) -> bool
+pub fn both(a: bool, b: bool) -> bool
     ensures { result ≡ (a && b) }
 {
     a && b

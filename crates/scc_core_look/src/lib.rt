@@ -1,8 +1,10 @@
 //! A look at the core without pointers: whether it is one of which the laws of such cores speak. It takes a time that is linear in the core.
 #![tactic(auto)]
 
+mod cells;
 mod exits;
 mod processes;
 
+pub use cells::names_differ;
 pub use exits::{exits_stay, statement_exits_stay};
 pub use processes::is_clocked;
