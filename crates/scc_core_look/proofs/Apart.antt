@@ -23,15 +23,15 @@ use Rattle.scc_core_view.specs.Steps.{step_in}
 use Rattle.scc_core_view.specs.Terms.{name_of, own_of, part_of}
 use Rattle.scc_core_look.specs.Own.{are_own, is_it, is_name, is_own}
 
-first : (a b : Bool) → (a && b) ≡ true → a ≡ true
+pub first : (a b : Bool) → (a && b) ≡ true → a ≡ true
 first true b e = refl
 first false b e = absurd cc
 
-second : (a b : Bool) → (a && b) ≡ true → b ≡ true
+pub second : (a b : Bool) → (a && b) ≡ true → b ≡ true
 second true b e = e
 second false b e = absurd cc
 
-both : (a b : Bool) → a ≡ true → b ≡ true → (a && b) ≡ true
+pub both : (a b : Bool) → a ≡ true → b ≡ true → (a && b) ≡ true
 both a b e f = λ z. e z && f z
 
 -- ---- a name leads where its steps do
@@ -45,7 +45,7 @@ walk_on p at (x ∷ xs) ys = by (option_and_then (leads p at) x) (λ to. walk_on
     by None h = refl
     by (Some to) h = h to
 
-known_path : (path : List PathPart) → known (map step_of path) ≡ of_path path
+pub known_path : (path : List PathPart) → known (map step_of path) ≡ of_path path
 known_path [] = refl
 known_path (x ∷ path) = ap (λ l. Some (step_of x) ∷ l) (known_path path)
 
@@ -101,7 +101,7 @@ append_map : (xs ys : List NameStep) → map step_in (xs ++ ys) ≡ map step_in 
 append_map [] ys = refl
 append_map (x ∷ xs) ys = ap (λ l. step_in x ∷ l) (append_map xs ys)
 
-path_same : (path : List PathPart) → map named.part_step (map part_of path) ≡ map step_in (map step_of path)
+pub path_same : (path : List PathPart) → map named.part_step (map part_of path) ≡ map step_in (map step_of path)
 path_same [] = refl
 path_same (path_part.Member n ∷ path) = ap (λ l. Named n.0 ∷ l) (path_same path)
 path_same (path_part.Index i ∷ path) = ap (λ l. At i ∷ l) (path_same path)

@@ -1,2 +1,4 @@
 pub mod Leaving
 pub mod Apart
+pub mod Alike
+pub mod Sorts

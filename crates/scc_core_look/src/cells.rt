@@ -10,7 +10,7 @@ ghost use Rattle.scc_core_look.specs.Own.{are_own, is_it, is_name, is_own};
 use crate::exits::both;
 use scc_core::{Cell, CellName, CellSort, Places};
 
-fn is_pointer(cell: &Cell) -> bool
+pub fn is_pointer(cell: &Cell) -> bool
     ensures { result ≡ is_pointer cell.now.sort }
 {
     matches!(cell.sort, CellSort::Pointer(_))

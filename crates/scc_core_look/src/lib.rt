@@ -3,6 +3,7 @@
 
 mod cells;
 mod exits;
+mod locals;
 mod processes;
 
 pub use cells::names_differ;

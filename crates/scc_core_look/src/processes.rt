@@ -13,7 +13,7 @@ use scc_base::List;
 use scc_core::{Cell, CellSort, CoreProcess, Edge2, Reset2, Sort2};
 
 // Whether a cell is a signal or port of the top.
-fn is_root(cell: &Cell) -> bool
+pub fn is_root(cell: &Cell) -> bool
     ensures { result ≡ is_root (sort_of cell.now.sort) }
 {
     matches!(
