@@ -1,5 +1,6 @@
 -- Paths that are the same part by part.
-use Rattle.std.proofs.Common.{◌≡◌, refl, arith, ℕ, zero, suc, ◌+◌, ◌<◌, Bool, true, false, ◌&&◌, List, [], ◌∷◌, ◌++◌, map, take, get_or, length, add-one, ap, ◌∙◌, sym}
+use Rattle.std.proofs.Common.{◌≡◌, refl, arith, ℕ, zero, suc, ◌+◌, ◌<◌, ◌≤◌, Bool, true, false, ◌&&◌, List, [], ◌∷◌, ◌++◌, map, take, get_or, length, add-one, ap, ◌∙◌, sym}
+use Rattle.std.specs.List.{list_all}
 use Rattle.std.proofs.Math.Seq.{take-suc}
 use Rattle.scc_base.specs.declared.path.PathPart.{PathPart}
 use Rattle.scc_core_view.specs.Programs.{path_of}
@@ -29,3 +30,24 @@ path_on a b i x y g h e f same one now k l m t =
   where
     more : (xs : List PathPart) (x : PathPart) → i < length xs → x ≡ get_or xs i x → take (i + 1) xs ≡ take i xs ++ x ∷ []
     more xs x h is = ap (λ n. take n xs) (add-one i) ∙ take-suc xs i x h ∙ ap (λ x. take i xs ++ x ∷ []) (sym is)
+
+-- a test of each element of a list, along a walk that is one further
+all-more : {A B : Type 0} (f : B → Bool) (g : A → B) (xs : List A) (x : A) → list_all f (map g xs) ≡ true → f (g x) ≡ true → list_all f (map g (xs ++ x ∷ [])) ≡ true
+all-more f g [] x e h = both (f (g x)) true h refl
+all-more f g (y ∷ xs) x e h = both (f (g y)) (list_all f (map g (xs ++ x ∷ []))) (first (f (g y)) (list_all f (map g xs)) e) (all-more f g xs x (second (f (g y)) (list_all f (map g xs)) e) h)
+
+pub all-on : {A B : Type 0} (f : B → Bool) (g : A → B) (xs : List A) (i : ℕ) (x : A) → i < length xs → x ≡ get_or xs i x → (all one now : Bool) → (all ≡ true → list_all f (map g (take i xs)) ≡ true) → (one ≡ true → f (g x) ≡ true)
+    → now ≡ (all && one) → now ≡ true → list_all f (map g (take (i + 1) xs)) ≡ true
+all-on f g xs i x h is all one now k l m t =
+    let w : (all && one) ≡ true = sym m ∙ t in
+    ap (λ n. list_all f (map g (take n xs))) (add-one i)
+    ∙ ap (λ ys. list_all f (map g ys)) (take-suc xs i x h)
+    ∙ ap (λ x. list_all f (map g (take i xs ++ x ∷ []))) (sym is)
+    ∙ all-more f g (take i xs) x (k (first all one w)) (l (second all one w))
+
+-- all of a list
+pub taken-whole : {A : Type 0} (xs : List A) (i : ℕ) → length xs ≤ i → take i xs ≡ xs
+taken-whole [] zero h = refl
+taken-whole [] (suc i) h = refl
+taken-whole (x ∷ xs) zero h = absurd (let z = h in omega (arith, z))
+taken-whole (x ∷ xs) (suc i) h = ap (λ ys. x ∷ ys) (taken-whole xs i (omega (arith, h)))

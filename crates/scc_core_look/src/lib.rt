@@ -8,4 +8,5 @@ mod processes;
 
 pub use cells::names_differ;
 pub use exits::{exits_stay, statement_exits_stay};
-pub use processes::is_clocked;
+pub use locals::{cell_fits, cells_fit};
+pub use processes::{are_clocked, is_clocked};

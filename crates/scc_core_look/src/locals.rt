@@ -1,5 +1,6 @@
 //! What stands under the names of cells: locals behind the names of their processes, and ports that stand for signals or ports of the top.
 ghost use Rattle.std.specs.Prelude.{◌≡◌, ◌^◌, List, map, nat_lt, option_and_then, slice_get, true};
+ghost use Rattle.std.specs.List.{list_all};
 ghost use Rattle.scc_bits_kinds.specs.Kinds.{width_of};
 ghost use Rattle.scc_core.specs.Names.{cell_at, of_path, walk};
 ghost use Rattle.scc_core.specs.Tables.{IsTable};
@@ -112,7 +113,6 @@ fn name_fits(processes: &List<CoreProcess>, sort: &CellSort, name: &CellName) ->
     }
 }
 
-
 // The cell of that path that is no pointer, by the table of names.
 fn at_path(places: &Places, path: &[PathPart]) -> Option<u32>
     ensures { result ≡ option_and_then (cell_at places.now) (walk places.now (record { 0 = 0 }) (of_path path.now)) }
@@ -163,4 +163,26 @@ pub fn cell_fits(
     let named = name_fits(processes, &cell.sort, &cell.name);
     let sorted = sort_fits(places, cells, cell.kind, &cell.sort);
     both(!is_pointer(cell), both(named, sorted))
+}
+
+fn all_fit(
+    places: &Places,
+    processes: &List<CoreProcess>,
+    cells: &List<Cell>,
+    some: &[Cell],
+) -> bool
+    ensures { (vectors : List VectorSize2) → IsTable places.now cells.now vectors → result ≡ true → list_all (fit_cell (map process_of processes.now) (map cell_of cells.now)) (map cell_of some.now) ≡ true }
+{
+    let mut fit = true;
+    for cell in some {
+        fit = both(fit, cell_fits(places, processes, cells, cell));
+    }
+    fit
+}
+
+/// Whether that is so of each cell.
+pub fn cells_fit(places: &Places, processes: &List<CoreProcess>, cells: &List<Cell>) -> bool
+    ensures { (vectors : List VectorSize2) → IsTable places.now cells.now vectors → result ≡ true → list_all (fit_cell (map process_of processes.now) (map cell_of cells.now)) (map cell_of cells.now) ≡ true }
+{
+    all_fit(places, processes, cells, cells.as_slice())
 }

@@ -1,14 +1,15 @@
 //! Clocks, resets and exits of processes.
 ghost use Rattle.std.specs.Prelude.{◌≡◌, ◌&&◌, ◌||◌, map, not, option_map, is_some, true};
+ghost use Rattle.std.specs.List.{list_all};
 ghost use Rattle.scc_core_spec.specs.Exits.{exits_within};
 ghost use Rattle.scc_core_spec.specs.IsResolved.{fit_edge, fit_reset};
 ghost use Rattle.scc_core_spec.specs.Program.{is_root};
 ghost use Rattle.scc_core_spec.specs.Uses.{has_sort};
 ghost use Rattle.scc_core_view.specs.Codes.{code_of};
 ghost use Rattle.scc_core_view.specs.Programs.{cell_of, edge_of, is_thread, process_of, reset_of, sort_of};
-ghost use Rattle.scc_core_look.specs.Clocked.{IsClocked};
+ghost use Rattle.scc_core_look.specs.Clocked.{IsClocked, is_clocked as clocked};
 
-use crate::exits::exits_stay;
+use crate::exits::{both, exits_stay};
 use scc_base::List;
 use scc_core::{Cell, CellSort, CoreProcess, Edge2, Reset2, Sort2};
 
@@ -60,4 +61,15 @@ pub fn is_clocked(cells: &List<Cell>, process: &CoreProcess) -> bool
         && edge_fits(cells, process.edge)
         && reset_fits(cells, thread, process.reset)
         && exits_stay(0, process.body.as_slice())
+}
+
+/// Whether that is so of each process.
+pub fn are_clocked(cells: &List<Cell>, processes: &[CoreProcess]) -> bool
+    ensures { result ≡ true → list_all (clocked (map cell_of cells.now)) (map process_of processes.now) ≡ true }
+{
+    let mut all = true;
+    for process in processes {
+        all = both(all, is_clocked(cells, process));
+    }
+    all
 }
