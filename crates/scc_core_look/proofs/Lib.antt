@@ -2,3 +2,4 @@ pub mod Leaving
 pub mod Apart
 pub mod Alike
 pub mod Sorts
+pub mod Noted

@@ -4,9 +4,11 @@
 mod cells;
 mod exits;
 mod locals;
+mod names;
 mod processes;
 
 pub use cells::names_differ;
 pub use exits::{exits_stay, statement_exits_stay};
 pub use locals::{cell_fits, cells_fit};
+pub use names::processes_differ;
 pub use processes::{are_clocked, is_clocked};
