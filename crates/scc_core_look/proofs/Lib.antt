@@ -1,0 +1,5 @@
+pub mod Leaving
+pub mod Apart
+pub mod Alike
+pub mod Sorts
+pub mod Noted
