@@ -1,0 +1,4 @@
+pub mod Firsts
+pub mod Terms
+pub mod Idle
+pub mod Steps

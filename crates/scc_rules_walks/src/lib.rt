@@ -1,0 +1,10 @@
+//! Walks over statements: what they read, waits, and loops that a path goes through without one.
+#![tactic(auto)]
+
+mod loads;
+mod waits;
+mod ways;
+
+pub use loads::{Load, left_loads, own_loads, put_loads, test_loads, value_loads};
+pub use waits::first_wait;
+pub use ways::loop_without_wait;
