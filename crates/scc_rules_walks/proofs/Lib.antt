@@ -2,3 +2,4 @@ pub mod Firsts
 pub mod Terms
 pub mod Idle
 pub mod Steps
+pub mod Acting

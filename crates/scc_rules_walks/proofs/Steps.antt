@@ -36,7 +36,7 @@ adds (node.Exit n) p = record { idles = λ c. refl; places = λ c. refl }
 adds (node.Wait n) p = record { idles = λ c. refl; places = λ c. refl }
 adds (node.Alias to target) p = put_adds _ (λ c. refl) (λ c. refl)
 
-abbrev node_fold : CoreNode → Node
+abbrev pub node_fold : CoreNode → Node
 node_fold = fold-CoreNode Node (Code → Code) stmt_node stmt_step
 
 pub stmt_adds : (s : CoreStmt) → Adds (stmt_code s)
