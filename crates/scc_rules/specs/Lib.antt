@@ -1,3 +1,4 @@
 pub mod Refusals
 pub mod Stands
 pub mod Chosen
+pub mod Marks

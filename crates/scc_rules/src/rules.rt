@@ -12,7 +12,8 @@ ghost use Rattle.scc_core_view.specs.Programs.{is_thread, program_of};
 ghost use Rattle.scc_rules.specs.Chosen.{AreLocated, AreLocatedAll, chosen_by, own_in};
 ghost use Rattle.scc_rules.specs.Refusals.{Finds, MayFind, MayStop};
 ghost use Rattle.scc_rules.specs.Stands as spec;
-ghost use Rattle.scc_rules.specs.Stands.{HasLives, Tells, first_along, stays};
+ghost use Rattle.scc_rules_laws.specs.Found.{first_along};
+ghost use Rattle.scc_rules.specs.Stands.{HasLives, Tells, stays};
 
 use crate::clock::{clock_as_data, missing_sensitivity};
 use crate::cycles::{Readers, comb_loop, order_of, readers_of};

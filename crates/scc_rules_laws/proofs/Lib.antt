@@ -5,3 +5,4 @@ pub mod Writers
 pub mod Missed
 pub mod Names
 pub mod Shared
+pub mod Fed

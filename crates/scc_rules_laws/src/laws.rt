@@ -1,9 +1,11 @@
 //! Laws on lists of what is read and written.
 ghost use Rattle.std.specs.Prelude.{◌≡◌, ℕ, Bool, List, [], map};
 ghost use Rattle.scc_core_spec.specs.Clashes.{shared_variable, two_writers};
+ghost use Rattle.scc_core_spec.specs.Feeding.{feeds};
 ghost use Rattle.scc_core_spec.specs.Program.{Program};
 ghost use Rattle.scc_core_spec.specs.Rules.{clock_as_data, clocks, latch, missing_sensitivity};
 ghost use Rattle.scc_core_spec.specs.Uses.{among};
+ghost use Rattle.scc_rules_laws.specs.Feeds.{feeds_by};
 ghost use Rattle.scc_rules_laws.specs.Found.{clock_used, first_along, missed_put, shared_in, two_in, unlisted_read};
 ghost use Rattle.scc_rules_laws.specs.Seen.{AreSeen, Seen};
 
@@ -27,4 +29,9 @@ pub fn shared_variables_are_told_by_lists()
 /// And the first write of a root that some path doesn't write (E504).
 pub fn latches_are_told_by_lists()
     ensures { (p : Program) (thin : List (List Seen)) → AreSeen p thin → first_along (missed_put p.cells) p.processes thin ≡ latch p }
+{}
+
+/// And which combinational method feeds which, so their cycles (E505) and their order.
+pub fn what_feeds_is_told_by_lists()
+    ensures { (p : Program) (thin : List (List Seen)) → AreSeen p thin → (i j : ℕ) → feeds p i j ≡ feeds_by p thin i j }
 {}

@@ -3,3 +3,4 @@ pub mod Terms
 pub mod Idle
 pub mod Steps
 pub mod Acting
+pub mod Sets
