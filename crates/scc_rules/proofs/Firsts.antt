@@ -17,7 +17,8 @@ use Rattle.scc_core_spec.specs.Rules.{waits, wait_in_method, loop_may_not_wait, 
 use Rattle.scc_core_view.specs.Codes.{code_of}
 use Rattle.scc_core_view.specs.Programs.{is_thread, process_of, program_of}
 use Rattle.scc_rules.specs.declared.facts.Facts.{Facts}
-use Rattle.scc_rules.specs.Stands.{HasLives, first_along, idling, ending, idle_in, in_method, waiting}
+use Rattle.scc_rules_laws.specs.Found.{first_along}
+use Rattle.scc_rules.specs.Stands.{HasLives, idling, ending, idle_in, in_method, waiting}
 
 pub first_here : {A B : Type 0} (f : A → Option B) (xs : List A) (i : ℕ) (x : A) → i < length xs → x ≡ get_or xs i x → first_of f (drop i xs) ≡ or_else (f x) (first_of f (drop (i + 1) xs))
 first_here f xs i x h is =

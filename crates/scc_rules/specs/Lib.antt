@@ -1,5 +1,4 @@
 pub mod Refusals
-pub mod Ways
 pub mod Stands
-pub mod Loads
 pub mod Chosen
+pub mod Marks

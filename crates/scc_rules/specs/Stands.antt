@@ -30,12 +30,6 @@ pub record HasBodies (cs : Cells) (ps : List CoreProcess) (l : Lives) : Type 0 w
   pub bodies : map code_of l.bodies.items ≡ map (λ p. live cs (code_of p.body)) ps
   pub ends : l.ends.items ≡ map (λ p. (alive cs (code_of p.body)).ends) ps
 
--- the first answer along two lists
-abbrev pub first_along : {A B C : Type 0} → (A → B → Option C) → List A → List B → Option C
-first_along f [] ys = None
-first_along f (x ∷ xs) [] = None
-first_along f (x ∷ xs) (y ∷ ys) = or_else (f x y) (first_along f xs ys)
-
 -- what a rule says of one process: the first wait, in a method; a loop of a live part that may not wait; an end of a thread to which a path comes
 abbrev pub in_method : Bool → Option Place → Option Refusal
 in_method true place = None

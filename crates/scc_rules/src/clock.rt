@@ -1,15 +1,28 @@
 //! Clocks as data, and sensitivity lists.
-ghost use Rattle.std.specs.Prelude.{IfOk};
+ghost use Rattle.std.specs.Prelude.{◌≡◌, ℕ, ◌||◌, ◌++◌, Some, IfOk, OnOk};
+ghost use Rattle.std.specs.List.{list_any};
 ghost use Rattle.scc_base.specs.declared.code.Code.TheVariants as code;
+ghost use Rattle.scc_core_spec.specs.First.{first_of, refused, when};
+ghost use Rattle.scc_core_spec.specs.Program.{Program};
+ghost use Rattle.scc_core_spec.specs.Rules as rule;
+ghost use Rattle.scc_core_spec.specs.Rules.{edge_cells, reset_cells};
+ghost use Rattle.scc_core_spec.specs.Uses.{among};
+ghost use Rattle.scc_core_view.specs.Programs.{process_of};
+ghost use Rattle.scc_rules_laws.specs.Found.{clock_used, first_along, read_found};
+ghost use Rattle.scc_rules_walks.specs.Cells.{has_flag};
+ghost use Rattle.scc_rules.specs.Marks.{HasMarks, clocks_in, seen_all, seen_in, seen_of};
 ghost use Rattle.scc_rules.specs.Refusals.{Finds};
 
 use crate::facts::{Facts, Role, filled, is_combinational};
 use scc_base::{Code, NoMemory, Place, Refusal, lost};
+use scc_core::CoreProcess;
 use scc_core_flow::Mark;
+use scc_rules_walks::{has, has_any, none_of, put, roots_of};
 use std::alloc::Global;
 
 fn refusal(code: Code, place: Place) -> Option<Refusal>
-    ensures { Finds code result }
+    ensures code { Finds code result }
+    ensures found { result ≡ Some (refused code place) }
 {
     Some(Refusal {
         code,
@@ -20,54 +33,127 @@ fn refusal(code: Code, place: Place) -> Option<Refusal>
 
 /// A clock that is a reset or stands in a sensitivity list, at that process, or is read.
 pub fn clock_as_data(alloc: Global, f: &Facts<'_>) -> Result<Option<Refusal>, NoMemory>
-    ensures { IfOk result (Finds code.ClockAsData) }
+    ensures code { IfOk result (Finds code.ClockAsData) }
+    ensures first { (p : Program) → HasMarks f.now p → IfOk result (λ found. found ≡ rule.clock_as_data p) }
 {
-    let mut clocks = filled(alloc, f.core.cells.len(), false)?;
-    for p in f.core.processes.as_slice() {
-        if let Some(edge) = p.edge {
-            match clocks.get_mut(edge.cell as usize) {
-                Some(is) => *is = true,
-                None => return Err(lost()),
-            }
-        }
+    let mut clocks = none_of(alloc, f.core.cells.len())?;
+    add_clocks(f.core.processes.as_slice(), &mut clocks)?;
+    first_clock(alloc, f, f.core.processes.as_slice(), clocks.as_slice())
+}
+
+fn add_clocks(processes: &[CoreProcess], set: &mut Vec<bool>) -> Result<(), NoMemory>
+    ensures { OnOk result ((n : ℕ) → has_flag set.new.items n ≡ (among n (clocks_in processes.now) || has_flag set.old.items n)) }
+{
+    for p in processes {
+        add_clock(p, set)?;
     }
-    let is_clock = clocks.as_slice();
-    for (p, marks) in f.core.processes.as_slice().iter().zip(f.marks.iter()) {
-        let mut used = match p.reset {
-            Some(reset) => has(is_clock, reset.cell),
-            None => false,
+    Ok(())
+}
+
+fn add_clock(p: &CoreProcess, set: &mut Vec<bool>) -> Result<(), NoMemory>
+    ensures { OnOk result ((n : ℕ) → has_flag set.new.items n ≡ (among n (edge_cells (process_of p.now).edge) || has_flag set.old.items n)) }
+{
+    match p.edge {
+        Some(edge) => put(set, edge.cell, true),
+        None => Ok(()),
+    }
+}
+
+// Process by process.
+fn first_clock(
+    alloc: Global,
+    f: &Facts<'_>,
+    processes: &[CoreProcess],
+    clocks: &[bool],
+) -> Result<Option<Refusal>, NoMemory>
+    ensures code { IfOk result (Finds code.ClockAsData) }
+    ensures first { IfOk result (λ found. found ≡ first_along (λ q. clock_used (has_flag clocks.now) (process_of q)) processes.now (seen_all f.now)) }
+{
+    for (k, p) in processes.iter().enumerate() {
+        let Some(marks) = f.marks.get(k) else {
+            return Err(lost());
         };
-        for cell in p.senses.as_slice() {
-            used = used || has(is_clock, *cell);
-        }
-        if used {
-            // E408.
-            return Ok(refusal(Code::ClockAsData, p.place));
-        }
-        for mark in marks.as_slice() {
-            if !mark.write && meets(alloc, f, mark, is_clock)? {
-                return Ok(refusal(Code::ClockAsData, mark.place));
-            }
+        let found = clock_in(alloc, f, p, marks.as_slice(), clocks)?;
+        match found {
+            Some(found) => return Ok(Some(found)),
+            None => {}
         }
     }
     Ok(None)
 }
 
-fn has(set: &[bool], cell: u32) -> bool {
-    set.get(cell as usize) == Some(&true)
+fn clock_in(
+    alloc: Global,
+    f: &Facts<'_>,
+    p: &CoreProcess,
+    marks: &[Mark],
+    clocks: &[bool],
+) -> Result<Option<Refusal>, NoMemory>
+    ensures code { IfOk result (Finds code.ClockAsData) }
+    ensures found { IfOk result (λ found. found ≡ clock_used (has_flag clocks.now) (process_of p.now) (seen_in f.now marks.now)) }
+{
+    if is_sensed(p, clocks) {
+        // E408.
+        Ok(refusal(Code::ClockAsData, p.place))
+    } else {
+        first_read(alloc, f, marks, clocks, Code::ClockAsData)
+    }
 }
 
-// Whether some root of a mark is in a set.
-fn meets(alloc: Global, f: &Facts<'_>, mark: &Mark, set: &[bool]) -> Result<bool, NoMemory> {
-    if f.role(mark.named.base)? != Role::Root {
-        return Ok(false);
+// Whether a reset or a level of a sensitivity list is in a set.
+fn is_sensed(p: &CoreProcess, set: &[bool]) -> bool
+    ensures { result ≡ list_any (has_flag set.now) (reset_cells (process_of p.now).reset ++ p.now.senses) }
+{
+    match p.reset {
+        Some(reset) => has(set, reset.cell) || has_any(set, p.senses.as_slice()),
+        None => has_any(set, p.senses.as_slice()),
     }
-    for cell in f.cells(alloc, mark)?.iter() {
-        if has(set, *cell) {
-            return Ok(true);
+}
+
+// The first read of a cell that is in a set.
+fn first_read(
+    alloc: Global,
+    f: &Facts<'_>,
+    marks: &[Mark],
+    set: &[bool],
+    code: Code,
+) -> Result<Option<Refusal>, NoMemory>
+    ensures code { IfOk result (Finds code) }
+    ensures first { IfOk result (λ found. found ≡ first_of (λ m. read_found code (has_flag set.now) (seen_of f.now m)) marks.now) }
+{
+    for mark in marks {
+        match read_in(alloc, f, mark, set, code)? {
+            Some(found) => return Ok(Some(found)),
+            None => {}
         }
     }
-    Ok(false)
+    Ok(None)
+}
+
+fn read_in(
+    alloc: Global,
+    f: &Facts<'_>,
+    mark: &Mark,
+    set: &[bool],
+    code: Code,
+) -> Result<Option<Refusal>, NoMemory>
+    ensures code { IfOk result (Finds code) }
+    ensures found { IfOk result (λ found. found ≡ read_found code (has_flag set.now) (seen_of f.now mark.now)) }
+{
+    if mark.write {
+        Ok(None)
+    } else {
+        let cells = roots_of(alloc, f.roots.as_slice(), &mark.named)?;
+        let is = has_any(set, cells.as_slice());
+        Ok(found_if(is, code, mark.place))
+    }
+}
+
+fn found_if(is: bool, code: Code, place: Place) -> Option<Refusal>
+    ensures code { Finds code result }
+    ensures found { result ≡ when is (refused code place) }
+{
+    if is { refusal(code, place) } else { None }
 }
 
 /// A root that a combinational method reads and that isn't in its sensitivity list.

@@ -1,5 +1,6 @@
 use Rattle.std.proofs.Common.{◌≡◌, ap, ◌∙◌}
-use Rattle.scc_rules.specs.Stands.{ending, first_along}
+use Rattle.scc_rules_laws.specs.Found.{first_along}
+use Rattle.scc_rules.specs.Stands.{ending}
 use Rattle.scc_rules.proofs.Firsts.{end_all}
 use Rattle.scc_rules.proofs.rules.end_reached.Goals as goal
 

@@ -6,7 +6,7 @@ use Rattle.scc_rules.proofs.rules.first_clash.Goals as goal
 
 pub returns : goal.returns
 returns c =
-    let clocks = finds_may code.ClockAsData 0 refl refl c.in_ok-clocks.clocks c.in_ok-clocks.ensures in
+    let clocks = finds_may code.ClockAsData 0 refl refl c.in_ok-clocks.clocks c.in_ok-clocks.ensures.code in
     let writers = finds_may code.TwoWriters 0 refl refl c.in_ok-writers.writers c.in_ok-writers.ensures in
     let shared = finds_may code.SharedVariable 0 refl refl c.in_ok-shared.shared c.in_ok-shared.ensures in
     let missing = finds_may code.MissingSensitivity 0 refl refl c.in_ok-missing.missing c.in_ok-missing.ensures in

@@ -1,5 +1,6 @@
 use Rattle.std.proofs.Common.{◌≡◌, drop}
-use Rattle.scc_rules.specs.Stands.{ending, first_along}
+use Rattle.scc_rules_laws.specs.Found.{first_along}
+use Rattle.scc_rules.specs.Stands.{ending}
 use Rattle.scc_rules.proofs.rules.first_ending.Given as goal
 
 abbrev pub invariant-loop-k : goal.invariant-loop-k

@@ -1,0 +1,6 @@
+pub mod Firsts
+pub mod Terms
+pub mod Idle
+pub mod Steps
+pub mod Acting
+pub mod Sets

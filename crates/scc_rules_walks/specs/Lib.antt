@@ -1,0 +1,4 @@
+pub mod Ways
+pub mod Loads
+pub mod Acts
+pub mod Cells
