@@ -1,2 +1,4 @@
 pub mod Bools
 pub mod Backward
+pub mod Acts
+pub mod Owning

@@ -3,4 +3,4 @@
 
 mod laws;
 
-pub use laws::cells_are_kept_where_they_are_needed;
+pub use laws::{cells_are_kept_where_they_are_needed, kept_cells_are_owned};
