@@ -15,7 +15,8 @@ use Rattle.scc_core_static_laws.specs.Held.{Knows}
 use Rattle.scc_core_view.specs.Programs.{cells_of as all_cells}
 use Rattle.scc_core_view.specs.Terms.{Taken, taken_of}
 use Rattle.scc_core_view.specs.Whole.{AreWholeCells, IsWhole}
-use Rattle.scc_states.specs.Resets.{Given, assigns_in, fills}
+use Rattle.scc_states.specs.Resets.{Given, assigns_in}
+use Rattle.scc_states_kept.specs.Filled.{fills}
 
 -- a location is one cell, and all of it is taken
 abbrev pub FillsOne : Known → Cells → CoreLeft → Taken → Type 0

@@ -1,10 +1,8 @@
 //! Threads as states: waits, and the segments between them.
 //!
-//! `thread` has `split`, the order of what it looks at and its limits; `reset` says what an asynchronous reset may do,
-//! `kept` which cells live across a wait.
+//! `thread` has `split`, the order of what it looks at and its limits; `reset` says what an asynchronous reset may do.
 #![tactic(auto)]
 
-mod kept;
 mod laws;
 mod reset;
 mod thread;

@@ -11,7 +11,6 @@ ghost use Rattle.scc_states.specs.Resets.{LoadsAll};
 ghost use Rattle.scc_states.specs.Splits.{IsSplitSo, IsTold, Refuses, with_kept};
 ghost use Rattle.scc_states.specs.Wholes.{IsWholeThread};
 
-use crate::kept::kept_of;
 use crate::laws::a_table_tells_of_whole_threads;
 use crate::reset::check_reset;
 use crate::types::Split;
@@ -19,6 +18,7 @@ use scc_base::{List, NoMemory, Stop, lost};
 use scc_core::{Core, CoreProcess, Known, Places};
 use scc_core_flow::live;
 use scc_states_cut::{CutBody, cut_body};
+use scc_states_kept::kept_of;
 use std::alloc::Global;
 
 /// The segments of a thread of a checked core, by its number. It refuses a wait too many (TooManyStates), segments that are too

@@ -86,8 +86,8 @@ module _ (P : Act → Type 0) where
       let ha = live_all cs a (first a (acts b ++ acts r) h.1) in
       let hb = live_all cs b (first b (acts r) (second a (acts b ++ acts r) h.1)) in
       then_all (by_test (goes cs t) p t (alive cs a) (alive cs b)).ends (by_test (goes cs t) p t (alive cs a) (alive cs b)) (alive cs r)
-        (by (goes cs t) ha hb)
-        (live_all cs r (second b (acts r) (second a (acts b ++ acts r) h.1)))
+      (by (goes cs t) ha hb)
+      (live_all cs r (second b (acts r) (second a (acts b ++ acts r) h.1)))
     where
       by : (o : Option Bool) → All (live cs a) → All (live cs b) → All (by_test o p t (alive cs a) (alive cs b)).code
       by (Some true) ha hb = ha
@@ -120,19 +120,19 @@ module _ (P : Act → Type 0) where
       let rest = segment r next outer in
       let hr = segment_all r next outer (second b (acts r) (second a (acts b ++ acts r) h.1)) k o in
       opened_all (opens 0 (If p t a b End)) (Test p t (segment a rest outer) (segment b rest outer)) (Plain (If p t a b End) rest)
-        (h.0, each_both P _ _ (segment_all a rest outer ha hr o) (each_both P _ [] (segment_all b rest outer hb hr o) tt))
-        (h.0, each_both P (acts a) _ ha (each_both P (acts b) _ hb hr))
+      (h.0, each_both P _ _ (segment_all a rest outer ha hr o) (each_both P _ [] (segment_all b rest outer hb hr o) tt))
+      (h.0, each_both P (acts a) _ ha (each_both P (acts b) _ hb hr))
   segment_all (Block p b r) next outer h k o =
       let rest = segment r next outer in
       let hr = segment_all r next outer (second b (acts r) h) k o in
       opened_all (opens 0 (Block p b End)) (segment b rest (rest ∷ outer)) (Plain (Block p b End) rest)
-        (segment_all b rest (rest ∷ outer) (first b (acts r) h) hr (hr, o))
-        (each_both P (acts b) _ (first b (acts r) h) hr)
+      (segment_all b rest (rest ∷ outer) (first b (acts r) h) hr (hr, o))
+      (each_both P (acts b) _ (first b (acts r) h) hr)
   segment_all (Loop p n b r) next outer h k o =
       let hr = segment_all r next outer (second b (acts r) h) k o in
       opened_all (opens 0 (Loop p n b End)) (segment b Finish outer) (Plain (Loop p n b End) (segment r next outer))
-        (segment_all b Finish outer (first b (acts r) h) tt o)
-        (each_both P (acts b) _ (first b (acts r) h) hr)
+      (segment_all b Finish outer (first b (acts r) h) tt o)
+      (each_both P (acts b) _ (first b (acts r) h) hr)
   segment_all (Exit p n r) next outer h k o = behind_all n outer o
   segment_all (Wait p l n r) next outer h k o = tt
 
@@ -147,15 +147,15 @@ module _ (P : Act → Type 0) where
       let rest = segment r next outer in
       let hr = segment_all r next outer hc k o in
       each_both AllOf (segments a rest outer) _ (segments_all a rest outer ha hr o)
-        (each_both AllOf (segments b rest outer) _ (segments_all b rest outer hb hr o) (segments_all r next outer hc k o))
+      (each_both AllOf (segments b rest outer) _ (segments_all b rest outer hb hr o) (segments_all r next outer hc k o))
   segments_all (Block p b r) next outer h k o =
       let rest = segment r next outer in
       let hr = segment_all r next outer (second b (acts r) h) k o in
       each_both AllOf (segments b rest (rest ∷ outer)) _ (segments_all b rest (rest ∷ outer) (first b (acts r) h) hr (hr, o)) (segments_all r next outer (second b (acts r) h) k o)
   segments_all (Loop p n b r) next outer h k o =
       each_both AllOf (segments b (segment (Loop p n b r) next outer) outer) _
-        (segments_all b (segment (Loop p n b r) next outer) outer (first b (acts r) h) (segment_all (Loop p n b r) next outer h k o) o)
-        (segments_all r next outer (second b (acts r) h) k o)
+      (segments_all b (segment (Loop p n b r) next outer) outer (first b (acts r) h) (segment_all (Loop p n b r) next outer h k o) o)
+      (segments_all r next outer (second b (acts r) h) k o)
   segments_all (Exit p n r) next outer h k o = segments_all r next outer h k o
   segments_all (Wait p l n r) next outer h k o = (segment_all r next outer h k o, segments_all r next outer h k o)
 

@@ -98,10 +98,10 @@ module _ (cs : Cells) (x : ℕ) where
     out_only (Aim p to t r) u h n = out_only r u h n
     out_only (If p t a b r) u h n = λ y i.
         none_of ((flow cs a u).out n y || (flow cs b u).out n y) _ (none_of ((flow cs a u).out n y) ((flow cs b u).out n y) (out_only a u h n y i) (out_only b u h n y i))
-          (out_only r (either (flow cs a u).fall (flow cs b u).fall) (λ z j. none_of ((flow cs a u).fall z) ((flow cs b u).fall z) (fall_only a u h z j) (fall_only b u h z j)) n y i)
+        (out_only r (either (flow cs a u).fall (flow cs b u).fall) (λ z j. none_of ((flow cs a u).fall z) ((flow cs b u).fall z) (fall_only a u h z j) (fall_only b u h z j)) n y i)
     out_only (Block p b r) u h n = λ y i.
         none_of ((flow cs b u).out (suc n) y) _ (out_only b u h (suc n) y i)
-          (out_only r (either (flow cs b u).fall ((flow cs b u).out 0)) (λ z j. none_of ((flow cs b u).fall z) ((flow cs b u).out 0 z) (fall_only b u h z j) (out_only b u h 0 z j)) n y i)
+        (out_only r (either (flow cs b u).fall ((flow cs b u).out 0)) (λ z j. none_of ((flow cs b u).fall z) ((flow cs b u).out 0 z) (fall_only b u h z j) (out_only b u h 0 z j)) n y i)
     out_only (Loop p m b r) u h n = out_only b u h n
     out_only (Exit p m r) u h n = λ y i. ap (λ b. nat_eq n m && b) (h y i) ∙ and_false (nat_eq n m)
     out_only (Wait p l m r) u h n = out_only r u h n
@@ -168,14 +168,14 @@ module _ (cs : Cells) (x : ℕ) where
       let l = leaves (λ m. f.out m x) outs in
       let g = f.fall x && next in
       ap (λ z. z || (g || leaves (λ m. (fa.out m x || fb.out m x) || f.out m x) outs))
-        (has_both (early_in cs (loads t) u) (fa.early ++ (fb.early ++ f.early))
-        ∙ ap (λ z. z || has_any (fa.early ++ (fb.early ++ f.early))) (early_only u h (loads t))
-        ∙ ap (λ z. (u x && reads_cell cs x (loads t)) || z) (has_both fa.early (fb.early ++ f.early) ∙ ap (λ z. has_any fa.early || z) (has_both fb.early f.early)))
+      (has_both (early_in cs (loads t) u) (fa.early ++ (fb.early ++ f.early))
+      ∙ ap (λ z. z || has_any (fa.early ++ (fb.early ++ f.early))) (early_only u h (loads t))
+      ∙ ap (λ z. (u x && reads_cell cs x (loads t)) || z) (has_both fa.early (fb.early ++ f.early) ∙ ap (λ z. has_any fa.early || z) (has_both fb.early f.early)))
       ∙ ap (λ z. ((u x && reads_cell cs x (loads t)) || (has_any fa.early || (has_any fb.early || has_any f.early))) || (g || z))
-        (leaves_both (λ m. fa.out m x || fb.out m x) (λ m. f.out m x) outs ∙ ap (λ z. z || l) (leaves_both (λ m. fa.out m x) (λ m. fb.out m x) outs))
+      (leaves_both (λ m. fa.out m x || fb.out m x) (λ m. f.out m x) outs ∙ ap (λ z. z || l) (leaves_both (λ m. fa.out m x) (λ m. fb.out m x) outs))
       ∙ if_told (u x) (reads_cell cs x (loads t)) (fa.fall x) (fb.fall x) n (needed cs x a n outs) (needed cs x b n outs) (has_any fa.early) la (has_any fb.early) lb (has_any f.early) g l
-        (tells r (either fa.fall fb.fall) (λ y i. none_of (fa.fall y) (fb.fall y) (fall_only a u h y i) (fall_only b u h y i)) next outs)
-        (tells a u h n outs) (tells b u h n outs)
+      (tells r (either fa.fall fb.fall) (λ y i. none_of (fa.fall y) (fb.fall y) (fall_only a u h y i) (fall_only b u h y i)) next outs)
+      (tells a u h n outs) (tells b u h n outs)
   tells (Block p b r) u h next outs =
       let fb = flow cs b u in
       let f = flow cs r (either fb.fall (fb.out 0)) in
@@ -186,8 +186,8 @@ module _ (cs : Cells) (x : ℕ) where
       ap (λ z. z || (g || leaves (λ m. fb.out (suc m) x || f.out m x) outs)) (has_both fb.early f.early)
       ∙ ap (λ z. (has_any fb.early || has_any f.early) || (g || z)) (leaves_both (λ m. fb.out (suc m) x) (λ m. f.out m x) outs)
       ∙ block_told (u x && needed cs x b n (n ∷ outs)) (fb.fall x) (fb.out 0 x) n (has_any fb.early) lb (has_any f.early) g l
-        (tells r (either fb.fall (fb.out 0)) (λ y i. none_of (fb.fall y) (fb.out 0 y) (fall_only b u h y i) (out_only b u h 0 y i)) next outs)
-        (tells b u h n (n ∷ outs))
+      (tells r (either fb.fall (fb.out 0)) (λ y i. none_of (fb.fall y) (fb.out 0 y) (fall_only b u h y i) (out_only b u h 0 y i)) next outs)
+      (tells b u h n (n ∷ outs))
   tells (Loop p m b r) u h next outs =
       let fb = flow cs b u in
       ap (λ z. has_any fb.early || (z || leaves (λ n. fb.out n x) outs)) (sym (and_false (fb.fall x))) ∙ tells b u h false outs

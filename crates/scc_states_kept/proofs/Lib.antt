@@ -2,3 +2,5 @@ pub mod Bools
 pub mod Backward
 pub mod Acts
 pub mod Owning
+pub mod Further
+pub mod Standing

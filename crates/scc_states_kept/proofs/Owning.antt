@@ -109,5 +109,5 @@ module _ (cs : Cells) (x : ℕ) where
       kept_needed cs x i p
       ∙ ap (λ b. (has_sort (is_local_of i) cs x || (has_sort is_variable cs x && b)) && somewhere p) (among_all (acts (live cs p.body)))
       ∙ own_needs (has_sort (is_local_of i) cs x) (has_sort is_variable cs x) (list_any (λ a. among x (writes_of cs a)) (acts (live cs p.body)))
-          (list_any (λ a. reads_cell cs x a.reads) (acts (live cs p.body))) (somewhere p) (needs_read p)
+      (list_any (λ a. reads_cell cs x a.reads) (acts (live cs p.body))) (somewhere p) (needs_read p)
       ∙ ap (λ b. b && somewhere p) (sym (owned_is i (acts (live cs p.body))))

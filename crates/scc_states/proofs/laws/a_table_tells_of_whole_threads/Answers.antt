@@ -8,7 +8,8 @@ use Rattle.scc_core_flow.proofs.Tests.{each_turned}
 use Rattle.scc_core_spec.specs.Static.{static}
 use Rattle.scc_core_view.specs.Programs.{cells_of}
 use Rattle.scc_core_view.specs.Terms.{taken_of, term_of}
-use Rattle.scc_states.specs.Resets.{Loads, assigns_in, fills, loads_in}
+use Rattle.scc_states.specs.Resets.{Loads, assigns_in, loads_in}
+use Rattle.scc_states_kept.specs.Filled.{fills}
 use Rattle.scc_states.specs.Wholes.{IsWholePut}
 use Rattle.scc_states.proofs.laws.a_table_tells_of_whole_threads.Goals as goal
 
