@@ -38,10 +38,10 @@ use Rattle.scc_core_view.specs.Terms.{taken_of, term_of}
 use Rattle.scc_core_view.specs.Terms as to
 use Rattle.scc_core_view.proofs.Layers.{assigns, tests, blocks, loops, exits, waits}
 use Rattle.scc_rules.specs.declared.facts.Facts.{Facts}
-use Rattle.scc_rules.specs.declared.loads.Load.{Load}
-use Rattle.scc_rules.specs.Chosen.{AreLocated, alone_of, is_alone, chosen_in, chosen_of, chosen_at, chosen_by, chosen_place, is_chosen, own_in, put_uses, uses_in}
-use Rattle.scc_rules.specs.Loads.{part_term, pick_term, use_of, uses_of}
-use Rattle.scc_rules.proofs.Terms.{base_term, left_is, node_term, stands}
+use Rattle.scc_rules_walks.specs.declared.loads.Load.{Load}
+use Rattle.scc_rules.specs.Chosen.{AreLocated, alone_of, is_alone, chosen_in, chosen_of, chosen_at, chosen_by, chosen_place, is_chosen, own_in, uses_in}
+use Rattle.scc_rules_walks.specs.Loads.{part_term, pick_term, put_uses, use_of, uses_of}
+use Rattle.scc_rules_walks.proofs.Terms.{base_term, left_is, node_term, stands}
 use Rattle.scc_rules.proofs.Firsts.{first_map}
 
 -- ---- lists

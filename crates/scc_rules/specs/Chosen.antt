@@ -29,7 +29,7 @@ use Rattle.scc_core_spec.specs.Uses.{Use, cells_of, has_sort, inside, is_single,
 use Rattle.scc_core_view.specs.Codes.{code_of}
 use Rattle.scc_core_view.specs.Terms.{taken_of, term_of}
 use Rattle.scc_rules.specs.declared.facts.Facts.{Facts}
-use Rattle.scc_rules.specs.declared.loads.Load.{Load}
+use Rattle.scc_rules_walks.specs.declared.loads.Load.{Load}
 
 -- a signal or port, by what the code holds
 abbrev pub is_shown : CellSort → Bool
@@ -71,10 +71,6 @@ is_alone l = alone_of (out-CoreBase l.base) l.parts
 -- of the locations of these uses that aren't cells by their numbers the facts tell by the table of names what the definition says
 abbrev pub AreLocated : Facts → Cells → List Use → Type 0
 AreLocated f cs us = (l : CoreLeft) (u : Use) → OneOf u us → u.left ≡ (taken_of l).left → is_alone l ≡ false → chosen_in f l ≡ is_chosen cs (taken_of l).left
-
--- what an assignment reads and writes, at its places
-abbrev pub put_uses : CoreLeft → CoreExpr → List Use
-put_uses l e = (inside (taken_of l).left ++ picked (taken_of l).pick) ++ record { place = l.place; left = (taken_of l).left } ∷ loads (term_of e)
 
 abbrev pub uses_in : List CoreStmt → List Use
 uses_in ss = own_uses (code_of ss)

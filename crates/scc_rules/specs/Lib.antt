@@ -1,5 +1,3 @@
 pub mod Refusals
-pub mod Ways
 pub mod Stands
-pub mod Loads
 pub mod Chosen

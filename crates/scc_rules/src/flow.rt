@@ -2,10 +2,10 @@
 ghost use Rattle.scc_rules.specs.Refusals.{Finds};
 
 use crate::facts::{Facts, Role, filled, is_combinational};
-use crate::loads::own_loads;
 use scc_base::{Code, NoMemory, Place, Refusal, lost, push};
 use scc_core::{CoreLeft, CoreNode, CoreStmt, Named, Sort2};
 use scc_core_flow::CellSet;
+use scc_rules_walks::own_loads;
 use std::alloc::Global;
 
 /// The cells of a method whose writes matter, by slots.

@@ -18,11 +18,11 @@ use crate::clock::{clock_as_data, missing_sensitivity};
 use crate::cycles::{Readers, comb_loop, order_of, readers_of};
 use crate::facts::{Facts, facts_of};
 use crate::flow::{Paths, first_of, paths_of};
-use crate::ways::loop_without_wait;
-use crate::whole::{first_chosen_signal, first_wait};
+use crate::whole::first_chosen_signal;
 use crate::writers::{shared_variable, two_writers};
 use scc_base::{Code, List, NoMemory, Place, Refusal, Stop};
 use scc_core::{Core, CoreProcess, CoreStmt, Known, Places, Sort2};
+use scc_rules_walks::{first_wait, loop_without_wait};
 use std::alloc::Global;
 
 /// The combinational methods by their process numbers, each behind the others that write what it reads, the least number first.

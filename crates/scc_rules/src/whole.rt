@@ -1,46 +1,14 @@
 //! Rules that look at whole bodies, what no path comes to included.
 ghost use Rattle.std.specs.Prelude.{◌≡◌, Some, [], ◌∷◌, IfOk};
 ghost use Rattle.scc_core_spec.specs.First.{first_of, or_else, when};
-ghost use Rattle.scc_core_spec.specs.Rules.{waits};
 ghost use Rattle.scc_core_spec.specs.Static.{Cells};
-ghost use Rattle.scc_core_view.specs.Codes.{code_of};
 ghost use Rattle.scc_rules.specs.Chosen.{AreLocated, chosen_at, chosen_in, chosen_place, uses_in};
 
 use crate::facts::Facts;
-use crate::loads::{Load, put_loads, test_loads};
 use scc_base::{NoMemory, Place, lost};
 use scc_core::{CoreLeft, CoreNode, CoreStmt};
+use scc_rules_walks::{Load, put_loads, test_loads};
 use std::alloc::Global;
-
-/// The first wait of a body.
-#[cycle(first_wait)]
-pub fn first_wait(body: &[CoreStmt]) -> Option<Place>
-    ensures { result ≡ first_of Some (waits (code_of body.now)) }
-{
-    for s in body {
-        match wait_in(s) {
-            Some(place) => return Some(place),
-            None => {}
-        }
-    }
-    None
-}
-
-#[cycle(first_wait)]
-fn wait_in(s: &CoreStmt) -> Option<Place>
-    ensures { result ≡ first_of Some (waits (code_of (s.now ∷ []))) }
-{
-    match &s.node {
-        CoreNode::Wait { .. } => Some(s.place),
-        CoreNode::If { yes, no, .. } => {
-            let a = first_wait(yes.as_slice());
-            let b = first_wait(no.as_slice());
-            earlier(a, b)
-        }
-        CoreNode::Block(body) | CoreNode::Loop { body, .. } => first_wait(body.as_slice()),
-        CoreNode::Assign { .. } | CoreNode::Exit(_) | CoreNode::Alias { .. } => None,
-    }
-}
 
 fn earlier(a: Option<Place>, b: Option<Place>) -> Option<Place>
     ensures { result ≡ or_else a b }

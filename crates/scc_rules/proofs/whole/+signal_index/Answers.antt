@@ -3,8 +3,8 @@ use Rattle.std.proofs.lemmas.List.{drop_all}
 use Rattle.scc_core_spec.specs.First.{first_of, or_else}
 use Rattle.scc_core_spec.specs.Uses.{loads}
 use Rattle.scc_core_view.specs.Terms.{term_of}
-use Rattle.scc_rules.specs.Chosen.{AreLocated, chosen_place, put_uses, uses_in}
-use Rattle.scc_rules.specs.Loads.{uses_of}
+use Rattle.scc_rules.specs.Chosen.{AreLocated, chosen_place, uses_in}
+use Rattle.scc_rules_walks.specs.Loads.{put_uses, uses_of}
 use Rattle.scc_rules.proofs.Firsts.{each_ok}
 use Rattle.scc_rules.proofs.Choosing.{assign_uses, block_uses, choice_found, choice_if, choice_next, exit_uses, located_back, located_front, located_here, loop_uses, test_uses, uses_told, wait_uses}
 use Rattle.scc_rules.proofs.whole.+signal_index.Goals as goal
