@@ -4,3 +4,4 @@ pub mod Acts
 pub mod Owning
 pub mod Further
 pub mod Standing
+pub mod Parts

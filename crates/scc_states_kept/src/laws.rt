@@ -1,6 +1,7 @@
 //! Laws on cells that live across a wait.
-ghost use Rattle.std.specs.Prelude.{◌≡◌, ◌&&◌, ℕ, false, []};
+ghost use Rattle.std.specs.Prelude.{◌≡◌, ◌&&◌, ℕ, Bool, false, List, []};
 ghost use Rattle.std.specs.List.{list_any};
+ghost use Rattle.scc_core_spec.specs.Code.{Code, append};
 ghost use Rattle.scc_core_spec.specs.Kept.{is_kept, is_own};
 ghost use Rattle.scc_core_spec.specs.Live.{live};
 ghost use Rattle.scc_core_spec.specs.Program.{Process};
@@ -21,4 +22,11 @@ pub fn cells_are_kept_where_they_are_needed()
 pub fn kept_cells_are_owned()
     ensures { (cs : Cells) (i : ℕ) (p : Process) (x : ℕ) →
         is_kept cs i p x ≡ (owned cs i x (live cs p.body) && list_any (λ s. needed cs x (segment_code s) false []) (all_segments (live_body cs p.body))) }
+{}
+
+/// Before some code and what stands behind it, what is needed is what is needed before the first part where what is needed before the second
+/// stands behind it.
+pub fn what_is_needed_is_told_part_by_part()
+    ensures { (cs : Cells) (x : ℕ) (c d : Code) (next : Bool) (outs : List Bool) →
+        needed cs x (append c d) next outs ≡ needed cs x c (needed cs x d next outs) outs }
 {}

@@ -10,4 +10,6 @@ mod slots;
 
 pub use fills::{filled, is_filled};
 pub use kept::kept_of;
-pub use laws::{cells_are_kept_where_they_are_needed, kept_cells_are_owned};
+pub use laws::{
+    cells_are_kept_where_they_are_needed, kept_cells_are_owned, what_is_needed_is_told_part_by_part,
+};
