@@ -1,22 +1,17 @@
 -- The live part of a statement before others, and of a list from one of its statements on.
-use Rattle.std.proofs.Common.{◌≡◌, refl, arith, ℕ, zero, suc, Bool, true, false, ◌+◌, ◌<◌, ◌||◌, not, nat_eq, set, slice_set, ◌≤◌, subst, ap, sym, ◌∙◌, List, [], ◌∷◌, ◌++◌, map, drop, get_or, length, append_assoc, drop-cons, add-one, Option, Some, None}
+use Rattle.std.proofs.Common.{◌≡◌, refl, arith, ℕ, zero, suc, Bool, true, false, ◌+◌, ◌<◌, ◌||◌, nat_eq, set, slice_set, ◌≤◌, subst, ap, sym, ◌∙◌, List, [], ◌∷◌, ◌++◌, drop, get_or, length, drop-cons, add-one, Option}
 use Rattle.std.proofs.lemmas.Bool.Decides.{nat_tests}
 use Rattle.scc_base.specs.declared.refusal.Place.{Place}
-use Rattle.scc_core.specs.declared.expr.CoreExpr.{CoreExpr}
 use Rattle.scc_core.specs.declared.stmt.CoreStmt.{CoreStmt, fold-roll-CoreStmt, ind-CoreStmt}
 use Rattle.scc_core.specs.declared.stmt.CoreNode.{CoreNode, fold-CoreNode, fold-roll-CoreNode}
-use Rattle.scc_core.specs.declared.stmt.CoreNode.TheVariants as given
 use Rattle.scc_core.specs.declared.stmt.CoreNode.TheOpen.{CoreNode-F}
 use Rattle.scc_core.specs.declared.stmt.CoreNode.TheOpen as node
-use Rattle.scc_core.specs.declared.stmt.Count.{Count as Counting}
-use Rattle.scc_core.specs.declared.statics.Known.{Known}
 use Rattle.scc_core_spec.specs.Code.{Code, Count, End, Put, Aim, If, Block, Loop, Exit, Wait, append}
 use Rattle.scc_core_spec.specs.Static.{Cells, goes}
 use Rattle.scc_core_spec.specs.Live.{Alive, alive, then_alive, by_test, looped, shut}
 use Rattle.scc_core_view.specs.Codes.{Node, stmt_node, stmt_step, stmt_code, code_of, before, counted}
 use Rattle.scc_core_view.specs.Terms.{term_of}
-use Rattle.scc_core_view.proofs.Layers.{tests, blocks, loops, exits}
-use Rattle.scc_core_flow.specs.Live.{node_tests, tests_step, tests_of, tests_in, Each, Decides, DecidesAll, left_by, Walked}
+use Rattle.scc_core_flow.specs.Live.{left_by, Walked}
 
 pub nothing_behind : (c : Code) → append c End ≡ c
 nothing_behind End = refl

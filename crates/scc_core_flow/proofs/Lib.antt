@@ -1,3 +1,4 @@
 pub mod Alive
 pub mod Tests
 pub mod Nodes
+pub mod Sets

@@ -1,5 +1,5 @@
 -- What a walk does at each statement.
-use Rattle.std.proofs.Common.{◌≡◌, refl, arith, ℕ, zero, suc, Bool, true, false, ◌||◌, nat_eq, subst, ap, sym, ◌∙◌, List, [], ◌∷◌, ◌++◌, length, Option, Some, None, Result, Ok, Err}
+use Rattle.std.proofs.Common.{◌≡◌, refl, arith, ℕ, suc, Bool, true, false, ◌||◌, nat_eq, subst, ap, sym, ◌∙◌, List, [], ◌∷◌, ◌++◌, length, Option, Some, None, Result, Ok, Err}
 use Rattle.std.specs.Prelude.{IfOk}
 use Rattle.scc_base.specs.declared.refusal.Place.{Place}
 use Rattle.scc_core.specs.declared.expr.CoreExpr.{CoreExpr}
@@ -8,7 +8,7 @@ use Rattle.scc_core.specs.declared.stmt.CoreStmt.{CoreStmt}
 use Rattle.scc_core.specs.declared.stmt.CoreNode.TheVariants as node
 use Rattle.scc_core.specs.declared.stmt.Count.{Count as Counting}
 use Rattle.scc_core.specs.declared.stmt.Pointed.{Pointed as Aimed}
-use Rattle.scc_core_spec.specs.Code.{Code, Count, End, Put, Aim, If, Block, Loop, Exit, Wait, append}
+use Rattle.scc_core_spec.specs.Code.{Code, Count, End, If, Block, Loop, append}
 use Rattle.scc_core_spec.specs.Static.{Cells, goes}
 use Rattle.scc_core_spec.specs.Live.{Alive, alive, by_test, looped, shut}
 use Rattle.scc_core_view.specs.Codes.{code_of, counted}

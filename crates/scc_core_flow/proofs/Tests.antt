@@ -1,12 +1,12 @@
 -- The tests of statements, one by one.
-use Rattle.std.proofs.Common.{◌≡◌, refl, arith, ℕ, zero, suc, ◌+◌, ◌<◌, subst, ap, sym, ◌∙◌, List, [], ◌∷◌, ◌++◌, map, get_or, length, Option}
+use Rattle.std.proofs.Common.{◌≡◌, arith, ℕ, zero, suc, ◌<◌, subst, ap, sym, ◌∙◌, List, [], ◌∷◌, ◌++◌, get_or, length, Option}
 use Rattle.scc_core.specs.declared.expr.CoreExpr.{CoreExpr}
 use Rattle.scc_core.specs.declared.stmt.CoreStmt.{CoreStmt, fold-roll-CoreStmt}
 use Rattle.scc_core.specs.declared.stmt.CoreNode.{CoreNode, fold-CoreNode, fold-roll-CoreNode}
 use Rattle.scc_core.specs.declared.stmt.CoreNode.TheVariants as node
 use Rattle.scc_core.specs.declared.stmt.CoreNode.TheOpen as tree
 use Rattle.scc_core.specs.declared.stmt.Count.{Count as Counting}
-use Rattle.scc_core_flow.specs.Live.{node_tests, tests_step, tests_of, tests_in, flat, Each}
+use Rattle.scc_core_flow.specs.Live.{node_tests, tests_step, tests_of, tests_in, Each}
 
 pub each_first : {A : Type 0} (P : A → Type 0) (xs ys : List A) → Each P (xs ++ ys) → Each P xs
 each_first P [] ys e = tt

@@ -1,5 +1,5 @@
 -- What a walk over statements appends of their live part, and which open blocks it finds left. This project's own.
-use Rattle.std.specs.Prelude.{◌≡◌, ℕ, Bool, true, false, ◌||◌, not, nat_eq, List, [], ◌∷◌, ◌++◌, length, map, flat_map, Option, option_map}
+use Rattle.std.specs.Prelude.{◌≡◌, ℕ, Bool, true, false, ◌||◌, not, nat_eq, List, [], ◌∷◌, ◌++◌, length, map, Option, option_map}
 use Rattle.scc_core.specs.declared.expr.CoreExpr.{CoreExpr}
 use Rattle.scc_core.specs.declared.program.Core.{Core}
 use Rattle.scc_core.specs.declared.program.CoreProcess.{CoreProcess}
@@ -12,7 +12,7 @@ use Rattle.scc_core.specs.Statics.{value_in}
 use Rattle.scc_base.specs.declared.refusal.Place.{Place}
 use Rattle.scc_core_spec.specs.Code.{Code, Count, Loop, End, append}
 use Rattle.scc_core_spec.specs.Static.{Cells, goes}
-use Rattle.scc_core_spec.specs.Live.{Alive, alive}
+use Rattle.scc_core_spec.specs.Live.{Alive}
 use Rattle.scc_core_view.specs.Codes.{code_of}
 use Rattle.scc_core_view.specs.Terms.{term_of}
 use Rattle.scc_core_view.specs.Whole.{AreWholeCells, IsWhole}

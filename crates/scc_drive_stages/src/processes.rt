@@ -2,7 +2,8 @@
 use scc_base::{Code, List, Stop};
 use scc_core::{Core, Known, Places, Sort2};
 use scc_rules::{Order, check_known};
-use scc_states::{Split, index_sum_known, split_known};
+use scc_states::{Split, split_known};
+use scc_states_sum::index_sum_known;
 use std::alloc::Global;
 
 /// The most elements of the arrays that stand under indices which aren't static.

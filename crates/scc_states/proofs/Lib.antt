@@ -1,13 +1,4 @@
-pub mod Nodes
-pub mod Counts
-pub mod Paths
-pub mod Statements
-pub mod Alone
 pub mod Assigns
 pub mod Along
 pub mod Loaded
 pub mod Splitting
-pub mod Patterns
-pub mod Measuring
-pub mod Bodies
-pub mod Summing

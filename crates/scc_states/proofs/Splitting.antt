@@ -1,5 +1,5 @@
 -- What is answered of a thread from what is answered of its cut and of its reset.
-use Rattle.std.proofs.Common.{◌≡◌, List, [], ◌∷◌, ℕ, Bool, true, false, if◌then◌else◌, drop, Option, Some, None, refl, sym, ap, subst, ◌∙◌}
+use Rattle.std.proofs.Common.{◌≡◌, ◌≤◌, ◌^◌, length, List, [], ◌∷◌, ℕ, Bool, true, false, if◌then◌else◌, drop, Option, Some, None, refl, sym, ap, subst, ◌∙◌}
 use Rattle.std.specs.Prelude.{option_map, Result, Ok, Err}
 use Rattle.scc_base.specs.declared.refusal.Place.{Place}
 use Rattle.scc_base.specs.declared.refusal.Refusal.{Refusal}
@@ -7,6 +7,14 @@ use Rattle.scc_base.specs.declared.refusal.Stop.{Stop}
 use Rattle.scc_base.specs.declared.refusal.Stop.TheVariants as stop
 use Rattle.scc_base.specs.declared.code.Code.{Code as Reason}
 use Rattle.scc_base.specs.declared.code.Code.TheVariants as reason
+use denote.Ref.{Bor}
+use Rattle.scc_core.specs.declared.places.Places.{Places}
+use Rattle.scc_core.specs.declared.program.Cell.{Cell}
+use Rattle.scc_core.specs.declared.program.VectorSize2.{VectorSize2}
+use Rattle.scc_core.specs.declared.statics.Known.{Known}
+use Rattle.scc_core.specs.Known.{counted}
+use Rattle.scc_core.specs.Tables.{IsTable}
+use Rattle.scc_core_static_laws.specs.Held.{Knows}
 use Rattle.scc_core_spec.specs.Code.{Code, numbered}
 use Rattle.scc_core_spec.specs.First.{or_else, first_of, refused}
 use Rattle.scc_core_spec.specs.Program.{Process, Program}
@@ -103,3 +111,14 @@ asked_reset o b r is h = subst (λ x. Refuses (if x then o else None) r) (sym is
 
 pub not_asked : (o : Option Refusal) (b : Bool) → b ≡ false → (if b then o else None) ≡ None
 not_asked o b is = ap (λ x. if x then o else None) is
+
+-- ---- what is known by a table alone
+
+pub knows_table : (known : Known) (cells : List Cell) (vs : List VectorSize2) (b : Bor Places) → known.cells.now ≡ cells → length cells ≤ 2 ^ 32 → known.places ≡ Some b → known.counters ≡ None → IsTable b.now cells vs
+    → Knows known cells []
+knows_table known cells vs b same few at none t = record {
+  cells_are = same;
+  count = few;
+  places = λ q e. record { vectors = vs; table = subst (λ x. IsTable x.now cells vs) (some_same b q (sym at ∙ e)) t };
+  counters = λ n. ap (λ o. counted o n) none;
+}

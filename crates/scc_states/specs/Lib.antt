@@ -1,11 +1,4 @@
 pub mod Refusals
-pub mod Elements
-pub mod Counting
-pub mod Live
-pub mod Paths
-pub mod Told
 pub mod Resets
 pub mod Splits
-pub mod Measured
-pub mod Bodies
-pub mod Summed
+pub mod Wholes

@@ -29,34 +29,11 @@ use Rattle.scc_core_spec.specs.Split.{Along, Ended, On, Out, first_along, gives_
 use Rattle.scc_core_spec.specs.Static.{Cells}
 use Rattle.scc_core_view.specs.Terms.{taken_of, term_of}
 use Rattle.scc_states_cut.specs.Limits.{Stops}
+use Rattle.scc_states_kept.specs.Filled.{fills}
 use Rattle.scc_states.specs.declared.reset.Way.{Way}
 use Rattle.scc_states.specs.declared.reset.Way.TheVariants as way
 
 -- ---- whether an assignment gives one whole cell a static value
-
-abbrev pub is_zero : Option Number → Bool
-is_zero None = false
-is_zero (Some v) = nat_eq v.word 0
-
--- what is taken is all of a number of a kind
-abbrev pub all_by : Known → Kind → CorePick-F CoreBase CoreExprNode CorePart CorePick CoreExpr CoreLeft → Bool
-all_by known k (tree.Bit of at) = nat_eq (width_of k) 1 && is_zero (value_in (facts_in known) at)
-all_by known k (tree.Range of h l) = nat_eq l 0 && nat_eq (min (h + 1) 4294967295) (width_of k)
-
-unfoldable pub pick_all : Known → CorePick → Kind → Bool
-pick_all known q k = all_by known k (out-CorePick q)
-
-abbrev pub all_in : Known → Option CorePick → Kind → Bool
-all_in known None k = true
-all_in known (Some q) k = pick_all known q k
-
-abbrev pub fills_cell : Known → CoreLeft → Named → Option Cell → Bool
-fills_cell known l n None = false
-fills_cell known l n (Some c) = nat_eq (length n.dims) 0 && all_in known l.pick c.kind
-
-abbrev pub fills : Known → CoreLeft → Option Named → Bool
-fills known l None = false
-fills known l (Some n) = fills_cell known l n (slice_get known.cells.now n.base)
 
 unfoldable pub loads_in : Known → CoreLeft → CoreExpr → Bool
 loads_in known l e = fills known l (named_in known l) && is_some (value_in (facts_in known) e)

@@ -9,11 +9,11 @@ ghost use Rattle.scc_core_spec.specs.Static.{Cells, goes};
 ghost use Rattle.scc_core_view.specs.Codes.{code_of};
 ghost use Rattle.scc_core_view.specs.Terms.{term_of};
 ghost use Rattle.scc_states.specs.Refusals.{MayStop};
-ghost use Rattle.scc_states.specs.Resets.{IsAlong, IsLoaded, LoadsAll, all_in, fills, is_zero, loads_in, once_way, pick_all, shut_way};
+ghost use Rattle.scc_states.specs.Resets.{IsAlong, IsLoaded, LoadsAll, loads_in, once_way, shut_way};
 
 use scc_base::{Code, NoMemory, Place, Stop, lost};
-use scc_bits::{Kind, Value, width};
-use scc_core::{CoreExpr, CoreLeft, CoreNode, CorePick, CoreStmt, Known, Named};
+use scc_core::{CoreExpr, CoreLeft, CoreNode, CoreStmt, Known};
+use scc_states_kept::is_filled;
 use scc_states_segments::opens;
 use std::alloc::Global;
 
@@ -184,42 +184,4 @@ fn is_static(value: &CoreExpr, known: Known<'_>) -> bool
     ensures { result ≡ is_some (value_in (facts_in known.entry) value.now) }
 {
     known.value(value).is_some()
-}
-
-// Whether what is named is one cell, and all of it is taken.
-fn is_filled(named: &Named, left: &CoreLeft, known: Known<'_>) -> Result<bool, NoMemory>
-    ensures { IfOk result (λ b. b ≡ fills known.entry left.now (Some named.now)) }
-{
-    match known.cells().get(named.base as usize) {
-        Some(cell) => Ok(named.is_single() && is_all(left, cell.kind, known)),
-        None => Err(lost()),
-    }
-}
-
-fn is_all(left: &CoreLeft, kind: Kind, known: Known<'_>) -> bool
-    ensures { result ≡ all_in known.entry left.now.pick kind }
-{
-    match &left.pick {
-        Some(pick) => is_all_of(pick, kind, known),
-        None => true,
-    }
-}
-
-#[tactic(auto, unfolding(crate::specs::Resets::pick_all))]
-fn is_all_of(pick: &CorePick, kind: Kind, known: Known<'_>) -> bool
-    ensures { result ≡ pick_all known.entry pick.now kind }
-{
-    match pick {
-        CorePick::Bit { at, .. } => width(kind) == 1 && is_zero(known.value(at)),
-        CorePick::Range { h, l, .. } => *l == 0 && h.saturating_add(1) == width(kind),
-    }
-}
-
-fn is_zero(value: Option<Value>) -> bool
-    ensures { result ≡ is_zero value }
-{
-    match value {
-        Some(value) => !value.is_true(),
-        None => false,
-    }
 }

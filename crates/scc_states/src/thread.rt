@@ -1,27 +1,31 @@
 //! The segments of a thread.
-ghost use Rattle.std.specs.Prelude.{◌≡◌, IfErr};
+ghost use Rattle.std.specs.Prelude.{◌≡◌, [], IfErr};
 ghost use Rattle.scc_core.specs.declared.program.CoreProcess.{CoreProcess};
 ghost use Rattle.scc_core_flow.specs.Live.{DecidesAll};
 ghost use Rattle.scc_core_spec.specs.Split.{is_asynchronous, reset_value};
 ghost use Rattle.scc_core_spec.specs.Static.{Cells};
+ghost use Rattle.scc_core_static_laws.specs.Held.{Knows};
 ghost use Rattle.scc_core_view.specs.Programs.{process_of, program_of};
 ghost use Rattle.scc_states.specs.Refusals.{MayStop};
 ghost use Rattle.scc_states.specs.Resets.{LoadsAll};
 ghost use Rattle.scc_states.specs.Splits.{IsSplitSo, IsTold, Refuses, with_kept};
+ghost use Rattle.scc_states.specs.Wholes.{IsWholeThread};
 
-use crate::kept::kept_of;
+use crate::laws::a_table_tells_of_whole_threads;
 use crate::reset::check_reset;
 use crate::types::Split;
 use scc_base::{List, NoMemory, Stop, lost};
 use scc_core::{Core, CoreProcess, Known, Places};
 use scc_core_flow::live;
 use scc_states_cut::{CutBody, cut_body};
+use scc_states_kept::kept_of;
 use std::alloc::Global;
 
 /// The segments of a thread of a checked core, by its number. It refuses a wait too many (TooManyStates), segments that are too
 /// large or too deep (SegmentsTooLarge), and what an asynchronous reset may not do: E603, E604, E514.
 pub fn split(alloc: Global, c: &Core, process: u32) -> Result<Split, Stop>
     ensures stop { IfErr result MayStop }
+    ensures whole { (p : CoreProcess) → IsWholeThread c.now process p → IsSplitSo (program_of c.now) (process_of p) result }
 {
     let places = Places::of(alloc, &c.cells, &c.vectors)?;
     split_known(alloc, Known::new(&c.cells, &places), c, process)
@@ -29,6 +33,15 @@ pub fn split(alloc: Global, c: &Core, process: u32) -> Result<Split, Stop>
 
 /// The same, where the cells' names are in a table.
 pub fn split_known(alloc: Global, known: Known<'_>, c: &Core, process: u32) -> Result<Split, Stop>
+    ensures stop { IfErr result MayStop }
+    ensures split { (p : CoreProcess) → IsTold known.entry c.now process p → IsSplitSo (program_of c.now) (process_of p) result }
+    ensures whole { (p : CoreProcess) → Knows known.entry c.now.cells [] → IsWholeThread c.now process p → IsSplitSo (program_of c.now) (process_of p) result }
+{
+    a_table_tells_of_whole_threads();
+    cut_thread(alloc, known, c, process)
+}
+
+fn cut_thread(alloc: Global, known: Known<'_>, c: &Core, process: u32) -> Result<Split, Stop>
     ensures stop { IfErr result MayStop }
     ensures split { (p : CoreProcess) → IsTold known.entry c.now process p → IsSplitSo (program_of c.now) (process_of p) result }
 {

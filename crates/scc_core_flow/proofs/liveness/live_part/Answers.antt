@@ -1,4 +1,3 @@
-use Rattle.std.proofs.Common.{◌≡◌}
 use Rattle.scc_core_flow.proofs.Nodes.{each_ok}
 use Rattle.scc_core_flow.proofs.liveness.live_part.Goals as goal
 

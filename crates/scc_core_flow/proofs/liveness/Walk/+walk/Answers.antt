@@ -1,4 +1,4 @@
-use Rattle.std.proofs.Common.{◌≡◌, ◌+◌, ◌<◌, arith, refl, subst, sym, ap, ◌∙◌, drop, length, [], ◌∷◌, ◌++◌, Bool, true, false, Some, None}
+use Rattle.std.proofs.Common.{◌≡◌, ◌<◌, arith, refl, subst, sym, ap, ◌∙◌, drop, length, [], ◌∷◌, true, false, Some, None}
 use Rattle.std.proofs.lemmas.List.{drop_all}
 use Rattle.scc_core_spec.specs.Live.{alive}
 use Rattle.scc_core_spec.specs.Static.{goes}

@@ -1,0 +1,7 @@
+pub mod Bools
+pub mod Backward
+pub mod Acts
+pub mod Owning
+pub mod Further
+pub mod Standing
+pub mod Parts

@@ -1,0 +1,5 @@
+pub mod Needs
+pub mod Owned
+pub mod Filled
+pub mod Rows
+pub mod Slots

@@ -1,0 +1,9 @@
+pub mod Nodes
+pub mod Counts
+pub mod Paths
+pub mod Statements
+pub mod Alone
+pub mod Patterns
+pub mod Measuring
+pub mod Bodies
+pub mod Summing
