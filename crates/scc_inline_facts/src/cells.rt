@@ -1,10 +1,10 @@
 //! The cells of a design's objects.
-use crate::moving::{MemberOf, Moving};
 use indexmap::IndexMap;
 use scc_base::{List, Name, NoMemory, Path, PathPart, lost, push};
 use scc_bits::Kind;
 use scc_core::{Cell, CellName, CellSort, VectorSize2, numbered};
 use scc_elab_design::{Design, Object, ObjectNode};
+use scc_inline_cells::{MemberOf, Moving};
 use scc_plain_tree::{Plain, PlainClass, Reach};
 use std::alloc::Global;
 
