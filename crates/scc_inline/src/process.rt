@@ -9,7 +9,8 @@ use scc_core::{
     numbered,
 };
 use scc_elab_design::{Design, Process, Sort};
-use scc_inline_facts::{DEPTH, Facts, ObjectCells, all_facts, object_cells, vectors};
+use scc_inline_cells::{object_cells, vectors};
+use scc_inline_facts::{DEPTH, Facts, all_facts};
 use scc_plain_tree::Plain;
 use std::alloc::Global;
 
@@ -22,7 +23,7 @@ pub fn inline(alloc: Global, p: &Plain, d: &Design) -> Result<Core, Stop>
     let top = p.classes.get(p.top as usize).ok_or(lost())?.name;
     let facts = all_facts(alloc, p)?;
     let vectors = vectors(alloc, d)?;
-    let ObjectCells { cells, of } = object_cells(alloc, p, d)?;
+    let (cells, of) = object_cells(alloc, p, d)?.into_parts();
     let mut growing = Growing::start(alloc, cells, &vectors)?;
     let source = Source {
         plain: p,
