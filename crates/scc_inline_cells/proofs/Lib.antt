@@ -6,3 +6,4 @@ pub mod Inside
 pub mod Parents
 pub mod Knowing
 pub mod Listing
+pub mod Numbers
