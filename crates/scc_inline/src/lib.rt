@@ -6,6 +6,7 @@
 //! the limit on nesting allows.
 #![tactic(auto)]
 
+mod heading;
 mod locate;
 mod process;
 mod scope;
