@@ -2,14 +2,13 @@
 ghost use Rattle.std.specs.Prelude.{IfErr};
 ghost use Rattle.scc_inline.specs.Refusals.{MayStop};
 
+use crate::heading::heading;
 use crate::scope::{Growing, Here, Scope, Source, This};
 use scc_base::{Code, List, Name, NoMemory, Path, PathPart, Place, Stop, lost};
-use scc_core::{
-    CellName, Core, CoreBase, CoreLeft, CoreNode, CoreProcess, CoreStmt, Edge2, Reset2, Sort2,
-    numbered,
-};
-use scc_elab_design::{Design, Process, Sort};
-use scc_inline_facts::{DEPTH, Facts, ObjectCells, all_facts, object_cells, vectors};
+use scc_core::{CellName, Core, CoreBase, CoreLeft, CoreNode, CoreProcess, CoreStmt, numbered};
+use scc_elab_design::{Design, Process};
+use scc_inline_cells::{object_cells, vectors};
+use scc_inline_facts::{DEPTH, Facts, all_facts};
 use scc_plain_tree::Plain;
 use std::alloc::Global;
 
@@ -22,13 +21,13 @@ pub fn inline(alloc: Global, p: &Plain, d: &Design) -> Result<Core, Stop>
     let top = p.classes.get(p.top as usize).ok_or(lost())?.name;
     let facts = all_facts(alloc, p)?;
     let vectors = vectors(alloc, d)?;
-    let ObjectCells { cells, of } = object_cells(alloc, p, d)?;
+    let (cells, of) = object_cells(alloc, p, d)?.into_parts();
     let mut growing = Growing::start(alloc, cells, &vectors)?;
     let source = Source {
         plain: p,
         facts: facts.as_slice(),
     };
-    let processes = growing.processes(source, d, of.as_slice())?;
+    let processes = growing.processes(source, d, &of)?;
     Ok(Core {
         top,
         cells: growing.into_cells(),
@@ -43,7 +42,7 @@ impl Growing {
         &mut self,
         source: Source,
         d: &Design,
-        cells: &[Option<u32>],
+        cells: &List<Option<u32>>,
     ) -> Result<List<CoreProcess>, Stop>
         ensures stop { IfErr result MayStop }
     {
@@ -61,7 +60,7 @@ impl Growing {
         source: Source,
         d: &Design,
         process: &Process,
-        cells: &[Option<u32>],
+        cells: &List<Option<u32>>,
     ) -> Result<CoreProcess, Stop>
         ensures stop { IfErr result MayStop }
     {
@@ -83,23 +82,9 @@ impl Growing {
             facts,
         };
         self.begin(object.path.as_slice(), function.name)?;
-        let edge = edge(process, cells)?;
-        let reset = reset(process, cells)?;
-        let senses = senses(self.alloc, process, cells)?;
-        let body = self.block_of(object.path.as_slice(), &here, process.place)?;
-        let name = named(self.alloc, self.process.as_slice())?;
-        Ok(CoreProcess {
-            sort: match process.sort {
-                Sort::Method => Sort2::Method,
-                Sort::Thread => Sort2::Thread,
-            },
-            name,
-            place: process.place,
-            senses,
-            edge,
-            reset,
-            body,
-        })
+        let mut made = heading(self.alloc, source.plain, d, process, cells)?;
+        made.body = self.block_of(object.path.as_slice(), &here, process.place)?;
+        Ok(made)
     }
 
     // No local of the process has a number yet.
@@ -144,43 +129,10 @@ fn is_too_large(facts: &Facts) -> bool {
     facts.size.plus(1).is_over() || facts.height >= DEPTH
 }
 
-fn named(alloc: Global, path: &[PathPart]) -> Result<CellName, NoMemory> {
+pub fn named(alloc: Global, path: &[PathPart]) -> Result<CellName, NoMemory> {
     Ok(CellName {
         path: Path::of(alloc, path)?,
         local: None,
         indices: List::new(alloc),
     })
-}
-
-fn cell(cells: &[Option<u32>], object: u32) -> Result<u32, NoMemory> {
-    cells.get(object as usize).copied().flatten().ok_or(lost())
-}
-
-fn senses(alloc: Global, process: &Process, cells: &[Option<u32>]) -> Result<List<u32>, NoMemory> {
-    let mut made = List::new(alloc);
-    for root in process.senses.as_slice() {
-        made.push(cell(cells, *root)?)?;
-    }
-    Ok(made)
-}
-
-fn edge(process: &Process, cells: &[Option<u32>]) -> Result<Option<Edge2>, NoMemory> {
-    match process.edge {
-        None => Ok(None),
-        Some(edge) => Ok(Some(Edge2 {
-            cell: cell(cells, edge.root)?,
-            rising: edge.rising,
-        })),
-    }
-}
-
-fn reset(process: &Process, cells: &[Option<u32>]) -> Result<Option<Reset2>, NoMemory> {
-    match process.reset {
-        None => Ok(None),
-        Some(reset) => Ok(Some(Reset2 {
-            cell: cell(cells, reset.root)?,
-            level: reset.level,
-            asynchronous: reset.asynchronous,
-        })),
-    }
 }

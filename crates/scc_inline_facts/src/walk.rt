@@ -1,6 +1,6 @@
 //! A walk over statements in text order without recursion: a `switch` nests as many blocks as it has labels.
 use scc_base::{NoMemory, push};
-use scc_plain_tree::{PlainBase, PlainLeft, PlainNode, PlainStmt};
+use scc_plain_tree::{Base, PlainBase, PlainFunction, PlainLeft, PlainNode, PlainStmt};
 use std::alloc::Global;
 
 /// What a walk meets.
@@ -76,4 +76,13 @@ pub fn pointers(alloc: Global, left: &PlainLeft) -> Result<Vec<&PlainLeft>, NoMe
         push(&mut found, here)?;
     }
     Ok(found)
+}
+
+/// What stands where a location of a function begins, if it begins with no pointer.
+pub fn first_base(function: &PlainFunction, left: &PlainLeft) -> Option<Base> {
+    match left.base {
+        PlainBase::Local(local) => function.locals.get(local as usize).map(|l| l.shape.base),
+        PlainBase::This => function.class.map(Base::Class),
+        PlainBase::Answer(_) | PlainBase::Follow(_) => None,
+    }
 }
