@@ -38,7 +38,8 @@ use Rattle.scc_pointers.specs.declared.held.Resolver.{Resolver}
 use Rattle.scc_pointers.specs.Led.{left_of}
 use Rattle.scc_pointers.specs.Located.{BaseLayer, chooses, element_on, element_at, grown as longer_left, index_behind, inside, is_chosen, is_one_of, name_at, name_in, seen, with_more}
 use Rattle.scc_pointers.specs.Located as located
-use Rattle.scc_pointers.specs.Read.{Finds, unknown, number, past, IsFound, IsFoundPart, AreFound}
+use Rattle.scc_core_static_laws.specs.Indices.{Finds, unknown, number, past}
+use Rattle.scc_pointers.specs.Read.{IsFound, IsFoundPart, AreFound}
 use Rattle.scc_pointers.proofs.Terms.{PartLayer, term_base, term_part}
 use Rattle.scc_pointers.proofs.Locations.{alone, base_is, part_is, left_is, seen_base, seen_part, is_part, parted, more_is, grown_is, cs, vs}
 

@@ -36,7 +36,8 @@ use Rattle.scc_pointers.specs.declared.held.Resolver.{Resolver}
 use Rattle.scc_pointers.specs.Led.{left_of}
 use Rattle.scc_pointers.specs.Located.{element_on, first_size, fits_one, found_size, is_number, known_size, may_name, name_at, pointer_in, rest_behind, seen, size_by, size_of}
 use Rattle.scc_pointers.specs.Located as located
-use Rattle.scc_pointers.specs.Read.{Finds, unknown, number, past, IsFound, IsFoundPart, AreFound, AreSmallParts, HasName, HaveSmallNames, HaveSmallPaths}
+use Rattle.scc_core_static_laws.specs.Indices.{Finds, unknown, number, past}
+use Rattle.scc_pointers.specs.Read.{IsFound, IsFoundPart, AreFound, AreSmallParts, HasName, HaveSmallNames, HaveSmallPaths}
 use Rattle.scc_pointers.proofs.Locations.{cs, vs}
 use Rattle.scc_pointers.proofs.Patterns.{choice_behind, choice_parts, closed_is, element_on_is, longer_by, name_steps, open_parts, pattern_is, seen_is, seen_of, step_by, step_for, steps}
 use Rattle.scc_pointers.proofs.Terms.{PartLayer}

@@ -1,8 +1,7 @@
 -- Indices for which the code finds what the definitions have. This project's own.
-use Rattle.std.specs.Prelude.{◌≡◌, ℕ, ◌<◌, ◌≤◌, List, [], ◌∷◌, map, Option, Some, None}
+use Rattle.std.specs.Prelude.{◌≡◌, ℕ, ◌<◌, List, [], ◌∷◌, map, Some}
 use Rattle.scc_base.specs.declared.path.PathPart.{PathPart}
 use Rattle.scc_base.specs.declared.path.PathPart.TheVariants as path_part
-use Rattle.scc_bits.specs.Value.{Number}
 use Rattle.scc_core.specs.declared.expr.CoreBase.{CoreBase, out-CoreBase}
 use Rattle.scc_core.specs.declared.expr.CoreBase.TheOpen.{CoreBase-F, CorePart-F}
 use Rattle.scc_core.specs.declared.expr.CoreBase.TheOpen as tree
@@ -15,20 +14,14 @@ use Rattle.scc_core.specs.declared.program.Cell.{Cell}
 use Rattle.scc_core.specs.declared.program.CellName.{CellName}
 use Rattle.scc_core.specs.declared.program.VectorSize2.{VectorSize2}
 use Rattle.scc_core.specs.Known.{facts_in}
-use Rattle.scc_core.specs.Numbers.{small}
 use Rattle.scc_core.specs.Statics.{value_in}
 use Rattle.scc_core_spec.specs.Fold.{static_index}
+use Rattle.scc_core_static_laws.specs.Indices.{Finds}
 use Rattle.scc_core_view.specs.Programs.{cell_of, vector_of}
 use Rattle.scc_core_view.specs.Terms.{term_of}
 use Rattle.scc_core_view.specs.Whole.{IsName}
 use Rattle.scc_pointers.specs.declared.held.Resolver.{Resolver}
 use Rattle.scc_pointers.specs.Located.{name_at}
-
--- the value that the code finds of an index, and that of the definitions: none, the same number, or one that is no number of an element
-pub data Finds : Option Number → Option ℕ → Type 0 where
-  unknown : Finds None None
-  number : {v : Number} {i : ℕ} → small v ≡ Some i → Finds (Some v) (Some i)
-  past : {v : Number} {i : ℕ} → small v ≡ None → 4294967296 ≤ i → Finds (Some v) (Some i)
 
 abbrev pub IsFound : Resolver → CoreExpr → Type 0
 IsFound r e = Finds (value_in (facts_in r.known) e) (static_index (map cell_of r.known.cells.now) (map vector_of r.vectors.now) (term_of e))
