@@ -1,3 +1,4 @@
+pub mod Chained
 pub mod Bounds
 pub mod Leading
 pub mod Locations
