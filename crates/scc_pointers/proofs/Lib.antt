@@ -1,11 +1,2 @@
-pub mod Chained
-pub mod Bounds
-pub mod Leading
-pub mod Locations
 pub mod Numbering
-pub mod Patterns
-pub mod Placed
-pub mod Sized
-pub mod Tabled
-pub mod Terms
 pub mod Titles

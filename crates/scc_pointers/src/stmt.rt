@@ -2,10 +2,10 @@
 ghost use Rattle.std.specs.Prelude.{◌≡◌, Err};
 ghost use Rattle.scc_base.specs.declared.refusal.Refusal.{Refusal};
 ghost use Rattle.scc_base.specs.declared.refusal.Stop.TheVariants as stop;
-ghost use Rattle.scc_pointers.specs.Resolved.{IsOfPointers};
+ghost use Rattle.scc_pointers_walk.specs.Pointers.{IsOfPointers};
 
-use crate::held::Resolver;
-use crate::walk::{expression, location, target, walked};
+use scc_pointers_walk::Resolver;
+use scc_pointers_walk::{expression, location, target, walked};
 use scc_base::{Code, List, NoMemory, Place, Stop};
 use scc_core::{Copies, CoreExpr, CoreLeft, CoreNode, CoreStmt, Count, Pointed};
 
