@@ -6,11 +6,11 @@ use Rattle.scc_base.specs.declared.names.Name.{Name}
 use Rattle.scc_base.specs.declared.path.PathPart.{PathPart}
 use Rattle.scc_base.specs.declared.path.PathPart.TheVariants as path_part
 use Rattle.scc_base.specs.declared.refusal.Place.{Place}
-use Rattle.scc_core.specs.declared.expr.CoreBase.{CoreBase, out-CoreBase, out-roll-CoreBase, roll-CoreBase}
+use Rattle.scc_core.specs.declared.expr.CoreBase.{out-CoreBase, out-roll-CoreBase, roll-CoreBase}
 use Rattle.scc_core.specs.declared.expr.CoreBase.TheOpen as tree
 use Rattle.scc_core.specs.declared.expr.CoreExpr.{CoreExpr}
 use Rattle.scc_core.specs.declared.expr.CoreLeft.{CoreLeft}
-use Rattle.scc_core.specs.declared.expr.CorePart.{CorePart, out-CorePart, out-roll-CorePart, roll-CorePart}
+use Rattle.scc_core.specs.declared.expr.CorePart.{CorePart, out-roll-CorePart, roll-CorePart}
 use Rattle.scc_core.specs.declared.program.Cell.{Cell}
 use Rattle.scc_core.specs.declared.program.CellName.{CellName}
 use Rattle.scc_core.specs.declared.program.CellSort.{CellSort}
@@ -20,7 +20,7 @@ use Rattle.scc_core_spec.specs.Resolved.{Tried, Made, Stopped}
 use Rattle.scc_core_view.specs.Whole.{IsName}
 use Rattle.scc_pointers_walk.specs.declared.held.Resolver.{Resolver}
 use Rattle.scc_pointers_walk.specs.Led.{at_place, held_or, led_in, left_at, left_in}
-use Rattle.scc_pointers_walk.specs.Located.{BaseLayer, as_name, cell_or_name, element_at, element_in, element_on, grown, inside, is_one_of, longer, longer_base, longer_by, longer_in, member_in, member_on, name_at, name_in, named_base, named_in, pointed_in, pointer_in, size_of, takes_index, takes_member, target_at, with_base, with_more}
+use Rattle.scc_pointers_walk.specs.Located.{BaseLayer, as_name, cell_or_name, element_at, element_in, grown, inside, is_one_of, longer, longer_by, longer_in, member_in, name_in, named_base, named_in, pointed_in, pointer_in, size_of, takes_index, takes_member, target_at, with_base, with_more}
 use Rattle.scc_pointers_walk.specs.Read.{AreFound, HasName, IsFound, IsFoundPart, IsNamed, IsNamedBase}
 use Rattle.scc_pointers_walk.proofs.Terms.{PartLayer}
 use Rattle.scc_pointers_laws.specs.Followed.{IsKnown, IsSound}
@@ -72,7 +72,7 @@ module _ (r : Resolver) (k : IsKnown r) where
   found_more [] x h g = (subst (IsFoundPart r) (sym (out-roll-CorePart x)) g, tt)
   found_more (p ∷ ps) x h g = (h.0, found_more ps x h.1 g)
 
-  name_sound : (l : CoreLeft) → IsSound r l → IsSound r (as_name r l)
+  pub name_sound : (l : CoreLeft) → IsSound r l → IsSound r (as_name r l)
   name_sound l h = by (nat_eq (length l.parts) 0)
     where
       cell : (n : ℕ) (o : Option Cell) → ((c : Cell) → o ≡ Some c → IsName c.name) → IsNamedBase (out-CoreBase (cell_or_name n (option_map (λ c. c.name) o)))
