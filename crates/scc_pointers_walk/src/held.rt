@@ -66,6 +66,9 @@ impl<'a> Resolver<'a> {
     pub fn hold(&mut self, cell: u32, target: Option<CoreLeft>) -> Result<(), NoMemory>
         ensures leads { OnOk result (leads_of self.new ≡ leading (leads_of self.old) cell (target_of target)) }
         ensures held { local_of self.old cell ≡ None → OnOk result (self.new.held.entries ≡ self.old.held.entries ++ (cell, target) ∷ []) }
+        ensures known { self.new.known ≡ self.old.known }
+        ensures places { self.new.places ≡ self.old.places }
+        ensures vectors { self.new.vectors ≡ self.old.vectors }
     {
         let _old = self.held.insert(cell, target)?;
         Ok(())
