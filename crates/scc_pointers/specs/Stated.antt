@@ -1,5 +1,5 @@
 -- Statements without pointers as the code makes them of trees. This project's own.
-use Rattle.std.specs.Prelude.{◌≡◌, false, if◌then◌else◌, [], Option}
+use Rattle.std.specs.Prelude.{◌≡◌, false, if◌then◌else◌, List, [], length, take, Option}
 use Rattle.scc_base.specs.declared.code.Code.TheVariants as reason
 use Rattle.scc_base.specs.declared.refusal.Place.{Place}
 use Rattle.scc_base.specs.declared.refusal.Refusal.{Refusal}
@@ -17,6 +17,10 @@ use Rattle.scc_core_spec.specs.Unpointed.{declares, of_assigned, or_same}
 use Rattle.scc_pointers_walk.specs.declared.held.Resolver.{Resolver}
 use Rattle.scc_pointers_walk.specs.Led.{leads_of, target_of}
 use Rattle.scc_pointers_walk.specs.Walked.{expr_in, target_in, walked_in}
+
+-- what is held later begins with what was held before
+abbrev pub Begins : {X : Type 0} → List X → List X → Type 0
+Begins a b = take (length a) b ≡ a
 
 -- that refusal, or memory is wanted
 abbrev pub Refuses : Stop → Refusal → Type 0

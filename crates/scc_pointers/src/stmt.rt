@@ -9,7 +9,7 @@ ghost use Rattle.scc_core_spec.specs.Unpointed.{is_null_there, leading, of_assig
 ghost use Rattle.scc_pointers_walk.specs.Led.{Gives, leads_of, target_of};
 ghost use Rattle.scc_pointers_walk.specs.Pointers.{IsOfPointers};
 ghost use Rattle.scc_pointers_walk.specs.Walked.{expr_in, walked_in};
-ghost use Rattle.scc_pointers.specs.Stated.{Refuses, alias_in, count_in, empty_block};
+ghost use Rattle.scc_pointers.specs.Stated.{Begins, Refuses, alias_in, count_in, empty_block};
 
 use scc_base::{Code, List, NoMemory, Place, Refusal, Stop};
 use scc_core::{Copies, CoreExpr, CoreLeft, CoreNode, CoreStmt, Count, Pointed};
@@ -18,6 +18,10 @@ use scc_pointers_walk::{Resolver, expression, location, target, walked};
 /// Statements without pointers, in text order.
 #[cycle(resolved)]
 pub fn resolved_stmts(body: &[CoreStmt], r: &mut Resolver<'_>) -> Result<List<CoreStmt>, Stop>
+    ensures held { OnOk result (r.new.held.entries ≡ r.old.held.entries) }
+    ensures known { r.new.known ≡ r.old.known }
+    ensures places { r.new.places ≡ r.old.places }
+    ensures vectors { r.new.vectors ≡ r.old.vectors }
     ensures stop { (q : Refusal) → result ≡ Err (stop.Refused q) → IsOfPointers q }
 {
     let mark = r.mark();
@@ -33,6 +37,10 @@ pub fn resolved_stmts(body: &[CoreStmt], r: &mut Resolver<'_>) -> Result<List<Co
 
 #[cycle(resolved)]
 fn resolved_node(s: &CoreStmt, r: &mut Resolver<'_>) -> Result<CoreNode, Stop>
+    ensures held { OnOk result (Begins r.old.held.entries r.new.held.entries) }
+    ensures known { r.new.known ≡ r.old.known }
+    ensures places { r.new.places ≡ r.old.places }
+    ensures vectors { r.new.vectors ≡ r.old.vectors }
     ensures stop { (q : Refusal) → result ≡ Err (stop.Refused q) → IsOfPointers q }
 {
     match &s.node {
@@ -91,6 +99,7 @@ fn or_same(e: &CoreExpr, r: &Resolver<'_>) -> Result<CoreExpr, NoMemory>
 fn alias(s: &CoreStmt, to: &Pointed, of: &CoreLeft, r: &mut Resolver<'_>) -> Result<CoreNode, Stop>
     ensures trees { Gives (λ x. x) result (made_map (λ o. empty_block) (alias_in r.old s.now.place to.now of.now)) }
     ensures leads { (n : ℕ) (o : Option CoreLeft) → to.now ≡ aimed.Declared n → alias_in r.old s.now.place to.now of.now ≡ Made o → OnOk result (leads_of r.new ≡ leading (leads_of r.old) n (target_of o)) }
+    ensures held { OnOk result (Begins r.old.held.entries r.new.held.entries) }
     ensures known { r.new.known ≡ r.old.known }
     ensures places { r.new.places ≡ r.old.places }
     ensures vectors { r.new.vectors ≡ r.old.vectors }
