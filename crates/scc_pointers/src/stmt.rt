@@ -19,6 +19,7 @@ use scc_pointers_walk::{Resolver, expression, location, target, walked};
 #[cycle(resolved)]
 pub fn resolved_stmts(body: &[CoreStmt], r: &mut Resolver<'_>) -> Result<List<CoreStmt>, Stop>
     ensures held { OnOk result (r.new.held.entries ≡ r.old.held.entries) }
+    ensures leads { OnOk result (leads_of r.new ≡ leads_of r.old) }
     ensures known { r.new.known ≡ r.old.known }
     ensures places { r.new.places ≡ r.old.places }
     ensures vectors { r.new.vectors ≡ r.old.vectors }
