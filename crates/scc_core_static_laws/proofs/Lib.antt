@@ -1,6 +1,7 @@
 pub mod Fronts
 pub mod Placed
 pub mod Nodes
+pub mod Indices
 pub mod Values
 pub mod Known
 pub mod Counters

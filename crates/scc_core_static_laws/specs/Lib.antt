@@ -1,2 +1,3 @@
+pub mod Indices
 pub mod Readable
 pub mod Held

@@ -13,11 +13,14 @@ ghost use Rattle.scc_core.specs.Counters.{counted, counted_part, counted_pick};
 ghost use Rattle.scc_core.specs.Elements.{Part, found};
 ghost use Rattle.scc_core.specs.Known.{facts_in};
 ghost use Rattle.scc_core.specs.Statics.{facts_of, left_value, part_in, pick_in, static_of, value_in};
+ghost use Rattle.scc_core_spec.specs.Fold.{static_index};
+ghost use Rattle.scc_core_spec.specs.Program.{Vector};
 ghost use Rattle.scc_core_spec.specs.Static.{goes, static};
 ghost use Rattle.scc_core_view.specs.Programs.{cell_of};
 ghost use Rattle.scc_core_view.specs.Terms.{term_of};
 ghost use Rattle.scc_core_view.specs.Whole.{AreWholeCells, IsName, IsWhole};
 ghost use Rattle.scc_core_static_laws.specs.Held.{AreCounters, Knows};
+ghost use Rattle.scc_core_static_laws.specs.Indices.{Finds};
 ghost use Rattle.scc_core_static_laws.specs.Readable.{AreReadableParts, IsReadable, IsReadableLeft, IsReadablePick};
 
 use scc_core_view::static_values_are_those_of_terms;
@@ -51,6 +54,13 @@ pub fn static_values_by_a_table_are_those_of_terms()
     ensures values { (known : Known) (cells : List Cell) (e : CoreExpr) → Knows known cells [] → AreWholeCells cells → IsWhole cells e → option_map (λ v. v.word) (value_in (facts_in known) e) ≡ static (map cell_of cells) (term_of e) }
     ensures goes { (known : Known) (cells : List Cell) (e : CoreExpr) → Knows known cells [] → AreWholeCells cells → IsWhole cells e → option_map (λ v. not (nat_eq v.word 0)) (value_in (facts_in known) e) ≡ goes (map cell_of cells) (term_of e) }
     ensures counters { (known : Known) (cells : List Cell) (ns : List Counter) (e : CoreExpr) → Knows known cells ns → AreWholeCells cells → IsReadable ns e → IsWhole cells (counted ns e) → option_map (λ v. v.word) (value_in (facts_in known) e) ≡ static (map cell_of cells) (term_of (counted ns e)) }
+{
+    static_values_are_those_of_terms();
+}
+
+/// The value that is found of a whole index is the number that the definitions have, or neither is known.
+pub fn whole_indices_are_found()
+    ensures { (known : Known) (cells : List Cell) (vectors : List Vector) (e : CoreExpr) → Knows known cells [] → AreWholeCells cells → IsWhole cells e → Finds (value_in (facts_in known) e) (static_index (map cell_of cells) vectors (term_of e)) }
 {
     static_values_are_those_of_terms();
 }

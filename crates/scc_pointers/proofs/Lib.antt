@@ -1,10 +1,3 @@
-pub mod Bounds
-pub mod Leading
-pub mod Locations
+pub mod Begun
 pub mod Numbering
-pub mod Patterns
-pub mod Placed
-pub mod Sized
-pub mod Tabled
-pub mod Terms
 pub mod Titles

@@ -2,7 +2,8 @@
 use Rattle.std.proofs.Common.{◌≡◌, refl, arith, ℕ, ◌+◌, ◌<◌, min, Bool, true, false, List, [], ◌∷◌, ◌++◌, take, get_or, length, add-one, ap, ◌∙◌, sym, if◌then◌else◌}
 use Rattle.std.proofs.Math.Seq.{take-suc}
 use Rattle.scc_core.specs.declared.program.Cell.{Cell}
-use Rattle.scc_pointers.specs.Resolved.{gone, is_pointer, new_numbers}
+use Rattle.scc_pointers.specs.Resolved.{gone, new_numbers}
+use Rattle.scc_pointers_walk.specs.Pointers.{is_pointer}
 
 -- how many cells stay
 abbrev pub stays : List Cell → ℕ

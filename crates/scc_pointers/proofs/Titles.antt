@@ -1,7 +1,6 @@
 -- The processes of a core with new numbers are those of the definition in all but their bodies.
-use Rattle.std.proofs.Common.{◌≡◌, refl, sym, ap, ◌∙◌, arith, ℕ, zero, suc, ◌+◌, min, Bool, true, false, not, nat_eq, List, [], ◌∷◌, map, take, length, Option, Some, None, option_map, slice_get, cond, if◌then◌else◌}
+use Rattle.std.proofs.Common.{◌≡◌, refl, sym, ap, ◌∙◌, arith, ℕ, zero, suc, ◌+◌, min, Bool, true, false, not, nat_eq, List, [], ◌∷◌, map, take, length, Option, Some, None, option_map, if◌then◌else◌}
 use Rattle.std.specs.Prelude.{filter}
-use Rattle.std.proofs.lemmas.Grind.{common_steps}
 use Rattle.std.proofs.lemmas.Bool.Decides.{nat_tests}
 use Rattle.scc_core.specs.declared.program.Cell.{Cell}
 use Rattle.scc_core.specs.declared.program.CellSort.{CellSort}
@@ -15,7 +14,8 @@ use Rattle.scc_core_spec.specs.Renumbered.{is_kept_cell, new_number, renamed_edg
 use Rattle.scc_core.specs.declared.program.Core.{Core}
 use Rattle.scc_core_view.specs.Terms.{name_of}
 use Rattle.scc_core_view.specs.Programs.{cell_of, cells_of, edge_of, is_thread, process_of, program_of, reset_of, sort_of, vector_of}
-use Rattle.scc_pointers.specs.Resolved.{IsRenumbered, KeepsObjects, Title, edge_by, gone, is_of_pointer, is_pointer, new_numbers, number_in, reset_by, title_by, title_in, title_of, without_body}
+use Rattle.scc_pointers.specs.Resolved.{IsRenumbered, KeepsObjects, Title, edge_by, gone, new_numbers, number_in, reset_by, title_in, title_of, without_body}
+use Rattle.scc_pointers_walk.specs.Pointers.{is_of_pointer, is_pointer}
 
 sort_is : (s : CellSort) → program.is_pointer (sort_of s) ≡ is_of_pointer s
 sort_is sort.Input = refl

@@ -1,4 +1,2 @@
-pub mod Led
-pub mod Located
-pub mod Read
 pub mod Resolved
+pub mod Stated

@@ -1,12 +1,8 @@
--- What resolving pointers keeps of a core, and how it refuses.
-use Rattle.std.specs.Prelude.{◌≡◌, ◌⊎◌, ℕ, ◌+◌, min, Bool, true, false, nat_eq, List, [], ◌∷◌, map, filter, Option, Some, None, option_map, option_and_then, slice_get, if◌then◌else◌}
-use Rattle.scc_base.specs.declared.code.Code.TheVariants as code
+-- What resolving pointers keeps of a core.
+use Rattle.std.specs.Prelude.{◌≡◌, ℕ, ◌+◌, min, Bool, nat_eq, List, [], ◌∷◌, map, filter, Option, Some, None, option_map, option_and_then, slice_get, if◌then◌else◌}
 use Rattle.scc_base.specs.declared.refusal.Place.{Place}
-use Rattle.scc_base.specs.declared.refusal.Refusal.{Refusal}
 use Rattle.scc_core.specs.declared.program.Cell.{Cell}
 use Rattle.scc_core.specs.declared.program.CellName.{CellName}
-use Rattle.scc_core.specs.declared.program.CellSort.{CellSort}
-use Rattle.scc_core.specs.declared.program.CellSort.TheVariants.{Pointer}
 use Rattle.scc_core.specs.declared.program.Core.{Core}
 use Rattle.scc_core.specs.declared.program.CoreProcess.{CoreProcess}
 use Rattle.scc_core.specs.declared.program.Sort2.{Sort2}
@@ -16,13 +12,7 @@ use Rattle.scc_core_spec.specs.Code.{End}
 use Rattle.scc_core_spec.specs.Program.{Process, Program}
 use Rattle.scc_core_spec.specs.Renumbered.{is_kept_cell, new_number, renamed_process}
 use Rattle.scc_core_view.specs.Programs.{program_of}
-
-abbrev pub is_of_pointer : CellSort → Bool
-is_of_pointer (Pointer target) = true
-is_of_pointer _ = false
-
-abbrev pub is_pointer : Cell → Bool
-is_pointer c = is_of_pointer c.sort
+use Rattle.scc_pointers_walk.specs.Pointers.{is_pointer}
 
 -- what stands in the place of a number where the cell goes
 abbrev pub gone : ℕ
@@ -84,7 +74,3 @@ pub record IsRenumbered (p r : Program) : Type 0 where
 -- The program of a core is the resolved one of another's in all but the bodies of processes.
 pub record KeepsObjects (c m : Core) : Type 0 where
   pub program : IsRenumbered (program_of c) (program_of m)
-
--- null is followed, a pointer is assigned, or an object is chosen by an index that isn't static
-abbrev pub IsOfPointers : Refusal → Type 0
-IsOfPointers r = (r.code ≡ code.EmptyPointer) ⊎ (r.code ≡ code.PointerAssigned) ⊎ (r.code ≡ code.StaticIndex)

@@ -2,15 +2,16 @@
 ghost use Rattle.std.specs.Prelude.{◌≡◌, Err, IfOk, Some, filter, map, not};
 ghost use Rattle.scc_base.specs.declared.refusal.Refusal.{Refusal};
 ghost use Rattle.scc_base.specs.declared.refusal.Stop.TheVariants as stop;
-ghost use Rattle.scc_pointers.specs.Resolved.{KeepsObjects, IsOfPointers, is_pointer, new_numbers, number_in, title_in, title_of};
+ghost use Rattle.scc_pointers.specs.Resolved.{KeepsObjects, new_numbers, number_in, title_in, title_of};
+ghost use Rattle.scc_pointers_walk.specs.Pointers.{IsOfPointers, is_pointer};
 
-use crate::held::Resolver;
 use crate::stmt::resolved_stmts;
 use scc_base::{List, NoMemory, Stop, lost, push};
 use scc_core::{
     Cell, CellSort, Copies, Core, CoreProcess, CoreStmt, Edge2, Known, Pass, Places, Reset2,
     VectorSize2,
 };
+use scc_pointers_walk::Resolver;
 use std::alloc::Global;
 
 /// Puts the objects to which pointers and references lead in their place. It refuses following null (EmptyPointer), an assignment

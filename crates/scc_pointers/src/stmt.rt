@@ -1,17 +1,28 @@
 //! Statements. A pointer that is assigned after its declaration is refused as E511, an index before a member as E512.
-ghost use Rattle.std.specs.Prelude.{◌≡◌, Err};
+ghost use Rattle.std.specs.Prelude.{◌≡◌, ℕ, Err, IfOk, OnOk, Option, false};
 ghost use Rattle.scc_base.specs.declared.refusal.Refusal.{Refusal};
 ghost use Rattle.scc_base.specs.declared.refusal.Stop.TheVariants as stop;
-ghost use Rattle.scc_pointers.specs.Resolved.{IsOfPointers};
+ghost use Rattle.scc_core.specs.declared.expr.CoreLeft.{CoreLeft};
+ghost use Rattle.scc_core.specs.declared.stmt.Pointed.TheVariants as aimed;
+ghost use Rattle.scc_core_spec.specs.Resolved.{Made, made_map};
+ghost use Rattle.scc_core_spec.specs.Unpointed.{is_null_there, leading, of_assigned, or_same};
+ghost use Rattle.scc_pointers_walk.specs.Led.{Gives, leads_of, target_of};
+ghost use Rattle.scc_pointers_walk.specs.Pointers.{IsOfPointers};
+ghost use Rattle.scc_pointers_walk.specs.Walked.{expr_in, walked_in};
+ghost use Rattle.scc_pointers.specs.Stated.{Begins, Refuses, alias_in, count_in, empty_block};
 
-use crate::held::Resolver;
-use crate::walk::{expression, location, target, walked};
-use scc_base::{Code, List, NoMemory, Place, Stop};
+use scc_base::{Code, List, NoMemory, Place, Refusal, Stop};
 use scc_core::{Copies, CoreExpr, CoreLeft, CoreNode, CoreStmt, Count, Pointed};
+use scc_pointers_walk::{Resolver, expression, location, target, walked};
 
 /// Statements without pointers, in text order.
 #[cycle(resolved)]
 pub fn resolved_stmts(body: &[CoreStmt], r: &mut Resolver<'_>) -> Result<List<CoreStmt>, Stop>
+    ensures held { OnOk result (r.new.held.entries ≡ r.old.held.entries) }
+    ensures leads { OnOk result (leads_of r.new ≡ leads_of r.old) }
+    ensures known { r.new.known ≡ r.old.known }
+    ensures places { r.new.places ≡ r.old.places }
+    ensures vectors { r.new.vectors ≡ r.old.vectors }
     ensures stop { (q : Refusal) → result ≡ Err (stop.Refused q) → IsOfPointers q }
 {
     let mark = r.mark();
@@ -27,6 +38,10 @@ pub fn resolved_stmts(body: &[CoreStmt], r: &mut Resolver<'_>) -> Result<List<Co
 
 #[cycle(resolved)]
 fn resolved_node(s: &CoreStmt, r: &mut Resolver<'_>) -> Result<CoreNode, Stop>
+    ensures held { OnOk result (Begins r.old.held.entries r.new.held.entries) }
+    ensures known { r.new.known ≡ r.old.known }
+    ensures places { r.new.places ≡ r.old.places }
+    ensures vectors { r.new.vectors ≡ r.old.vectors }
     ensures stop { (q : Refusal) → result ≡ Err (stop.Refused q) → IsOfPointers q }
 {
     match &s.node {
@@ -57,7 +72,9 @@ fn resolved_node(s: &CoreStmt, r: &mut Resolver<'_>) -> Result<CoreNode, Stop>
 }
 
 // What a count says stands in statements too, where it is looked at.
-fn resolved_count(count: &Count, r: &Resolver<'_>) -> Result<Count, NoMemory> {
+fn resolved_count(count: &Count, r: &Resolver<'_>) -> Result<Count, NoMemory>
+    ensures { IfOk result (λ c. c ≡ count_in r.now count.now) }
+{
     Ok(Count {
         cell: count.cell,
         start: or_same(&count.start, r)?,
@@ -69,7 +86,9 @@ fn resolved_count(count: &Count, r: &Resolver<'_>) -> Result<Count, NoMemory> {
 }
 
 // An expression without pointers, or as it is where it is refused.
-fn or_same(e: &CoreExpr, r: &Resolver<'_>) -> Result<CoreExpr, NoMemory> {
+fn or_same(e: &CoreExpr, r: &Resolver<'_>) -> Result<CoreExpr, NoMemory>
+    ensures { IfOk result (λ x. x ≡ or_same e.now (expr_in r.now e.now)) }
+{
     match expression(r, e) {
         Ok(made) => Ok(made),
         Err(Stop::Refused(_)) => Copies::plain(r.alloc).expr(e),
@@ -79,6 +98,12 @@ fn or_same(e: &CoreExpr, r: &Resolver<'_>) -> Result<CoreExpr, NoMemory> {
 
 // A pointer leads to its target from its declaration on; a second one, or one that is assigned, is refused.
 fn alias(s: &CoreStmt, to: &Pointed, of: &CoreLeft, r: &mut Resolver<'_>) -> Result<CoreNode, Stop>
+    ensures trees { Gives (λ x. x) result (made_map (λ o. empty_block) (alias_in r.old s.now.place to.now of.now)) }
+    ensures leads { (n : ℕ) (o : Option CoreLeft) → to.now ≡ aimed.Declared n → alias_in r.old s.now.place to.now of.now ≡ Made o → OnOk result (leads_of r.new ≡ leading (leads_of r.old) n (target_of o)) }
+    ensures held { OnOk result (Begins r.old.held.entries r.new.held.entries) }
+    ensures known { r.new.known ≡ r.old.known }
+    ensures places { r.new.places ≡ r.old.places }
+    ensures vectors { r.new.vectors ≡ r.old.vectors }
     ensures stop { (q : Refusal) → result ≡ Err (stop.Refused q) → IsOfPointers q }
 {
     match to {
@@ -96,11 +121,12 @@ fn alias(s: &CoreStmt, to: &Pointed, of: &CoreLeft, r: &mut Resolver<'_>) -> Res
 
 // The refusal of an assigned pointer; null that is followed at the same place comes first.
 fn assigned(place: Place, left: &CoreLeft, r: &Resolver<'_>) -> Stop
+    ensures trees { Refuses result (of_assigned place (made_map target_of (walked_in r.now left.now false))) }
     ensures stop { (q : Refusal) → result ≡ stop.Refused q → IsOfPointers q }
 {
     match walked(r, left, false) {
         Err(Stop::Refused(refusal)) => {
-            if refusal.code == Code::EmptyPointer && refusal.place == place {
+            if is_null_there(place, refusal) {
                 Stop::Refused(refusal)
             } else {
                 Stop::refused(Code::PointerAssigned, place)
@@ -109,4 +135,13 @@ fn assigned(place: Place, left: &CoreLeft, r: &Resolver<'_>) -> Stop
         Err(Stop::NoMemory) => Stop::NoMemory,
         Ok(_) => Stop::refused(Code::PointerAssigned, place),
     }
+}
+
+// Whether null is followed there.
+fn is_null_there(place: Place, refusal: Refusal) -> bool
+    ensures { result ≡ is_null_there place refusal }
+{
+    matches!(refusal.code, Code::EmptyPointer)
+        && refusal.place.file == place.file
+        && refusal.place.at == place.at
 }

@@ -1,5 +1,6 @@
 use Rattle.std.proofs.Common.{◌≡◌, ◌+◌, ◌<◌, length, arith, ap, ◌∙◌, sym, min, [], ◌∷◌, ◌++◌, take, true, false, if◌then◌else◌}
-use Rattle.scc_pointers.specs.Resolved.{gone, is_pointer, new_numbers}
+use Rattle.scc_pointers.specs.Resolved.{gone, new_numbers}
+use Rattle.scc_pointers_walk.specs.Pointers.{is_pointer}
 use Rattle.scc_pointers.proofs.Numbering.{with_next, stays_next, stays, next_cut}
 use Rattle.scc_pointers.proofs.pass.numbers_of.Goals as goal
 use Rattle.scc_pointers.proofs.pass.numbers_of.Goals.{then-is_pointer+in_ok-push, else-is_pointer+in_ok-push-2}

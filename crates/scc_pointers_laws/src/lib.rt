@@ -1,0 +1,6 @@
+//! Laws of walks: expressions and locations without pointers are those of the definitions; no code.
+#![tactic(auto)]
+
+mod laws;
+
+pub use laws::{a_walk_is_the_definitions, walks_stay_sound};

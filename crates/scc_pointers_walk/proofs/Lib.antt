@@ -1,0 +1,9 @@
+pub mod Bounds
+pub mod Chained
+pub mod Leading
+pub mod Locations
+pub mod Patterns
+pub mod Placed
+pub mod Sized
+pub mod Tabled
+pub mod Terms
