@@ -9,3 +9,6 @@ pub mod Steps
 pub mod Greatest
 pub mod Keeping
 pub mod Opens
+pub mod Shapes
+pub mod Leaves
+pub mod Closed

@@ -1,17 +1,24 @@
 -- What a lowering is given, has made so far, and makes, as the laws of lowering over trees speak of it.
-use Rattle.std.specs.Prelude.{◌≡◌, List, [], ◌∷◌, map, Option, Some, None}
+use Rattle.std.specs.Prelude.{◌≡◌, ℕ, ◌+◌, List, [], ◌∷◌, map, Option, Some, None, slice_get}
+use Rattle.scc_bits_kinds.specs.declared.kind.Kind.{Kind}
+use Rattle.scc_bits_kinds.specs.Kinds.{width_of}
+use Rattle.scc_bits.specs.Value.{Number}
 use Rattle.scc_core.specs.declared.expr.CoreBase.TheOpen as tree
 use Rattle.scc_core.specs.declared.expr.CoreExpr.{CoreExpr}
 use Rattle.scc_core.specs.declared.expr.CoreExprNode.{out-CoreExprNode}
 use Rattle.scc_core.specs.declared.expr.CoreLeft.{CoreLeft}
+use Rattle.scc_core.specs.declared.expr.CorePick.{CorePick, out-CorePick}
+use Rattle.scc_core.specs.declared.program.Cell.{Cell}
 use Rattle.scc_core.specs.Located.{named_in}
 use Rattle.scc_svtree.specs.Code.{code_of}
+use Rattle.scc_svtree.specs.declared.expr.SvExpr.{SvExpr}
+use Rattle.scc_svtree.specs.Term as emitted
 use Rattle.scc_svtree.specs.Term.{term_of}
 use Rattle.scc_lower_laws.specs.Elements.{Slot}
 use Rattle.scc_lower_laws.specs.Outcome as outcome
 use Rattle.scc_lower_laws.specs.Outcome.{Outcome}
 use Rattle.scc_lower_tree_laws.specs.Becoming.{Becomes}
-use Rattle.scc_lower_tree_laws.specs.Choosing.{Opened}
+use Rattle.scc_lower_tree_laws.specs.Choosing.{Opened, ReadsElement}
 use Rattle.scc_lower_tree_laws.specs.Finding as finding
 use Rattle.scc_lower_tree_laws.specs.Finding.{IsFoundAt}
 use Rattle.scc_lower_tree_laws.specs.Sound.{Layer}
@@ -83,3 +90,27 @@ IsLocated g l (Some f) = IsFoundAt g l (found_of f)
 
 abbrev pub IsLowered : Cells → CoreExpr → Lowering → Lowered → Lowering → Type 0
 IsLowered c e old o new = Becomes (given_of c) e (state_of old) (outcome_of o) (state_of new)
+
+-- and the text that is made of it
+abbrev pub IsWritten : Cells → CoreExpr → Lowering → SvExpr → Lowering → Type 0
+IsWritten c e old t new = Becomes (given_of c) e (state_of old) (outcome.Made (term_of t)) (state_of new)
+
+-- the number that it is, where it has one; nothing is added for it
+abbrev pub IsNumber : Given → CoreExpr → Option Number → Type 0
+IsNumber g e None = Unit {0}
+IsNumber g e (Some v) = (a : State) → Becomes g e a (outcome.Known v) a
+
+-- ---- bits
+
+-- a bit under an index
+abbrev pub IsBitAt : Option CorePick → CoreExpr → Type 0
+IsBitAt None i = ⊥
+IsBitAt (Some q) i = (k : Kind) × (out-CorePick q ≡ tree.Bit k i)
+
+-- a whole element
+pub record IsWholeRead (g : Given) (views : List Seen) (os : List Opened) (first : ℕ) (t : emitted.Term) : Type 0 where
+  pub cell : Cell
+  pub high : ℕ
+  pub stands : slice_get g.cells first ≡ Some cell
+  pub wide : high + 1 ≡ width_of cell.kind
+  pub reads : ReadsElement g views os first high 0 t

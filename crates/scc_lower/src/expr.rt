@@ -1,27 +1,29 @@
 //! Expressions. A chain of operators is as deep as it is long, so first operands are walked by a loop.
-ghost use Rattle.std.specs.Prelude.{◌≡◌, IfOk, map};
+ghost use Rattle.std.specs.Prelude.{◌≡◌, IfOk, List, Some, map};
 ghost use Rattle.std.specs.Option.{option_copied};
-ghost use Rattle.scc_svtree.specs.Term as term;
-ghost use Rattle.scc_svtree.specs.Term.{term_of};
-ghost use Rattle.scc_svtree.specs.declared.expr.SvLeft.TheVariants as place;
-ghost use Rattle.scc_lower_spec.specs.Selected.{bit_term};
-ghost use Rattle.scc_lower_laws.specs.Outcome as outcome;
+ghost use Rattle.scc_bits_kinds.specs.declared.kind.Kind.{Kind};
 ghost use Rattle.scc_bits.specs.Value.{Number};
-ghost use Rattle.scc_lower_tree_laws.specs.Finding.{location_of};
-ghost use Rattle.scc_lower.specs.Becoming.{IsPath, first_of, outcome_of};
+ghost use Rattle.scc_core.specs.declared.expr.CoreExpr.{CoreExpr};
+ghost use Rattle.scc_core.specs.declared.expr.CoreLeft.{CoreLeft};
+ghost use Rattle.scc_svtree.specs.Term.{term_of};
+ghost use Rattle.scc_lower_laws.specs.Joins.{joined_text};
+ghost use Rattle.scc_lower_laws.specs.Outcome.{Outcome};
+ghost use Rattle.scc_lower_tree_laws.specs.Becoming.{Becomes};
+ghost use Rattle.scc_lower_tree_laws.specs.Finding.{BitAt, IsFoundAt, LoweringAll, Picking, Reading};
+ghost use Rattle.scc_lower_tree_laws.specs.States.{State};
+ghost use Rattle.scc_lower.specs.Becoming.{IsLowered, IsNumber, IsPath, IsWritten, first_of, found_of, given_of, outcome_of, state_of};
 
-use crate::built::{binary, cast, literal, node};
+use crate::built::literal;
 use crate::convert::{Lowered, converted, expression};
-use crate::index::{Index, Open, indexed, opened};
+use crate::index::{indexed, opened};
 use crate::lowering::{Cells, Lowering};
 use crate::operator::{Operand, chosen, operated, operated_alone};
 use crate::place::{Found, locate};
-use crate::select::Bits;
-use crate::tree::{CHOICES, element};
+use crate::read::{bit_text, concatenation, location, open_index, read_closed, read_whole};
 use scc_base::{List, NoMemory, lost, push};
 use scc_bits::{Kind, Value, Word, width};
 use scc_core::{CoreExpr, CoreExprNode, CoreLeft, CorePick};
-use scc_svtree::{SvBinary, SvExpr, SvExprNode};
+use scc_svtree::SvExpr;
 use std::alloc::Global;
 
 /// How deep operands other than first ones, indices and brackets may nest.
@@ -69,7 +71,9 @@ pub fn lowered(
     cells: Cells<'_>,
     cx: &mut Lowering<'_>,
     levels: u32,
-) -> Result<Lowered, NoMemory> {
+) -> Result<Lowered, NoMemory>
+    ensures { IfOk result (λ o. IsLowered cells.entry e.now cx.old o cx.new) }
+{
     if levels == 0 {
         return Err(lost());
     }
@@ -89,49 +93,59 @@ fn leaf(
     cells: Cells<'_>,
     cx: &mut Lowering<'_>,
     levels: u32,
-) -> Result<Lowered, NoMemory> {
+) -> Result<Lowered, NoMemory>
+    ensures { IfOk result (λ o. IsLowered cells.entry e.now cx.old o cx.new) }
+{
+    match known_leaf(e, cells)? {
+        Some(v) => Ok(Lowered::Known(v)),
+        None => Ok(Lowered::Made(text(alloc, e, cells, cx, levels)?)),
+    }
+}
+
+// The number of an expression without a first operand, where it is static.
+fn known_leaf(e: &CoreExpr, cells: Cells<'_>) -> Result<Option<Value>, NoMemory>
+    ensures { IfOk result (λ o. IsNumber (given_of cells.entry) e.now o) }
+{
     match e.node.get() {
         CoreExprNode::Lit(word) => number(e.kind, *word),
-        CoreExprNode::Load(of) => match cells.known.value(e) {
-            Some(v) => Ok(Lowered::Known(v)),
-            None => {
-                let t = read(alloc, of, of.pick.as_ref(), e.kind, cells, cx, levels)?;
-                Ok(Lowered::Made(t))
-            }
-        },
-        CoreExprNode::Read(of) => match cells.known.value(e) {
-            Some(v) => Ok(Lowered::Known(v)),
-            None => {
-                let t = read(alloc, of, of.pick.as_ref(), e.kind, cells, cx, levels)?;
-                Ok(Lowered::Made(t))
-            }
-        },
-        CoreExprNode::Pick { of, pick } => match cells.known.value(e) {
-            Some(v) => Ok(Lowered::Known(v)),
-            None => {
-                let t = pick_of(alloc, of, pick, e.kind, cells, cx, levels)?;
-                Ok(Lowered::Made(t))
-            }
-        },
-        CoreExprNode::Join(parts) => match cells.known.value(e) {
-            Some(v) => Ok(Lowered::Known(v)),
-            None => {
-                let t = joined(alloc, parts.as_slice(), cells, cx, levels)?;
-                Ok(Lowered::Made(t))
-            }
-        },
-        CoreExprNode::Convert(_) | CoreExprNode::Operate { .. } | CoreExprNode::Choose { .. } =>
-            Err(lost()),
+        CoreExprNode::Load(_) => Ok(cells.known.value(e)),
+        CoreExprNode::Read(_) => Ok(cells.known.value(e)),
+        CoreExprNode::Pick { .. } => Ok(cells.known.value(e)),
+        CoreExprNode::Join(_) => Ok(cells.known.value(e)),
+        CoreExprNode::Convert(_) | CoreExprNode::Operate { .. } | CoreExprNode::Choose { .. } => {
+            Err(lost())
+        }
     }
 }
 
 // A literal, which is of its kind.
-fn number(kind: Kind, word: Word) -> Result<Lowered, NoMemory>
-    ensures { IfOk result (λ o. (v : Number) × (outcome_of o ≡ outcome.Known v) × (v.kind ≡ kind) × (v.word ≡ word.bits)) }
+fn number(kind: Kind, word: Word) -> Result<Option<Value>, NoMemory>
+    ensures { IfOk result (λ o. (v : Number) × (o ≡ Some v) × (v.kind ≡ kind) × (v.word ≡ word.bits)) }
 {
     match Value::of(kind, word) {
-        Some(v) => Ok(Lowered::Known(v)),
+        Some(v) => Ok(Some(v)),
         None => Err(lost()),
+    }
+}
+
+// The text of an expression without a first operand.
+#[cycle(lowering)]
+fn text(
+    alloc: Global,
+    e: &CoreExpr,
+    cells: Cells<'_>,
+    cx: &mut Lowering<'_>,
+    levels: u32,
+) -> Result<SvExpr, NoMemory>
+    ensures { IfOk result (λ t. IsWritten cells.entry e.now cx.old t cx.new) }
+{
+    if let Some(of) = location(e) {
+        return read(alloc, of, of.pick.as_ref(), e.kind, cells, cx, levels);
+    }
+    match e.node.get() {
+        CoreExprNode::Pick { of, pick } => pick_of(alloc, of, pick, e.kind, cells, cx, levels),
+        CoreExprNode::Join(parts) => joined(alloc, parts.as_slice(), cells, cx, levels),
+        _ => Err(lost()),
     }
 }
 
@@ -144,7 +158,9 @@ fn over(
     cells: Cells<'_>,
     cx: &mut Lowering<'_>,
     levels: u32,
-) -> Result<Lowered, NoMemory> {
+) -> Result<Lowered, NoMemory>
+    ensures { (f : CoreExpr) → (a : State) → first_of e.now ≡ Some f → Becomes (given_of cells.entry) f a (outcome_of inner) (state_of cx.old) → IfOk result (λ o. Becomes (given_of cells.entry) e.now a (outcome_of o) (state_of cx.new)) }
+{
     match e.node.get() {
         CoreExprNode::Convert(of) => converted(alloc, inner, of.kind, e.kind),
         CoreExprNode::Operate { op, left, right } => {
@@ -155,7 +171,10 @@ fn over(
             match right {
                 None => operated_alone(alloc, *op, x, e.kind),
                 Some(right) => {
-                    let y = operand(alloc, right, cells, cx, levels)?;
+                    let y = Operand {
+                        of: lowered(alloc, right, cells, cx, levels)?,
+                        kind: right.kind,
+                    };
                     operated(alloc, *op, x, y, e.kind)
                 }
             }
@@ -165,8 +184,14 @@ fn over(
                 of: inner,
                 kind: test.kind,
             };
-            let a = operand(alloc, yes, cells, cx, levels)?;
-            let b = operand(alloc, no, cells, cx, levels)?;
+            let a = Operand {
+                of: lowered(alloc, yes, cells, cx, levels)?,
+                kind: yes.kind,
+            };
+            let b = Operand {
+                of: lowered(alloc, no, cells, cx, levels)?,
+                kind: no.kind,
+            };
             chosen(alloc, t, a, b, e.kind)
         }
         CoreExprNode::Lit(_)
@@ -177,18 +202,6 @@ fn over(
     }
 }
 
-#[cycle(lowering)]
-fn operand(
-    alloc: Global,
-    e: &CoreExpr,
-    cells: Cells<'_>,
-    cx: &mut Lowering<'_>,
-    levels: u32,
-) -> Result<Operand, NoMemory> {
-    let of = lowered(alloc, e, cells, cx, levels)?;
-    Ok(Operand { of, kind: e.kind })
-}
-
 // A concatenation.
 #[cycle(lowering)]
 fn joined(
@@ -197,13 +210,15 @@ fn joined(
     cells: Cells<'_>,
     cx: &mut Lowering<'_>,
     levels: u32,
-) -> Result<SvExpr, NoMemory> {
+) -> Result<SvExpr, NoMemory>
+    ensures { IfOk result (λ t. (os : List Outcome) × (term_of t ≡ joined_text os) × LoweringAll (given_of cells.entry) parts.now (state_of cx.old) os (state_of cx.new)) }
+{
     let mut texts = List::new(alloc);
     for part in parts {
         let x = lowered(alloc, part, cells, cx, levels)?;
         texts.push(expression(alloc, x)?)?;
     }
-    node(alloc, SvExprNode::Concat(texts))
+    concatenation(alloc, texts)
 }
 
 // Bits of a value: of what is read, or of a number under an index that isn't static.
@@ -216,7 +231,9 @@ fn pick_of(
     cells: Cells<'_>,
     cx: &mut Lowering<'_>,
     levels: u32,
-) -> Result<SvExpr, NoMemory> {
+) -> Result<SvExpr, NoMemory>
+    ensures { IfOk result (λ t. Picking (given_of cells.entry) of.now pick.now kind (state_of cx.old) (term_of t) (state_of cx.new)) }
+{
     match location(of) {
         Some(left) => read(alloc, left, Some(pick), kind, cells, cx, levels),
         None => match pick {
@@ -230,18 +247,6 @@ fn pick_of(
     }
 }
 
-// The location that an expression reads.
-fn location(e: &CoreExpr) -> Option<&CoreLeft>
-    ensures { option_copied result ≡ location_of e.now }
-{
-    match e.node.get() {
-        CoreExprNode::Load(left) => Some(left),
-        CoreExprNode::Read(left) => Some(left),
-        CoreExprNode::Lit(_) | CoreExprNode::Convert(_) | CoreExprNode::Operate { .. } => None,
-        CoreExprNode::Choose { .. } | CoreExprNode::Pick { .. } | CoreExprNode::Join(_) => None,
-    }
-}
-
 // A read of a location, whole or of some bits; `kind` is that of what is read.
 #[cycle(lowering)]
 fn read(
@@ -252,9 +257,11 @@ fn read(
     cells: Cells<'_>,
     cx: &mut Lowering<'_>,
     levels: u32,
-) -> Result<SvExpr, NoMemory> {
+) -> Result<SvExpr, NoMemory>
+    ensures { IfOk result (λ t. Reading (given_of cells.entry) left.now (option_copied pick.entry) kind (state_of cx.old) (term_of t) (state_of cx.new)) }
+{
     match locate(alloc, cells, left)? {
-        Some(found) => read_found(alloc, found, pick, cells, cx, levels),
+        Some(found) => read_found(alloc, &found, pick, cells, cx, levels),
         None => literal(alloc, width(kind), 0),
     }
 }
@@ -263,71 +270,21 @@ fn read(
 #[cycle(lowering)]
 fn read_found(
     alloc: Global,
-    found: Found<'_>,
+    found: &Found<'_>,
     pick: Option<&CorePick>,
     cells: Cells<'_>,
     cx: &mut Lowering<'_>,
     levels: u32,
-) -> Result<SvExpr, NoMemory> {
+) -> Result<SvExpr, NoMemory>
+    ensures { (l : CoreLeft) → (k : Kind) → IsFoundAt (given_of cells.entry) l (found_of found.now) → IfOk result (λ t. Reading (given_of cells.entry) l (option_copied pick.entry) k (state_of cx.old) (term_of t) (state_of cx.new)) }
+{
     let opens = opened(alloc, found.dims.as_slice(), cells, cx, levels)?;
-    read_open(
-        alloc,
-        opens.as_slice(),
-        found.first,
-        pick,
-        cells,
-        cx,
-        levels,
-    )
-}
-
-// The same under indices that stand in variables.
-#[cycle(lowering)]
-fn read_open(
-    alloc: Global,
-    opens: &[Open],
-    first: u32,
-    pick: Option<&CorePick>,
-    cells: Cells<'_>,
-    cx: &mut Lowering<'_>,
-    levels: u32,
-) -> Result<SvExpr, NoMemory> {
-    let all = Bits::all(width(cells.cell(first)?.kind))?;
-    match pick {
-        None => element(alloc, opens, first, all, cells, cx, CHOICES),
-        Some(CorePick::Range { h, l, .. }) => {
-            let bits = Bits { h: *h, l: *l };
-            element(alloc, opens, first, bits, cells, cx, CHOICES)
+    match open_index(cells, pick) {
+        None => read_closed(alloc, opens.as_slice(), found.first, pick, cells, cx),
+        Some(at) => {
+            let e = read_whole(alloc, opens.as_slice(), found.first, cells, cx)?;
+            bit_at(alloc, e, at, cells, cx, levels)
         }
-        Some(CorePick::Bit { at, .. }) => match cells.known.value(at) {
-            Some(v) => known_bit(alloc, opens, first, all.h, v, cells, cx),
-            None => {
-                let e = element(alloc, opens, first, all, cells, cx, CHOICES)?;
-                bit_at(alloc, e, at, cells, cx, levels)
-            }
-        },
-    }
-}
-
-// The bit of a static number; 0 past the highest.
-fn known_bit(
-    alloc: Global,
-    opens: &[Open],
-    first: u32,
-    high: u32,
-    at: Value,
-    cells: Cells<'_>,
-    cx: &Lowering<'_>,
-) -> Result<SvExpr, NoMemory> {
-    match at.small() {
-        Some(i) => {
-            if i <= high {
-                element(alloc, opens, first, Bits { h: i, l: i }, cells, cx, CHOICES)
-            } else {
-                literal(alloc, 1, 0)
-            }
-        }
-        None => literal(alloc, 1, 0),
     }
 }
 
@@ -340,16 +297,9 @@ fn bit_at(
     cells: Cells<'_>,
     cx: &mut Lowering<'_>,
     levels: u32,
-) -> Result<SvExpr, NoMemory> {
+) -> Result<SvExpr, NoMemory>
+    ensures { IfOk result (λ r. BitAt (given_of cells.entry) (term_of e) at.now (state_of cx.old) (term_of r) (state_of cx.new)) }
+{
     let at = indexed(alloc, at, cells, cx, levels)?;
     bit_text(alloc, e, at)
-}
-
-// The lowest bit of the expression, shifted by an index.
-fn bit_text(alloc: Global, e: SvExpr, at: Index) -> Result<SvExpr, NoMemory>
-    ensures { IfOk result (λ r. term_of r ≡ bit_term (term_of e) (term.Part (place.Whole at.var))) }
-{
-    let at = at.read(alloc)?;
-    let shifted = binary(alloc, SvBinary::Shr, e, at)?;
-    cast(alloc, 1, shifted)
 }

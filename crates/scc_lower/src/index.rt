@@ -1,16 +1,19 @@
 //! Indices that aren't static, each as one variable.
-ghost use Rattle.std.specs.Prelude.{◌≡◌, ◌^◌, IfOk, IfSome, length, min, nat_lt};
+ghost use Rattle.std.specs.Prelude.{◌≡◌, ◌^◌, IfOk, IfSome, length, map, min, nat_lt};
+ghost use Rattle.scc_core.specs.declared.expr.CoreExpr.{CoreExpr};
 ghost use Rattle.scc_svtree.specs.Term as term;
 ghost use Rattle.scc_svtree.specs.Term.{term_of};
 ghost use Rattle.scc_svtree.specs.declared.expr.SvLeft.TheVariants as place;
 ghost use Rattle.scc_lower_spec.specs.Selected.{below_term};
 ghost use Rattle.scc_lower_laws.specs.Elements.{index_kind, variable_of};
 ghost use Rattle.scc_lower_laws.specs.Outcome as outcome;
-ghost use Rattle.scc_lower_tree_laws.specs.Finding.{Keeping};
-ghost use Rattle.scc_lower.specs.Becoming.{slot_of, state_of};
+ghost use Rattle.scc_lower_tree_laws.specs.Becoming.{Becomes};
+ghost use Rattle.scc_lower_tree_laws.specs.Finding.{Indexing, Keeping, Opening};
+ghost use Rattle.scc_lower_tree_laws.specs.States.{State};
+ghost use Rattle.scc_lower.specs.Becoming.{chosen_of, given_of, opened_of, outcome_of, slot_of, state_of};
 
 use crate::built::{binary, literal, whole};
-use crate::convert::{converted, expression};
+use crate::convert::{Lowered, converted, expression};
 use crate::expr::lowered;
 use crate::lowering::{Cells, Lowering};
 use crate::place::Chosen;
@@ -83,12 +86,27 @@ pub fn indexed(
     cells: Cells<'_>,
     cx: &mut Lowering<'_>,
     levels: u32,
-) -> Result<Index, NoMemory> {
+) -> Result<Index, NoMemory>
+    ensures { IfOk result (λ v. Indexing (given_of cells.entry) e.now (state_of cx.old) (slot_of v) (state_of cx.new)) }
+{
     let of = lowered(alloc, e, cells, cx, levels)?;
-    let kind = index_kind(e.kind);
-    let of = converted(alloc, of, e.kind, kind)?;
+    index_of(alloc, e.kind, of, cells, cx)
+}
+
+// The variable that holds an index of a kind.
+fn index_of(
+    alloc: Global,
+    kind: Kind,
+    of: Lowered,
+    cells: Cells<'_>,
+    cx: &mut Lowering<'_>,
+) -> Result<Index, NoMemory>
+    ensures { (e : CoreExpr) → (a : State) → kind ≡ e.kind → Becomes (given_of cells.entry) e a (outcome_of of) (state_of cx.old) → IfOk result (λ v. Indexing (given_of cells.entry) e a (slot_of v) (state_of cx.new)) }
+{
+    let to = index_kind(kind);
+    let of = converted(alloc, of, kind, to)?;
     let of = expression(alloc, of)?;
-    kept(cells, cx, width(kind), of)
+    kept(cells, cx, width(to), of)
 }
 
 // An index is read without sign.
@@ -126,7 +144,9 @@ pub fn opened(
     cells: Cells<'_>,
     cx: &mut Lowering<'_>,
     levels: u32,
-) -> Result<Vec<Open>, NoMemory> {
+) -> Result<Vec<Open>, NoMemory>
+    ensures { IfOk result (λ os. Opening (given_of cells.entry) (map chosen_of dims.now) (state_of cx.old) (map opened_of os.items) (state_of cx.new)) }
+{
     let mut opens = Vec::new(alloc);
     for dim in dims {
         let at = indexed(alloc, dim.at, cells, cx, levels)?;

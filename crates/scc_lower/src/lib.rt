@@ -13,6 +13,7 @@ mod lowering;
 mod name;
 mod operator;
 mod place;
+mod read;
 mod select;
 mod stmt;
 mod tree;
