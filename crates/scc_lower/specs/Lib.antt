@@ -1,5 +1,1 @@
 pub mod Names
-pub mod Lowered
-pub mod Operated
-pub mod Reads
-pub mod Becoming

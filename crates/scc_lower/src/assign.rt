@@ -1,15 +1,15 @@
 //! Assignments.
-use crate::built::{binary, literal, number, unary, whole, widened};
-use crate::convert::{Lowered, expression};
-use crate::expr::{LEVELS, lowered};
-use crate::index::{Index, Open, indexed, opened};
-use crate::lowering::{Cells, Lowering};
-use crate::place::{Found, Picked, bits_taken, locate};
-use crate::select::{Bits, part};
-use crate::tree::{CHOICES, element_at};
 use scc_base::{List, NoMemory, lost};
 use scc_bits::width;
 use scc_core::{CoreExpr, CoreLeft, CorePick};
+use scc_lower_expressions::built::{binary, literal, number, unary, whole, widened};
+use scc_lower_expressions::convert::{Lowered, expression};
+use scc_lower_expressions::expr::{LEVELS, lowered};
+use scc_lower_expressions::index::{Index, Open, indexed, opened};
+use scc_lower_expressions::lowering::{Cells, Lowering};
+use scc_lower_expressions::place::{Found, Picked, bits_taken, locate};
+use scc_lower_expressions::select::{Bits, part};
+use scc_lower_expressions::tree::{CHOICES, element_at};
 use scc_svtree::{SvArm, SvBinary, SvExpr, SvLeft, SvStmt, SvUnary};
 use scc_svtree_renumber::{Ids, renumbered_expr};
 use std::alloc::Global;

@@ -1,0 +1,4 @@
+pub mod Lowered
+pub mod Operated
+pub mod Reads
+pub mod Becoming
