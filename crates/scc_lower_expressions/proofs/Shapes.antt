@@ -1,5 +1,5 @@
 -- The nodes of expressions and picks by their layers.
-use Rattle.std.proofs.Common.{◌≡◌, ℕ, List, Option, Some, None, ap, sym, ◌∙◌}
+use Rattle.std.proofs.Common.{◌≡◌, ℕ, List, Some, None, ap, sym, ◌∙◌}
 use Rattle.scc_bits_kinds.specs.declared.kind.Kind.{Kind}
 use Rattle.scc_bits_kinds.specs.declared.kind.Word.{Word}
 use Rattle.scc_bits_kinds.specs.declared.op.Op.{Op}

@@ -5,7 +5,7 @@ use Rattle.scc_core.specs.declared.expr.CorePick.{CorePick}
 use Rattle.scc_svtree.specs.declared.expr.SvExpr.{SvExpr}
 use Rattle.scc_svtree.specs.Term.{term_of}
 use Rattle.scc_lower_tree_laws.specs.Finding.{Reading}
-use Rattle.scc_lower_expressions.specs.Becoming.{IsWholeRead, given_of, opened_of, seen_of, state_of}
+use Rattle.scc_lower_expressions.specs.Becoming.{IsWholeRead, given_of, opened_of, state_of}
 use Rattle.scc_lower_expressions.proofs.Closed.{closed-whole}
 use Rattle.scc_lower_expressions.proofs.read.read_closed.Goals as goal
 
