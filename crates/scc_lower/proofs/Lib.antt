@@ -1,3 +1,4 @@
 pub mod Apart
 pub mod Located
 pub mod Greatest
+pub mod Writing

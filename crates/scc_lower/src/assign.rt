@@ -1,4 +1,11 @@
 //! Assignments.
+ghost use Rattle.std.specs.Prelude.{[], OnOk, map};
+ghost use Rattle.scc_core_spec.specs.Term.{Pick, Term};
+ghost use Rattle.scc_svtree.specs.Term.{term_of};
+ghost use Rattle.scc_lower_tree_laws.specs.Assigning.{Part};
+ghost use Rattle.scc_lower_expressions.specs.Becoming.{given_of, seen_of};
+ghost use Rattle.scc_lower.specs.Adding.{Adds};
+
 use scc_base::{List, NoMemory, lost};
 use scc_bits::width;
 use scc_core::{CoreExpr, CoreLeft, CorePick};
@@ -140,7 +147,9 @@ fn part_of(
     cells: Cells<'_>,
     cx: &Lowering<'_>,
     out: &mut List<SvStmt>,
-) -> Result<(), NoMemory> {
+) -> Result<(), NoMemory>
+    ensures { (k : Pick) → (e : Term) → OnOk result (Adds (given_of cells.entry) (map seen_of cx.now.views.now) [] cell (Part bits.h bits.l k e (term_of value.now)) out.old out.new) }
+{
     let var = cx.written_to(cell)?;
     let left = part(var, width(cells.cell(cell)?.kind), bits);
     let value = renumbered_expr(alloc, value, Ids::same(), LEVELS)?;

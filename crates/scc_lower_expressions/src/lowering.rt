@@ -1,6 +1,9 @@
 //! What a lowering is given, and what it leaves beside its text.
-ghost use Rattle.std.specs.Prelude.{◌≡◌, ◌+◌, ◌*◌, [], IfOk, Some, length, slice_get};
+ghost use Rattle.std.specs.Prelude.{◌≡◌, ◌+◌, ◌*◌, [], IfOk, Some, length, map, slice_get};
 ghost use Rattle.scc_lower_expressions.specs.Reads.{constant_of, var_read};
+ghost use Rattle.scc_lower_tree_laws.specs.Assigning.{written_by};
+ghost use Rattle.scc_lower_expressions.specs.Becoming.{seen_of};
+ghost use Rattle.scc_lower_expressions.specs.Writing.{IsWrittenTo};
 
 use scc_base::{List, NoMemory, lost};
 use scc_bits::Word;
@@ -67,12 +70,10 @@ impl<'a> Lowering<'a> {
     }
 
     /// The variable to which a cell is written.
-    pub fn written_to(&self, cell: u32) -> Result<VarId, NoMemory> {
-        match self.view(cell)? {
-            View::Plain => twice(cell, 0),
-            View::Next | View::Delayed => twice(cell, 1),
-            View::Constant(_) => Err(lost()),
-        }
+    pub fn written_to(&self, cell: u32) -> Result<VarId, NoMemory>
+        ensures { IfOk result (λ v. IsWrittenTo (map seen_of self.now.views.now) cell v.0) }
+    {
+        written_in(self.view(cell)?, cell)
     }
 }
 
@@ -136,6 +137,18 @@ pub fn read_of(view: View, cell: u32) -> Result<VarId, NoMemory>
         View::Constant(_) => twice(cell, 0),
         View::Plain => twice(cell, 0),
         View::Delayed => twice(cell, 0),
+    }
+}
+
+// The variable to which a cell is written in a view.
+fn written_in(view: View, cell: u32) -> Result<VarId, NoMemory>
+    ensures { IfOk result (λ v. written_by (seen_of view) cell ≡ Some v.0) }
+{
+    match view {
+        View::Plain => twice(cell, 0),
+        View::Next => twice(cell, 1),
+        View::Delayed => twice(cell, 1),
+        View::Constant(_) => Err(lost()),
     }
 }
 
