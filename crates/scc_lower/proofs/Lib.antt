@@ -1,11 +1,4 @@
 pub mod Apart
-pub mod Terms
-pub mod Worded
-pub mod Reading
 pub mod Located
-pub mod Codes
-pub mod Outcomes
-pub mod Steps
 pub mod Greatest
-pub mod Keeping
-pub mod Opens
+pub mod Writing

@@ -1,5 +1,2 @@
 pub mod Names
-pub mod Lowered
-pub mod Operated
-pub mod Reads
-pub mod Becoming
+pub mod Adding

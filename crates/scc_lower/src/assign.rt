@@ -1,15 +1,22 @@
 //! Assignments.
-use crate::built::{binary, literal, number, unary, whole, widened};
-use crate::convert::{Lowered, expression};
-use crate::expr::{LEVELS, lowered};
-use crate::index::{Index, Open, indexed, opened};
-use crate::lowering::{Cells, Lowering};
-use crate::place::{Found, Picked, bits_taken, locate};
-use crate::select::{Bits, part};
-use crate::tree::{CHOICES, element_at};
+ghost use Rattle.std.specs.Prelude.{[], OnOk, map};
+ghost use Rattle.scc_core_spec.specs.Term.{Pick, Term};
+ghost use Rattle.scc_svtree.specs.Term.{term_of};
+ghost use Rattle.scc_lower_tree_laws.specs.Assigning.{Part};
+ghost use Rattle.scc_lower_expressions.specs.Becoming.{given_of, seen_of};
+ghost use Rattle.scc_lower.specs.Adding.{Adds};
+
 use scc_base::{List, NoMemory, lost};
 use scc_bits::width;
 use scc_core::{CoreExpr, CoreLeft, CorePick};
+use scc_lower_expressions::built::{binary, literal, number, unary, whole, widened};
+use scc_lower_expressions::convert::{Lowered, expression};
+use scc_lower_expressions::expr::{LEVELS, lowered};
+use scc_lower_expressions::index::{Index, Open, indexed, opened};
+use scc_lower_expressions::lowering::{Cells, Lowering};
+use scc_lower_expressions::place::{Found, Picked, bits_taken, locate};
+use scc_lower_expressions::select::{Bits, part};
+use scc_lower_expressions::tree::{CHOICES, element_at};
 use scc_svtree::{SvArm, SvBinary, SvExpr, SvLeft, SvStmt, SvUnary};
 use scc_svtree_renumber::{Ids, renumbered_expr};
 use std::alloc::Global;
@@ -140,7 +147,9 @@ fn part_of(
     cells: Cells<'_>,
     cx: &Lowering<'_>,
     out: &mut List<SvStmt>,
-) -> Result<(), NoMemory> {
+) -> Result<(), NoMemory>
+    ensures { (k : Pick) → (e : Term) → OnOk result (Adds (given_of cells.entry) (map seen_of cx.now.views.now) [] cell (Part bits.h bits.l k e (term_of value.now)) out.old out.new) }
+{
     let var = cx.written_to(cell)?;
     let left = part(var, width(cells.cell(cell)?.kind), bits);
     let value = renumbered_expr(alloc, value, Ids::same(), LEVELS)?;

@@ -1,11 +1,11 @@
 //! Statements, and how blocks are left: a variable holds the number of the block that is being left, 0 where none is.
 use crate::assign::assigned;
-use crate::built::{binary, literal, whole};
-use crate::convert::{Lowered, expression};
-use crate::expr::{LEVELS, lowered};
-use crate::lowering::{Cells, Lowering};
 use scc_base::{List, NoMemory, lost, push};
 use scc_core::{CoreExpr, CoreNode, CoreStmt};
+use scc_lower_expressions::built::{binary, literal, whole};
+use scc_lower_expressions::convert::{Lowered, expression};
+use scc_lower_expressions::expr::{LEVELS, lowered};
+use scc_lower_expressions::lowering::{Cells, Lowering};
 use scc_svtree::{SvBinary, SvExpr, SvLeft, SvStmt};
 use std::alloc::Global;
 use std::mem::replace;

@@ -1,8 +1,8 @@
 //! Lowering over a core by itself.
-use crate::lowering::{Cells, Lowering};
 use crate::stmt::{lowered_expr, lowered_stmts};
 use scc_base::{List, NoMemory};
 use scc_core::{Core, CoreExpr, CoreStmt, Places};
+use scc_lower_expressions::lowering::{Cells, Lowering};
 use scc_svtree::{SvExpr, SvStmt};
 use std::alloc::Global;
 

@@ -2,7 +2,7 @@ use Rattle.std.proofs.Common.{◌<◌, ap, sym, ◌∙◌, max, length, take, ar
 use Rattle.scc_core_view.specs.Codes.{code_of}
 use Rattle.scc_lower_tree_laws.specs.Stating.{greatest}
 use Rattle.scc_lower.proofs.Greatest.{greatest-more}
-use Rattle.scc_lower.proofs.Steps.{take-next}
+use Rattle.scc_lower_expressions.proofs.Steps.{take-next}
 use Rattle.scc_lower.proofs.exits.+exits.Goals as goal
 
 pub greatest_exit-loop-s-preserved : goal.greatest_exit-loop-s-preserved

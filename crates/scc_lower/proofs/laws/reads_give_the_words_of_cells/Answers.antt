@@ -1,5 +1,0 @@
-use Rattle.scc_lower.proofs.Reading.{read_gives}
-use Rattle.scc_lower.proofs.laws.reads_give_the_words_of_cells.Goals as goal
-
-pub returns : goal.returns
-returns c = λ wide width x v k u h l word s n i f a b. read_gives wide width x v k u h l word s n i f a b

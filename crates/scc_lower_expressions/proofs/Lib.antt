@@ -1,0 +1,11 @@
+pub mod Terms
+pub mod Worded
+pub mod Reading
+pub mod Codes
+pub mod Outcomes
+pub mod Steps
+pub mod Keeping
+pub mod Opens
+pub mod Shapes
+pub mod Leaves
+pub mod Closed
