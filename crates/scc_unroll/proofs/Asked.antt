@@ -97,3 +97,7 @@ tail_read k (s ∷ ss) h = read_back k (asked_in s) (asked ss) h
 
 pub rest_taken : (k : Known) (ss : List CoreStmt) (n : ℕ) → AreRead k (asked ss) → AreRead k (asked (take n (drop 1 ss)))
 rest_taken k ss n h = front_read k n (drop 1 ss) (tail_read k ss h)
+
+-- of three statements, those of the second
+pub middle_read : (k : Known) (ss : List CoreStmt) (s : CoreStmt) → 1 < length ss → s ≡ get_or ss 1 s → AreRead k (asked ss) → AreRead k (asked (s ∷ []))
+middle_read k ss s h is r = first_read k ss 1 s h is (tail_read k ss r)

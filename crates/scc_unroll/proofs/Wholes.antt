@@ -14,10 +14,10 @@ use Rattle.scc_core_view.specs.Programs.{cell_of}
 use Rattle.scc_core_view.specs.Terms.{term_of}
 use Rattle.scc_core_view.specs.Whole.{IsWhole}
 use Rattle.scc_unroll.specs.Asked.{AreRead}
-use Rattle.scc_unroll.specs.Counters.{counters_of}
+use Rattle.scc_unroll_laws.specs.Counters.{counters_of}
 use Rattle.scc_unroll.specs.Shape.{AreCounters, IsRead}
 use Rattle.scc_unroll.specs.Wholes.{AreWholeCounted}
-use Rattle.scc_unroll.proofs.Counting.{copy_says}
+use Rattle.scc_unroll_laws.proofs.Counting.{copy_says}
 
 module _ (known : Known) (cells : List Cell) (k : Knows known cells [])
     (law : (e : CoreExpr) → IsWhole cells e → option_map (λ v. v.word) (value_in (facts_in known) e) ≡ static (map cell_of cells) (term_of e)) where

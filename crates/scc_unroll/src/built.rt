@@ -1,10 +1,11 @@
 //! The unrolled body.
-use crate::counted::{At, Counted, counted_by, counters_in};
+use crate::counted::{At, counters_in};
+use crate::ended::{Ended, ended_by};
+use crate::made::{aim, choice, kept, push_turn, put};
 use crate::shape::{Stand, are_all, behind};
-use crate::turns::{Turn, turns_by};
+use crate::turns::Turn;
 use scc_base::{List, NoMemory, Place, lost};
-use scc_bits::Word;
-use scc_core::{Copies, CoreExpr, CoreExprNode, CoreNode, CoreStmt, Count, Counter};
+use scc_core::{CoreNode, CoreStmt, Count, Counter};
 
 /// The statements with their counted loops turn by turn, in which the counters stand as literals.
 #[cycle(unrolled)]
@@ -16,8 +17,10 @@ pub fn unrolled(
 ) -> Result<List<CoreStmt>, NoMemory> {
     let mut stand = stand;
     let mut out = List::new(at.alloc);
-    for (i, s) in body.iter().enumerate() {
-        let last = are_all(i + 1, body);
+    let mut count = 0usize;
+    for s in body {
+        count += 1;
+        let last = are_all(count, body);
         unroll(at, counters, stand, s, last, &mut out)?;
         stand = behind(stand, s);
     }
@@ -36,49 +39,48 @@ fn unroll(
 ) -> Result<(), NoMemory> {
     match &s.node {
         CoreNode::Loop { count, body } => {
-            let of = counted_by(at, counters, stand, count, body.as_slice(), last)?;
-            match of {
-                Some(of) => {
-                    unroll_counted(at, counters, &of, s.place, count, body.as_slice(), out)
+            let list = body.as_slice();
+            let ended = ended_by(at, counters, stand, count, list, last)?;
+            match ended {
+                Some(of) => write_loop(at, counters, &of, list, out),
+                None => {
+                    let copy = kept_loop(at, counters, s.place, count, list)?;
+                    out.push(copy)
                 }
-                None => kept_loop(at, counters, s.place, count, body.as_slice(), out),
             }
         }
         _ => {
-            let node = copied(at, counters, s)?;
-            let place = s.place;
-            out.push(CoreStmt { place, node })
+            let copy = copied(at, counters, s)?;
+            out.push(copy)
         }
     }
 }
 
 // A statement that is no loop.
 #[cycle(unrolled)]
-fn copied(at: &At<'_>, counters: &[Counter], s: &CoreStmt) -> Result<CoreNode, NoMemory> {
-    let copies = Copies::with(at.alloc, counters);
+fn copied(at: &At<'_>, counters: &[Counter], s: &CoreStmt) -> Result<CoreStmt, NoMemory> {
+    let place = s.place;
     match &s.node {
         CoreNode::If { test, yes, no } => {
-            let test = copies.expr(test)?;
             let yes = unrolled(at, counters, Stand::Elsewhere, yes.as_slice())?;
             let no = unrolled(at, counters, Stand::Elsewhere, no.as_slice())?;
-            Ok(CoreNode::If { test, yes, no })
+            choice(at.alloc, counters, place, test, yes, no)
         }
         CoreNode::Block(body) => {
             let body = unrolled(at, counters, Stand::First, body.as_slice())?;
-            Ok(CoreNode::Block(body))
+            let node = CoreNode::Block(body);
+            Ok(CoreStmt { place, node })
         }
-        CoreNode::Assign { left, value } => {
-            let left = copies.left(left)?;
-            let value = copies.expr(value)?;
-            Ok(CoreNode::Assign { left, value })
+        CoreNode::Assign { left, value } => put(at.alloc, counters, place, left, value),
+        CoreNode::Exit(n) => {
+            let node = CoreNode::Exit(*n);
+            Ok(CoreStmt { place, node })
         }
-        CoreNode::Exit(n) => Ok(CoreNode::Exit(*n)),
-        CoreNode::Wait { n } => Ok(CoreNode::Wait { n: *n }),
-        CoreNode::Alias { to, target } => {
-            let to = copies.pointed(to)?;
-            let target = copies.left(target)?;
-            Ok(CoreNode::Alias { to, target })
+        CoreNode::Wait { n } => {
+            let node = CoreNode::Wait { n: *n };
+            Ok(CoreStmt { place, node })
         }
+        CoreNode::Alias { to, target } => aim(at.alloc, counters, place, to, target),
         CoreNode::Loop { .. } => Err(lost()),
     }
 }
@@ -91,30 +93,26 @@ fn kept_loop(
     place: Place,
     count: &Option<Count>,
     body: &[CoreStmt],
-    out: &mut List<CoreStmt>,
-) -> Result<(), NoMemory> {
-    let count = count_copied(at, counters, count)?;
+) -> Result<CoreStmt, NoMemory> {
     let body = unrolled(at, counters, Stand::Elsewhere, body)?;
-    let node = CoreNode::Loop { count, body };
-    out.push(CoreStmt { place, node })
+    kept(at.alloc, counters, place, count, body)
 }
 
-// A counted loop; one without an end stays.
+// The turns of a loop by its body.
 #[cycle(unrolled)]
-fn unroll_counted(
+fn write_loop(
     at: &At<'_>,
     counters: &[Counter],
-    of: &Counted<'_>,
-    place: Place,
-    count: &Option<Count>,
+    of: &Ended<'_>,
     body: &[CoreStmt],
     out: &mut List<CoreStmt>,
 ) -> Result<(), NoMemory> {
-    let turns = turns_by(at, counters, of)?;
-    if turns.ends {
-        write_turns(at, counters, of, turns.list.as_slice(), body, out)
-    } else {
-        kept_loop(at, counters, place, count, body, out)
+    let [_, block, _] = body else {
+        return Err(lost());
+    };
+    match &block.node {
+        CoreNode::Block(inner) => write_turns(at, counters, of, block.place, inner.as_slice(), out),
+        _ => Err(lost()),
     }
 }
 
@@ -123,48 +121,30 @@ fn unroll_counted(
 fn write_turns(
     at: &At<'_>,
     counters: &[Counter],
-    of: &Counted<'_>,
-    list: &[Turn],
-    body: &[CoreStmt],
+    of: &Ended<'_>,
+    place: Place,
+    inner: &[CoreStmt],
     out: &mut List<CoreStmt>,
 ) -> Result<(), NoMemory> {
-    let [_, block, _] = body else {
-        return Err(lost());
-    };
-    let CoreNode::Block(inner) = &block.node else {
-        return Err(lost());
-    };
-    for turn in list {
-        let around = counters_in(at, counters, of.cell, turn.now)?;
-        let written = unrolled(at, around.as_slice(), Stand::First, inner.as_slice())?;
-        let place = block.place;
-        let node = CoreNode::Block(written);
-        out.push(CoreStmt { place, node })?;
-        out.push(step(at, of, turn.next)?)?;
+    for turn in of.list.as_slice() {
+        let block = turn_block(at, counters, of.cell, turn, place, inner)?;
+        push_turn(at.alloc, &of.turning, block, turn.next, out)?;
     }
     Ok(())
 }
 
-// How a loop that stays counts.
-fn count_copied(
+// The block of a turn.
+#[cycle(unrolled)]
+fn turn_block(
     at: &At<'_>,
     counters: &[Counter],
-    count: &Option<Count>,
-) -> Result<Option<Count>, NoMemory> {
-    match count {
-        Some(count) => Ok(Some(Copies::with(at.alloc, counters).count(count)?)),
-        None => Ok(None),
-    }
-}
-
-// The counter's next number, assigned where its step stood.
-fn step(at: &At<'_>, of: &Counted<'_>, next: Word) -> Result<CoreStmt, NoMemory> {
-    let step = of.turning.step;
-    let literal = CoreExprNode::Lit(next);
-    let node = CoreNode::Assign {
-        left: Copies::plain(at.alloc).left(of.turning.step_left)?,
-        value: CoreExpr::new(at.alloc, step.place, step.kind, literal)?,
-    };
-    let place = of.turning.step_place;
+    cell: u32,
+    turn: &Turn,
+    place: Place,
+    inner: &[CoreStmt],
+) -> Result<CoreStmt, NoMemory> {
+    let around = counters_in(at, counters, cell, turn.now)?;
+    let body = unrolled(at, around.as_slice(), Stand::First, inner)?;
+    let node = CoreNode::Block(body);
     Ok(CoreStmt { place, node })
 }

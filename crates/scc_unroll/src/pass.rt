@@ -1,10 +1,10 @@
 //! The pass.
-ghost use Rattle.std.specs.Prelude.{◌≡◌, [], Err, IfOk, Some, None, map, option_map, slice_get};
+ghost use Rattle.std.specs.Prelude.{◌≡◌, [], Err, IfOk, Some, None, map, nat_lt, option_map, slice_get};
 ghost use Rattle.scc_base.specs.declared.refusal.Refusal.{Refusal};
 ghost use Rattle.scc_base.specs.declared.refusal.Stop.TheVariants as stop;
-ghost use Rattle.scc_core_spec.specs.Code.{Code as Statements};
+ghost use Rattle.scc_core_spec.specs.Code.{Code as Statements, size};
 ghost use Rattle.scc_core_spec.specs.Counted.{Elsewhere};
-ghost use Rattle.scc_core_spec.specs.Unrolled.{earlier, run_turns};
+ghost use Rattle.scc_core_spec.specs.Unrolled.{earlier, run_turns, unrolled};
 ghost use Rattle.scc_core_view.specs.Codes.{code_of};
 ghost use Rattle.scc_unroll.specs.Asked.{AreRead, asked};
 ghost use Rattle.scc_unroll.specs.Shape.{Around, setting_of};
@@ -115,9 +115,13 @@ fn over_of(at: &At<'_>, body: &[CoreStmt]) -> Result<Option<Spot>, NoMemory>
     Ok(budget.over)
 }
 
-fn is_too_large(at: &At<'_>, body: &[CoreStmt]) -> Result<bool, NoMemory> {
+// Whether the unrolled body has too many statements.
+fn is_too_large(at: &At<'_>, body: &[CoreStmt]) -> Result<bool, NoMemory>
+    ensures { (b : Statements) → Around at.now b [] → AreRead at.now.known (asked body.now) → IfOk result (λ t. t ≡ nat_lt 65536 (size (unrolled (setting_of at.now b) [] Elsewhere (code_of body.now)))) }
+{
     let none = Tally::new(STATEMENTS);
-    Ok(unrolled_size(at, &[], Stand::Elsewhere, body, none)?.is_over())
+    let sum = unrolled_size(at, &[], Stand::Elsewhere, body, none)?;
+    Ok(sum.is_over())
 }
 
 // The earlier one of a loop that isn't counted and one that makes a turn too many.

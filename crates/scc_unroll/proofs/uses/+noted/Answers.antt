@@ -4,8 +4,8 @@ use Rattle.scc_core_spec.specs.Counted.{uses}
 use Rattle.scc_core_view.specs.Codes.{code_of}
 use Rattle.scc_core_view.specs.Programs.{cell_of}
 use Rattle.scc_unroll.specs.Used.{used}
-use Rattle.scc_unroll.proofs.Heads.{uses_here}
-use Rattle.scc_unroll.proofs.Sums.{use_step, nothing_left}
+use Rattle.scc_unroll_laws.proofs.Heads.{uses_here}
+use Rattle.scc_unroll_laws.proofs.Sums.{use_step, nothing_left}
 use Rattle.scc_unroll.proofs.uses.+noted.Goals as goal
 
 pub note_all-loop-s-preserved : goal.note_all-loop-s-preserved

@@ -17,7 +17,7 @@ use Rattle.scc_core.specs.declared.program.CellName.{CellName}
 use Rattle.scc_core_view.specs.Programs.{cell_of}
 use Rattle.scc_core_view.specs.Terms.{name_of, term_of, taken_of}
 use Rattle.scc_core_view.specs.Terms as to
-use Rattle.scc_unroll.proofs.Trees.{term_node, term_base, term_part, term_pick}
+use Rattle.scc_unroll_laws.proofs.Trees.{term_node, term_base, term_part, term_pick}
 use Rattle.scc_core_spec.specs.Term.{Term, Left, Pick, Cell, Prefix, Null, Follow, Member, Index, Whole}
 use Rattle.scc_core_spec.specs.Static.{Cells}
 use Rattle.scc_core_spec.specs.Program as program

@@ -20,11 +20,11 @@ use Rattle.scc_core.specs.declared.program.CellName.{CellName}
 use Rattle.scc_core.specs.Counters as with
 use Rattle.scc_core_view.specs.Terms.{term_of, taken_of}
 use Rattle.scc_core_view.specs.Terms as to
-use Rattle.scc_unroll.proofs.Trees.{term_node, term_base, term_part, term_pick, term_layer, term_made}
+use Rattle.scc_unroll_laws.proofs.Trees.{term_node, term_base, term_part, term_pick, term_layer, term_made}
 use Rattle.scc_core_spec.specs.Term.{Term, Left, Pick}
 use Rattle.scc_core_spec.specs.Term as term
 use Rattle.scc_core_spec.specs.Counted.{Counter, counter_at, loaded_as, counting, counting_left, counting_pick}
-use Rattle.scc_unroll.specs.Counters.{counter_of, counters_of}
+use Rattle.scc_unroll_laws.specs.Counters.{counter_of, counters_of}
 
 abbrev Each : {A : Type 0} → (A → Type 0) → List A → Type 0
 Each P [] = Unit {0}
