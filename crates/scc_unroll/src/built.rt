@@ -1,4 +1,18 @@
 //! The unrolled body.
+ghost use Rattle.std.specs.Prelude.{◌≡◌, ◌∷◌, [], IfOk, OnOk, map, option_map, true};
+ghost use Rattle.scc_core_spec.specs.Code.{Code};
+ghost use Rattle.scc_core_spec.specs.Code as code;
+ghost use Rattle.scc_core_spec.specs.Counted as spec;
+ghost use Rattle.scc_core_spec.specs.Unrolled.{counting_count, unrolled, written_out};
+ghost use Rattle.scc_core_view.specs.Codes.{code_of, counted, stmt_code};
+ghost use Rattle.scc_core_view.specs.Terms.{taken_of};
+ghost use Rattle.scc_unroll.specs.Asked.{AreTaken, IsItself, StandIsRead, asked};
+ghost use Rattle.scc_unroll.specs.Shape.{Around, HasParts, setting_of, stand_of, turned};
+ghost use Rattle.scc_unroll.specs.Turns.{turn_of};
+ghost use Rattle.scc_unroll_laws.specs.Counters.{counters_of};
+ghost use Rattle.scc_unroll_laws.specs.Heads.{stand_behind};
+ghost use Rattle.scc_unroll_laws.specs.Writing.{each_turn, set_before};
+
 use crate::counted::{At, counters_in};
 use crate::ended::{Ended, ended_by};
 use crate::made::{aim, choice, kept, push_turn, put};
@@ -14,7 +28,9 @@ pub fn unrolled(
     counters: &[Counter],
     stand: Stand<'_>,
     body: &[CoreStmt],
-) -> Result<List<CoreStmt>, NoMemory> {
+) -> Result<List<CoreStmt>, NoMemory>
+    ensures { (b : Code) → Around at.now b counters.now → AreTaken at.now.known (asked body.now) → StandIsRead at.now.known stand.entry → IfOk result (λ l. code_of l ≡ unrolled (setting_of at.now b) (counters_of counters.now) (stand_of stand.entry) (code_of body.now)) }
+{
     let mut stand = stand;
     let mut out = List::new(at.alloc);
     let mut count = 0usize;
@@ -36,7 +52,9 @@ fn unroll(
     s: &CoreStmt,
     last: bool,
     out: &mut List<CoreStmt>,
-) -> Result<(), NoMemory> {
+) -> Result<(), NoMemory>
+    ensures { (b r : Code) → Around at.now b counters.now → AreTaken at.now.known (asked (s.now ∷ [])) → StandIsRead at.now.known stand.entry → spec.is_end r ≡ last → OnOk result (set_before out.old (unrolled (setting_of at.now b) (counters_of counters.now) (stand_of stand.entry) (stmt_code s.now r)) ≡ set_before out.new (unrolled (setting_of at.now b) (counters_of counters.now) (stand_behind (stand_of stand.entry) (code_of (s.now ∷ []))) r)) }
+{
     match &s.node {
         CoreNode::Loop { count, body } => {
             let list = body.as_slice();
@@ -58,7 +76,9 @@ fn unroll(
 
 // A statement that is no loop.
 #[cycle(unrolled)]
-fn copied(at: &At<'_>, counters: &[Counter], s: &CoreStmt) -> Result<CoreStmt, NoMemory> {
+fn copied(at: &At<'_>, counters: &[Counter], s: &CoreStmt) -> Result<CoreStmt, NoMemory>
+    ensures { (b : Code) → Around at.now b counters.now → AreTaken at.now.known (asked (s.now ∷ [])) → IfOk result (λ z. (w : spec.Stand) (r : Code) → unrolled (setting_of at.now b) (counters_of counters.now) w (stmt_code s.now r) ≡ stmt_code z (unrolled (setting_of at.now b) (counters_of counters.now) (stand_behind w (code_of (s.now ∷ []))) r)) }
+{
     let place = s.place;
     match &s.node {
         CoreNode::If { test, yes, no } => {
@@ -93,7 +113,9 @@ fn kept_loop(
     place: Place,
     count: &Option<Count>,
     body: &[CoreStmt],
-) -> Result<CoreStmt, NoMemory> {
+) -> Result<CoreStmt, NoMemory>
+    ensures { (b : Code) → Around at.now b counters.now → AreTaken at.now.known (asked body.now) → IfOk result (λ z. (r : Code) → stmt_code z r ≡ code.Loop place (option_map (counting_count (counters_of counters.now)) (counted count.now)) (unrolled (setting_of at.now b) (counters_of counters.now) spec.Elsewhere (code_of body.now)) r) }
+{
     let body = unrolled(at, counters, Stand::Elsewhere, body)?;
     kept(at.alloc, counters, place, count, body)
 }
@@ -106,7 +128,9 @@ fn write_loop(
     of: &Ended<'_>,
     body: &[CoreStmt],
     out: &mut List<CoreStmt>,
-) -> Result<(), NoMemory> {
+) -> Result<(), NoMemory>
+    ensures { (b : Code) → Around at.now b counters.now → AreTaken at.now.known (asked body.now) → IsItself of.now.turning.step.now → HasParts of.now.turning (code_of body.now) → OnOk result ((r : Code) → set_before out.new r ≡ set_before out.old (written_out (spec.turning_of (code_of body.now)) (map (λ x. (x, unrolled (setting_of at.now b) (spec.counter of.now.cell x.now ∷ counters_of counters.now) spec.Elsewhere (code_of body.now))) (map turn_of of.now.list)) r)) }
+{
     let [_, block, _] = body else {
         return Err(lost());
     };
@@ -125,7 +149,9 @@ fn write_turns(
     place: Place,
     inner: &[CoreStmt],
     out: &mut List<CoreStmt>,
-) -> Result<(), NoMemory> {
+) -> Result<(), NoMemory>
+    ensures { (b : Code) → Around at.now b counters.now → AreTaken at.now.known (asked inner.now) → IsItself of.now.turning.step.now → spec.is_whole (taken_of of.now.turning.step_left.now).pick ≡ true → OnOk result ((r : Code) → set_before out.new r ≡ set_before out.old (each_turn (setting_of at.now b) (counters_of counters.now) of.now.cell place (code_of inner.now) (turned of.now.turning) (map turn_of of.now.list) r)) }
+{
     for turn in of.list.as_slice() {
         let block = turn_block(at, counters, of.cell, turn, place, inner)?;
         push_turn(at.alloc, &of.turning, block, turn.next, out)?;
@@ -142,7 +168,9 @@ fn turn_block(
     turn: &Turn,
     place: Place,
     inner: &[CoreStmt],
-) -> Result<CoreStmt, NoMemory> {
+) -> Result<CoreStmt, NoMemory>
+    ensures { (b : Code) → Around at.now b counters.now → AreTaken at.now.known (asked inner.now) → IfOk result (λ z. (r : Code) → stmt_code z r ≡ code.Block place (unrolled (setting_of at.now b) (spec.counter cell turn.entry.now.now.bits ∷ counters_of counters.now) spec.First (code_of inner.now)) r) }
+{
     let around = counters_in(at, counters, cell, turn.now)?;
     let body = unrolled(at, around.as_slice(), Stand::First, inner)?;
     let node = CoreNode::Block(body);

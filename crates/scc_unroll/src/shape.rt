@@ -5,7 +5,7 @@ ghost use Rattle.scc_core_spec.specs.Code as code;
 ghost use Rattle.scc_core_spec.specs.Counted as spec;
 ghost use Rattle.scc_core_view.specs.Codes.{code_of};
 ghost use Rattle.scc_core_view.specs.Terms.{taken_of, term_of};
-ghost use Rattle.scc_unroll.specs.Asked.{AreRead, StandIsRead, asked};
+ghost use Rattle.scc_unroll.specs.Asked.{AreAll, AreRead, IsItself, StandIsRead, asked};
 ghost use Rattle.scc_unroll_laws.specs.Heads.{simple, stand_behind};
 ghost use Rattle.scc_unroll.specs.Shape.{IsRead, stand_of, turned};
 
@@ -170,6 +170,7 @@ pub struct Turning<'a> {
 pub fn turning_in(cell: u32, body: &[CoreStmt]) -> Option<Turning<'_>>
     ensures parts { option_map turned result ≡ if spec.is_turning cell (code_of body.now) then spec.turning_of (code_of body.now) else None }
     ensures read { (known : Known) → AreRead known (asked body.now) → IfSome result (λ t. IsRead known t.test.now × IsRead known t.step.now) }
+    ensures itself { AreAll IsItself (asked body.now) → IfSome result (λ t. IsItself t.step.now) }
     ensures whole { IfSome result (λ t. spec.is_whole (taken_of t.step_left.now).pick ≡ true) }
 {
     let [first, rest @ ..] = body else {
@@ -202,6 +203,7 @@ fn leaves_block(body: &[CoreStmt]) -> bool
 fn turn<'a>(cell: u32, test: &'a CoreExpr, body: &'a [CoreStmt]) -> Option<Turning<'a>>
     ensures parts { option_map turned result ≡ if spec.is_turn cell (code_of body.now) then spec.turn_of (term_of test.now) (code_of body.now) else None }
     ensures read { (known : Known) → IsRead known test.now → AreRead known (asked body.now) → IfSome result (λ t. IsRead known t.test.now × IsRead known t.step.now) }
+    ensures itself { AreAll IsItself (asked body.now) → IfSome result (λ t. IsItself t.step.now) }
     ensures whole { IfSome result (λ t. spec.is_whole (taken_of t.step_left.now).pick ≡ true) }
 {
     let [block, rest @ ..] = body else {
@@ -222,6 +224,7 @@ fn step<'a>(
 ) -> Option<Turning<'a>>
     ensures parts { option_map turned result ≡ if spec.is_step cell (code_of body.now) then spec.step_of (term_of test.now) place (code_of turn.now) (code_of body.now) else None }
     ensures read { (known : Known) → IsRead known test.now → AreRead known (asked body.now) → IfSome result (λ t. IsRead known t.test.now × IsRead known t.step.now) }
+    ensures itself { AreAll IsItself (asked body.now) → IfSome result (λ t. IsItself t.step.now) }
     ensures whole { IfSome result (λ t. spec.is_whole (taken_of t.step_left.now).pick ≡ true) }
 {
     let [s, rest @ ..] = body else {
