@@ -1,5 +1,6 @@
 pub mod Copied
 pub mod Counting
+pub mod Firsts
 pub mod Heads
 pub mod Lefts
 pub mod Looks
