@@ -14,7 +14,7 @@ ghost use Rattle.scc_unroll_laws.specs.Sizes.{more, sum_of};
 ghost use Rattle.scc_unroll_laws.specs.Writing.{each_turn};
 
 use crate::counted::{At, counters_in};
-use crate::ended::ended_by;
+use crate::ended::{Ended, ended_by};
 use crate::shape::{Stand, are_all, behind, is_simple};
 use crate::turns::Turn;
 use scc_base::{NoMemory, Tally, lost};
@@ -80,20 +80,10 @@ fn size_at(
             let ended = ended_by(at, counters, stand, count, list, last)?;
             match ended {
                 Some(of) => {
-                    let turned = size_of_loop(
-                        at,
-                        counters,
-                        of.cell,
-                        of.list.as_slice(),
-                        list,
-                        sum,
-                    )?;
+                    let turned = size_of_loop(at, counters, &of, list, sum)?;
                     Ok(turned)
                 }
-                None => {
-                    let within = unrolled_size(at, counters, Stand::Elsewhere, list, more)?;
-                    Ok(within)
-                }
+                None => unrolled_size(at, counters, Stand::Elsewhere, list, more),
             }
         }
         _ => Err(lost()),
@@ -105,19 +95,19 @@ fn size_at(
 fn size_of_loop(
     at: &At<'_>,
     counters: &[Counter],
-    cell: u32,
-    list: &[Turn],
+    of: &Ended<'_>,
     body: &[CoreStmt],
     sum: Tally,
 ) -> Result<Tally, NoMemory>
-    ensures { (b : Code) (t : spec.Turning) → Around at.now b counters.now → AreRead at.now.known (asked body.now) → spec.turning_of (code_of body.now) ≡ Some t → IfOk result (λ z. (rest : Code) → more (sum_of sum) (size (written_out (spec.turning_of (code_of body.now)) (map (λ x. (x, unrolled (setting_of at.now b) (spec.counter cell x.now ∷ counters_of counters.now) spec.Elsewhere (code_of body.now))) (map turn_of list.now)) rest)) ≡ more (sum_of z) (size rest)) }
+    ensures { (b : Code) (t : spec.Turning) → Around at.now b counters.now → AreRead at.now.known (asked body.now) → spec.turning_of (code_of body.now) ≡ Some t → IfOk result (λ z. (rest : Code) → more (sum_of sum) (size (written_out (spec.turning_of (code_of body.now)) (map (λ x. (x, unrolled (setting_of at.now b) (spec.counter of.now.cell x.now ∷ counters_of counters.now) spec.Elsewhere (code_of body.now))) (map turn_of of.now.list)) rest)) ≡ more (sum_of z) (size rest)) }
 {
     let [_, block, _] = body else {
         return Err(lost());
     };
     match &block.node {
         CoreNode::Block(inner) => {
-            let turned = size_of_turns(at, counters, cell, list, inner.as_slice(), sum)?;
+            let list = of.list.as_slice();
+            let turned = size_of_turns(at, counters, of.cell, list, inner.as_slice(), sum)?;
             Ok(turned)
         }
         _ => Err(lost()),

@@ -1,5 +1,6 @@
 use Rattle.std.proofs.Common.{◌≡◌, refl, sym, ap, subst, ◌∙◌, arith, ℕ, ◌+◌, ◌<◌, nat_eq, length, drop, List, [], ◌∷◌, map, Option, Some, None, option_map}
 use Rattle.std.specs.Prelude.{IfSome}
+use Rattle.std.proofs.lemmas.Result.{IfOk-weaker}
 use Rattle.scc_core_spec.specs.Code.{Code, End, size}
 use Rattle.scc_core_spec.specs.Counted as spec
 use Rattle.scc_core_spec.specs.Unrolled.{unrolled, written_out}
@@ -94,13 +95,12 @@ size_at-returns-in_ok-turned-in-Some t c = λ b r a reads st e.
     let parts = subst (λ o. IfSome o (λ g. HasParts g.turning (code_of c.as_slice-list.result.now))) c.in-Some.is c.in_ok-ended-in-Loop.ensures.parts in
     let h : (rest : Code) → more o (size (written_out (spec.turning_of (code_of body)) (map (λ x. (x, unrolled S (spec.counter g.cell x.now ∷ ns) spec.Elsewhere (code_of body))) g.turns.list) rest)) ≡ more d (size rest) =
     λ rest. ap (λ x. more o (size (written_out (spec.turning_of (code_of x)) (map (λ y. (y, unrolled S (spec.counter g.cell y.now ∷ ns) spec.Elsewhere (code_of x))) g.turns.list) rest))) (sym one)
-    ∙ ap (λ l. more o (size (written_out (spec.turning_of (code_of c.as_slice-list.result.now)) (map (λ y. (y, unrolled S (spec.counter g.cell y.now ∷ ns) spec.Elsewhere (code_of c.as_slice-list.result.now))) (map turn_of l)) rest))) (sym c.as_slice-in-Some.ensures.elements)
     ∙ c.in_ok-turned-in-Some.ensures b (turned of.turning) a inside parts.turning rest in
     let P : (Code → Code) → Type 0 = λ f. more o (size (unrolled S ns w (f r))) ≡ more d (size (unrolled S ns (stand_behind w (f End)) r)) in
     subst P (sym (as_loop s c.in-Loop.count body c.in-Loop.is)) (size_turned S ns w s.place o m d count (code_of body) r g is h)
 
-pub size_at-returns-in_ok-within-in-None : goal.size_at-returns-in_ok-within-in-None
-size_at-returns-in_ok-within-in-None t c = λ b r a reads st e.
+pub size_at-returns-in-None : goal.size_at-returns-in-None
+size_at-returns-in-None t c = λ b r a reads st e.
     let S = setting_of c.args.at.now b in
     let ns = counters_of c.args.counters.now in
     let w = stand_of c.args.stand in
@@ -110,17 +110,18 @@ size_at-returns-in_ok-within-in-None t c = λ b r a reads st e.
     let count = counted c.in-Loop.count in
     let o = sum_of c.args.sum in
     let m = sum_of c.plus-more.result in
-    let d = sum_of c.in_ok-within-in-None.within in
     let one : c.as_slice-list.result.now ≡ body = c.as_slice-list.ensures.elements in
     let inside : AreRead k (asked c.as_slice-list.result.now) = subst (λ x. AreRead k (asked x)) (sym one) (loop_read k s reads c.in-Loop.count body c.in-Loop.is) in
     let is : spec.ended (spec.counted_by S ns w count (code_of body) r) ≡ None =
     ap (λ x. spec.ended (spec.counted_by S ns w count (code_of x) r)) (sym one)
     ∙ sym (ap (option_map ended_of) (sym c.in-None.is) ∙ c.in_ok-ended-in-Loop.ensures.ended b r a (count_read k s reads c.in-Loop.count body c.in-Loop.is) inside st e) in
-    let h : d ≡ more m (size (unrolled S ns spec.Elsewhere (code_of body))) =
-    c.in_ok-within-in-None.ensures b a inside tt ∙ ap (λ x. more m (size (unrolled S ns spec.Elsewhere (code_of x)))) one in
-    let P : (Code → Code) → Type 0 = λ f. more o (size (unrolled S ns w (f r))) ≡ more d (size (unrolled S ns (stand_behind w (f End)) r)) in
+    IfOk-weaker c.unrolled_size-in-None.result _ _
+    (λ d h.
+    let P : (Code → Code) → Type 0 = λ f. more o (size (unrolled S ns w (f r))) ≡ more (sum_of d) (size (unrolled S ns (stand_behind w (f End)) r)) in
     subst P (sym (as_loop s c.in-Loop.count body c.in-Loop.is))
-    (size_kept S ns w s.place o m d count (code_of body) r is (sum_is c.args.sum c.plus-more.result 1 c.plus-more.ensures.count c.plus-more.ensures.limit) h)
+    (size_kept S ns w s.place o m (sum_of d) count (code_of body) r is (sum_is c.args.sum c.plus-more.result 1 c.plus-more.ensures.count c.plus-more.ensures.limit)
+    (h ∙ ap (λ x. more m (size (unrolled S ns spec.Elsewhere (code_of x)))) one)))
+    (c.unrolled_size-in-None.ensures b a inside tt)
 
 -- ---- the turns of a loop
 
@@ -132,12 +133,14 @@ size_of_loop-returns-in_ok-turned-in-Block t c = λ b u a reads parts rest.
     let body = c.args.body.now in
     let y = c.block-item.result in
     let inner = c.in-Block.inner in
-    let ts = map turn_of c.args.list.now in
-    let n = c.args.cell in
+    let ts = map turn_of c.args.of.now.list in
+    let n = c.args.of.now.cell in
     let o = sum_of c.args.sum in
     let h : 1 < length body = omega (arith, c.in-len3.len_at_least) in
     let one : c.as_slice.result.now ≡ inner = c.as_slice.ensures.elements in
+    let two : c.as_slice-list.result.now ≡ c.args.of.now.list = c.as_slice-list.ensures.elements in
     let inside : AreRead k (asked c.as_slice.result.now) = subst (λ x. AreRead k (asked x)) (sym one) (block_read k y (middle_read k body y h c.block-item.is reads) inner c.in-Block.is) in
     ap (λ x. more o (size x)) (turns_in body y (code_of inner) u h c.block-item.is (as_block y inner c.in-Block.is) parts S ns n ts rest)
     ∙ ap (λ x. more o (size (each_turn S ns n y.place (code_of x) u ts rest))) (sym one)
+    ∙ ap (λ l. more o (size (each_turn S ns n y.place (code_of c.as_slice.result.now) u (map turn_of l) rest))) (sym two)
     ∙ c.in_ok-turned-in-Block.ensures b rest y.place u a inside
