@@ -1,7 +1,6 @@
 -- Statements of an unrolled body, one by one.
-use Rattle.std.proofs.Common.{◌≡◌, refl, sym, ap, subst, ◌∙◌, ℕ, Bool, true, false, List, ◌∷◌, map, Option, Some, None, option_map}
+use Rattle.std.proofs.Common.{◌≡◌, refl, sym, ap, subst, ◌∙◌, ℕ, true, List, ◌∷◌, map, Option, Some, None, option_map}
 use Rattle.scc_base.specs.declared.refusal.Place.{Place}
-use Rattle.scc_bits_kinds.specs.declared.kind.Kind.{Kind}
 use Rattle.scc_bits_kinds.specs.declared.kind.Word.{Word}
 use Rattle.scc_core.specs.declared.copy.Counter.{Counter as Held}
 use Rattle.scc_core.specs.declared.expr.CoreExpr.{CoreExpr}
@@ -14,9 +13,9 @@ use Rattle.scc_core.specs.declared.stmt.CoreNode.TheVariants as node
 use Rattle.scc_core.specs.declared.stmt.Pointed.{Pointed as Aimed}
 use Rattle.scc_core.specs.declared.stmt.Pointed.TheVariants as aimed
 use Rattle.scc_core.specs.Counters as with
-use Rattle.scc_core_spec.specs.Term.{Left, Literal, Pick, Term, Whole, OneBit, Bits, kind_of, place_of}
+use Rattle.scc_core_spec.specs.Term.{Literal, Pick, Term, Whole, OneBit, Bits, kind_of, place_of}
 use Rattle.scc_core_spec.specs.Code.{Code, Count, Pointed, End, Put, Aim, If, Block, Loop, Exit, Wait}
-use Rattle.scc_core_spec.specs.Counted.{Counter, Counting, First, Elsewhere, Setting, Stand, Turn, Turning, counted_by, counter, counting, counting_left, counting_pick, ended, is_whole, turning_of}
+use Rattle.scc_core_spec.specs.Counted.{Counter, Counting, First, Elsewhere, Setting, Stand, Turning, counted_by, counter, counting, counting_left, counting_pick, ended, is_whole, turning_of}
 use Rattle.scc_core_spec.specs.Unrolled.{counting_count, counting_to, looped_or, stepped, unrolled, written_out}
 use Rattle.scc_core_view.specs.Codes.{code_of, count_of, counted, pointed_of, stmt_code}
 use Rattle.scc_core_view.specs.Terms.{taken_of, term_of}

@@ -4,8 +4,6 @@ use Rattle.std.specs.Prelude.{find, if◌then◌else◌}
 use Rattle.scc_base.specs.declared.refusal.Place.{Place}
 use Rattle.scc_base.specs.declared.names.Name.{Name}
 use Rattle.scc_bits_kinds.specs.declared.kind.Kind.{Kind}
-use Rattle.scc_bits_kinds.specs.declared.op.Op.{Op}
-use Rattle.scc_bits_kinds.specs.declared.kind.Word.{Word}
 use Rattle.scc_bits.specs.Value.{Number}
 use Rattle.scc_core.specs.declared.copy.Counter.{Counter as Held}
 use Rattle.scc_core.specs.declared.expr.CoreExpr.{CoreExpr, fold-roll-CoreExpr, ind-CoreExpr}

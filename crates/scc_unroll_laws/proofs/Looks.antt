@@ -1,5 +1,5 @@
 -- The first loop of a walk.
-use Rattle.std.proofs.Common.{◌≡◌, refl, sym, ap, subst, ◌∙◌, arith, ℕ, ◌+◌, Bool, true, false, List, [], ◌∷◌, ◌++◌, Option, Some, None, option_map}
+use Rattle.std.proofs.Common.{◌≡◌, refl, sym, ap, ◌∙◌, arith, ℕ, ◌+◌, Bool, true, false, List, [], ◌∷◌, ◌++◌, Option, Some, None, option_map}
 use Rattle.scc_base.specs.declared.refusal.Place.{Place}
 use Rattle.scc_core.specs.declared.stmt.CoreStmt.{CoreStmt}
 use Rattle.scc_core.specs.declared.stmt.CoreNode.TheOpen.{CoreNode-F}
