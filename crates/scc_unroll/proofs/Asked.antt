@@ -1,11 +1,11 @@
 -- What is asked of a statement by its node, and of the statements of a list.
-use Rattle.std.proofs.Common.{◌≡◌, refl, sym, ap, subst, ◌∙◌, ℕ, zero, suc, ◌+◌, ◌<◌, add-one, List, [], ◌∷◌, ◌++◌, map, take, drop, drop-cons, get_or, length, Option}
+use Rattle.std.proofs.Common.{◌≡◌, refl, sym, ap, subst, ◌∙◌, ℕ, zero, suc, ◌+◌, ◌<◌, add-one, List, [], ◌∷◌, ◌++◌, take, drop, drop-cons, get_or, length, Option}
 use Rattle.scc_core.specs.declared.expr.CoreExpr.{CoreExpr}
 use Rattle.scc_core.specs.declared.expr.CoreLeft.{CoreLeft}
 use Rattle.scc_core.specs.declared.statics.Known.{Known}
 use Rattle.scc_core.specs.declared.stmt.Count.{Count}
 use Rattle.scc_core.specs.declared.stmt.CoreStmt.{CoreStmt, fold-roll-CoreStmt}
-use Rattle.scc_core.specs.declared.stmt.CoreNode.{CoreNode, fold-CoreNode, fold-roll-CoreNode, roll-CoreNode}
+use Rattle.scc_core.specs.declared.stmt.CoreNode.{CoreNode, fold-CoreNode, fold-roll-CoreNode}
 use Rattle.scc_core.specs.declared.stmt.CoreNode.TheVariants as node
 use Rattle.scc_core.specs.declared.stmt.CoreNode.TheOpen as tree
 use Rattle.scc_unroll.specs.Asked.{asked_count, asked_node, asked_step, asked_in, asked, AreAll, AreRead, AreTaken, IsItself}

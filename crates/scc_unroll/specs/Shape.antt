@@ -1,5 +1,5 @@
 -- The parts of a counted loop, where a statement stands, and what is known around statements, as the code hands them on.
-use Rattle.std.specs.Prelude.{◌≡◌, ℕ, true, List, [], ◌∷◌, map, slice_get, Option, Some, None, option_map}
+use Rattle.std.specs.Prelude.{◌≡◌, ℕ, true, List, [], ◌∷◌, map, slice_get, Option, Some, option_map}
 use Rattle.scc_bits_kinds.specs.Kinds.{IsValid, Fits}
 use Rattle.scc_core.specs.declared.copy.Counter.{Counter as Held}
 use Rattle.scc_core.specs.declared.expr.CoreExpr.{CoreExpr}

@@ -1,5 +1,5 @@
 -- Turns of counted loops, as the code finds them.
-use Rattle.std.specs.Prelude.{ℕ, Bool, true, false, List, [], ◌++◌, map, Option, Some, None, option_map}
+use Rattle.std.specs.Prelude.{ℕ, Bool, true, false, List, ◌++◌, map, Option, Some, None, option_map}
 use Rattle.scc_bits_kinds.specs.declared.kind.Word.{Word}
 use Rattle.scc_core.specs.declared.copy.Counter.{Counter as Held}
 use Rattle.scc_core_spec.specs.Counted.{Counting, Turn, Turns, no_turns, one_more}

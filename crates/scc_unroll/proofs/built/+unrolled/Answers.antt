@@ -1,11 +1,11 @@
-use Rattle.std.proofs.Common.{◌≡◌, refl, sym, ap, subst, ◌∙◌, arith, ℕ, ◌+◌, ◌<◌, nat_eq, length, drop, List, [], ◌∷◌, map, Option, Some, None, option_map}
+use Rattle.std.proofs.Common.{◌≡◌, sym, ap, subst, ◌∙◌, arith, ◌+◌, ◌<◌, nat_eq, length, drop, [], ◌∷◌, map, Some, None, option_map}
 use Rattle.std.specs.Prelude.{IfSome}
 use Rattle.std.proofs.lemmas.Result.{IfOk-weaker, on_ok_weaker}
 use Rattle.scc_core.specs.declared.stmt.CoreNode.TheVariants as node
-use Rattle.scc_core_spec.specs.Code.{Code, End, Loop}
+use Rattle.scc_core_spec.specs.Code.{Loop}
 use Rattle.scc_core_spec.specs.Counted as spec
 use Rattle.scc_core_spec.specs.Unrolled.{counting_count, unrolled}
-use Rattle.scc_core_view.specs.Codes.{code_of, counted, stmt_code}
+use Rattle.scc_core_view.specs.Codes.{code_of, counted}
 use Rattle.scc_unroll.specs.Asked.{AreTaken, IsItself, IsTaken, asked}
 use Rattle.scc_unroll.specs.Shape.{HasParts, setting_of, stand_of, turned}
 use Rattle.scc_unroll.specs.Turns.{ended_of, turn_of}

@@ -1,4 +1,4 @@
-use Rattle.std.proofs.Common.{◌≡◌, ◌+◌, drop, map, true}
+use Rattle.std.proofs.Common.{◌≡◌, drop, map, true}
 use Rattle.scc_core_spec.specs.Code.{Code}
 use Rattle.scc_core_spec.specs.Counted.{is_whole}
 use Rattle.scc_core_spec.specs.Unrolled.{unrolled}

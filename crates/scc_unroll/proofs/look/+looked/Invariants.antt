@@ -1,4 +1,4 @@
-use Rattle.std.proofs.Common.{◌≡◌, ◌≤◌, length, drop}
+use Rattle.std.proofs.Common.{◌≡◌, drop}
 use Rattle.scc_core_spec.specs.Code.{Code}
 use Rattle.scc_core_spec.specs.Unrolled.{first_spot, uncounted}
 use Rattle.scc_core_view.specs.Codes.{code_of}

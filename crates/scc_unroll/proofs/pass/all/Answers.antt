@@ -1,7 +1,6 @@
-use Rattle.std.proofs.Common.{◌≡◌, sym, ap, ◌∙◌, List, ◌∷◌, ◌++◌, map, None, Err}
+use Rattle.std.proofs.Common.{◌≡◌, sym, ap, ◌∙◌, ◌∷◌, ◌++◌, map, Err}
 use Rattle.std.proofs.lemmas.Result.{err_from_is_err_and}
 use Rattle.std.specs.Vec.Iter.{into_iter_items}
-use Rattle.scc_core.specs.declared.program.CoreProcess.{CoreProcess}
 use Rattle.scc_core_spec.specs.Unrolled.{first_unrolled, with_body}
 use Rattle.scc_core_view.specs.Programs.{cell_of, process_of}
 use Rattle.scc_unroll.specs.Unrolled.{body_of, head_of}

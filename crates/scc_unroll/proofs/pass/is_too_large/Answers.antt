@@ -1,4 +1,4 @@
-use Rattle.std.proofs.Common.{◌≡◌, []}
+use Rattle.std.proofs.Common.{[]}
 use Rattle.scc_core_spec.specs.Code.{size}
 use Rattle.scc_core_spec.specs.Counted.{Elsewhere}
 use Rattle.scc_core_spec.specs.Unrolled.{unrolled}

@@ -1,10 +1,10 @@
-use Rattle.std.proofs.Common.{◌≡◌, refl, sym, ap, subst, ◌∙◌, arith, ℕ, ◌+◌, ◌<◌, nat_eq, length, drop, List, [], ◌∷◌, map, Option, Some, None, option_map}
+use Rattle.std.proofs.Common.{◌≡◌, sym, ap, subst, ◌∙◌, arith, ◌+◌, ◌<◌, nat_eq, length, drop, ◌∷◌, map, Some, None, option_map}
 use Rattle.std.specs.Prelude.{IfSome}
 use Rattle.std.proofs.lemmas.Result.{IfOk-weaker}
 use Rattle.scc_core_spec.specs.Code.{Code, End, size}
 use Rattle.scc_core_spec.specs.Counted as spec
 use Rattle.scc_core_spec.specs.Unrolled.{unrolled, written_out}
-use Rattle.scc_core_view.specs.Codes.{code_of, counted, stmt_code}
+use Rattle.scc_core_view.specs.Codes.{code_of, counted}
 use Rattle.scc_core_view.specs.Terms.{term_of}
 use Rattle.scc_unroll.specs.Asked.{AreRead, asked}
 use Rattle.scc_unroll.specs.Shape.{HasParts, setting_of, stand_of, turned}

@@ -1,4 +1,4 @@
-use Rattle.std.proofs.Common.{◌≡◌, refl, sym, ap, ◌∙◌, map, Err}
+use Rattle.std.proofs.Common.{refl, sym, ap, ◌∙◌, map, Err}
 use Rattle.std.proofs.lemmas.Result.{err_from_is_err_and}
 use Rattle.scc_core_spec.specs.First.{first_of}
 use Rattle.scc_core_spec.specs.Unrolled.{first_unrolled, with_body}
