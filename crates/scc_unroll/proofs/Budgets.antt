@@ -8,14 +8,14 @@ use Rattle.scc_core.specs.declared.stmt.CoreNode.TheOpen.{CoreNode-F}
 use Rattle.scc_core.specs.declared.stmt.CoreNode.TheOpen as node
 use Rattle.scc_core_spec.specs.Term.{Term}
 use Rattle.scc_core_spec.specs.Code.{Code, Count, End, Put, Aim, If, Block, Loop, Exit, Wait, size}
-use Rattle.scc_core_spec.specs.Counted.{Counter, Counting, First, Elsewhere, Setting, Stand, Start, Turn, behind, counted_by, counter}
+use Rattle.scc_core_spec.specs.Counted.{Counter, Counting, First, Elsewhere, Setting, Stand, Turn, behind, counted_by, counter}
 use Rattle.scc_core_spec.specs.Unrolled.{Spot, looped_or, run_turns}
 use Rattle.scc_core_view.specs.Codes.{Node, stmt_node, stmt_code}
-use Rattle.scc_unroll.specs.Budgets.{Left, after, has_loops, took, took_by, turn_spots}
+use Rattle.scc_unroll.specs.Budgets.{Left, after, took, turn_spots}
 use Rattle.scc_unroll.specs.declared.turns.Turn.{Turn as HeldTurn}
 use Rattle.scc_unroll.specs.Turns.{turn_of}
-use Rattle.scc_unroll.specs.Heads.{head_size, simple, stand_behind}
-use Rattle.scc_unroll.proofs.Heads.{each_stmt}
+use Rattle.scc_unroll_laws.specs.Heads.{has_loops, head_size, simple, stand_behind}
+use Rattle.scc_unroll_laws.proofs.Heads.{each_stmt}
 
 after_both : (b : Left) (xs ys : List Spot) → after b (xs ++ ys) ≡ after (after b xs) ys
 after_both b [] ys = refl

@@ -2,11 +2,12 @@
 use Rattle.std.proofs.Common.{◌≡◌, refl, sym, ap, ◌∙◌, arith, ℕ, zero, suc, ◌-◌, ◌<◌, Bool, true, false, not, nat_eq, List, [], ◌∷◌, ◌++◌, map, Option, Some, None, option_map, unwrap_or}
 use Rattle.std.proofs.lemmas.Bool.Decides.{nat_tests}
 use Rattle.scc_bits_kinds.specs.declared.kind.Word.{Word}
-use Rattle.scc_core_spec.specs.Counted.{Counter, Turn, Turning, Turns, counter, counting, enough_turns, if_goes, no_turns, one_more, turns_by, turns_from}
+use Rattle.scc_core_spec.specs.Counted.{Counter, Turn, Turning, Turns, counter, counting, ended, enough_turns, if_goes, no_turns, one_more, turns_by, turns_from}
 use Rattle.scc_core_spec.specs.Term.{Term}
 use Rattle.scc_core_spec.specs.Static.{Cells, goes, is_true, static}
 use Rattle.scc_unroll.specs.declared.turns.Turn.{Turn as HeldTurn}
-use Rattle.scc_unroll.specs.Turns.{going_by, put, turn_of, went}
+use Rattle.scc_unroll.specs.declared.turns.Turns.{Turns as HeldTurns}
+use Rattle.scc_unroll.specs.Turns.{going_by, put, turn_of, turns_of, went}
 
 pub word_is_true : (w : ℕ) → not (nat_eq w 0) ≡ is_true w
 word_is_true zero = refl
@@ -60,3 +61,20 @@ put_none xs b = ap (λ l. record { list = l; ends = b }) (sym (no_more xs))
 
 pub one_less : (k : ℕ) → 0 < k → k ≡ suc (k - 1)
 one_less k h = omega arith
+
+-- ---- turns that come to an end
+
+pub ends_so : (n : ℕ) (us : HeldTurns) (ts : Turns) → turns_of us ≡ ts → us.ends ≡ true
+    → Some (record { cell = n; turns = record { list = map turn_of us.list; ends = true } }) ≡ ended (Some (record { cell = n; turns = ts }))
+ends_so n us ts e h = by us.ends h ∙ ap (λ ts. ended (Some (record { cell = n; turns = ts }))) e
+  where
+    by : (b : Bool) → b ≡ true → Some (record { cell = n; turns = record { list = map turn_of us.list; ends = true } }) ≡ ended (Some (record { cell = n; turns = record { list = map turn_of us.list; ends = b } }))
+    by true h = refl
+    by false h = absurd (cc h)
+
+pub goes_on_so : (n : ℕ) (us : HeldTurns) (ts : Turns) → turns_of us ≡ ts → us.ends ≡ false → None ≡ ended (Some (record { cell = n; turns = ts }))
+goes_on_so n us ts e h = by us.ends h ∙ ap (λ ts. ended (Some (record { cell = n; turns = ts }))) e
+  where
+    by : (b : Bool) → b ≡ false → None ≡ ended (Some (record { cell = n; turns = record { list = map turn_of us.list; ends = b } }))
+    by true h = absurd (cc h)
+    by false h = refl

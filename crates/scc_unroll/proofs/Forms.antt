@@ -1,10 +1,9 @@
 -- Which loops are counted, test by test.
-use Rattle.std.proofs.Common.{◌≡◌, refl, sym, ap, ◌∙◌, ℕ, Bool, true, false, ◌&&◌, not, nat_eq, if◌then◌else◌, List, map, slice_get, Option, Some, None, option_map}
+use Rattle.std.proofs.Common.{◌≡◌, refl, sym, ap, ◌∙◌, ℕ, Bool, true, false, ◌&&◌, not, if◌then◌else◌, List, map, slice_get, Option, Some, None, option_map}
 use Rattle.std.specs.Prelude.{is_some}
 use Rattle.std.proofs.lemmas.Option.{slice_get-map}
 use Rattle.scc_core.specs.declared.program.Cell.{Cell as Held}
 use Rattle.scc_core_view.specs.Programs.{cell_of}
-use Rattle.scc_core_spec.specs.Program as program
 use Rattle.scc_core_spec.specs.Code.{Code, End, Put, Aim, If, Block, Loop, Exit, Wait}
 use Rattle.scc_core_spec.specs.Counted.{is_end, is_step, is_turn, is_turning, leaves_block, step_of, turn_of, turning_of}
 use Rattle.scc_core_spec.specs.Counted as spec

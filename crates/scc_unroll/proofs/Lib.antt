@@ -1,13 +1,7 @@
 pub mod Asked
 pub mod Budgets
-pub mod Counting
 pub mod EachTurn
 pub mod Forms
-pub mod Heads
-pub mod Lefts
-pub mod Looks
-pub mod Paths
-pub mod Stmts
-pub mod Sums
-pub mod Trees
+pub mod Given
+pub mod Programs
 pub mod Wholes

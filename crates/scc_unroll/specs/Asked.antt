@@ -1,11 +1,13 @@
 -- The expressions of statements of which values are asked: tests, what is assigned, and by what loops count.
-use Rattle.std.specs.Prelude.{List, [], ◌∷◌, ◌++◌, map, Option, Some, None}
+use Rattle.std.specs.Prelude.{◌≡◌, List, [], ◌∷◌, ◌++◌, map, Option, Some, None}
 use Rattle.scc_core.specs.declared.expr.CoreExpr.{CoreExpr}
 use Rattle.scc_core.specs.declared.statics.Known.{Known}
 use Rattle.scc_core.specs.declared.stmt.CoreStmt.{CoreStmt, fold-CoreStmt}
 use Rattle.scc_core.specs.declared.stmt.CoreNode.TheOpen.{CoreNode-F, CoreStmt-F}
 use Rattle.scc_core.specs.declared.stmt.CoreNode.TheOpen as node
 use Rattle.scc_core.specs.declared.stmt.Count.{Count}
+use Rattle.scc_core_spec.specs.Term.{kind_of, place_of}
+use Rattle.scc_core_view.specs.Terms.{term_of}
 use Rattle.scc_unroll.specs.declared.shape.Stand.{Stand}
 use Rattle.scc_unroll.specs.declared.shape.Stand.TheVariants as stand
 use Rattle.scc_unroll.specs.Shape.{IsRead}
@@ -36,10 +38,25 @@ asked_in = fold-CoreStmt (List CoreExpr) (List CoreExpr) asked_node asked_step
 abbrev pub asked : List CoreStmt → List CoreExpr
 asked ss = joined (map asked_in ss)
 
+abbrev pub AreAll : (CoreExpr → Type 0) → List CoreExpr → Type 0
+AreAll Q [] = Unit {0}
+AreAll Q (e ∷ es) = Q e × AreAll Q es
+
 -- each has the value that the code finds for it
 abbrev pub AreRead : Known → List CoreExpr → Type 0
-AreRead known [] = Unit {0}
-AreRead known (e ∷ es) = IsRead known e × AreRead known es
+AreRead known = AreAll (IsRead known)
+
+-- its term has its place and its kind
+pub record IsItself (e : CoreExpr) : Type 0 where
+  pub place : place_of (term_of e) ≡ e.place
+  pub kind : kind_of (term_of e) ≡ e.kind
+
+pub record IsTaken (known : Known) (e : CoreExpr) : Type 0 where
+  pub read : IsRead known e
+  pub itself : IsItself e
+
+abbrev pub AreTaken : Known → List CoreExpr → Type 0
+AreTaken known = AreAll (IsTaken known)
 
 -- what is assigned before a statement has it, too
 abbrev pub StandIsRead : Known → Stand → Type 0

@@ -1,6 +1,6 @@
--- How many turns there may still be, and the loop of the first one too many; which code has loops.
-use Rattle.std.specs.Prelude.{ℕ, ◌+◌, ◌-◌, Bool, true, false, ◌||◌, nat_eq, if◌then◌else◌, List, [], ◌∷◌, Option, Some, None, option_map}
-use Rattle.scc_core_spec.specs.Code.{Code, End, Put, Aim, If, Block, Loop, Exit, Wait}
+-- How many turns there may still be, and the loop of the first one too many.
+use Rattle.std.specs.Prelude.{ℕ, ◌+◌, ◌-◌, nat_eq, if◌then◌else◌, List, [], ◌∷◌, Option, Some, None, option_map}
+use Rattle.scc_core_spec.specs.Code.{Code}
 use Rattle.scc_core_spec.specs.Counted.{Counter, Elsewhere, Setting, Turn, counter}
 use Rattle.scc_core_spec.specs.Unrolled.{Spot, run_turns}
 use Rattle.scc_unroll.specs.declared.limits.Budget.{Budget}
@@ -24,16 +24,6 @@ took b s = took_by b.over b.left s
 abbrev pub after : Left → List Spot → Left
 after b [] = b
 after b (s ∷ ss) = after (took b s) ss
-
-abbrev pub has_loops : Code → Bool
-has_loops End = false
-has_loops (Put p l k e r) = has_loops r
-has_loops (Aim p to t r) = has_loops r
-has_loops (If p t a b r) = has_loops a || (has_loops b || has_loops r)
-has_loops (Block p b r) = has_loops b || has_loops r
-has_loops (Loop p n b r) = true
-has_loops (Exit p n r) = has_loops r
-has_loops (Wait p l n r) = has_loops r
 
 -- a turn of a loop, and those in it
 abbrev pub turn_spots : Setting → List Counter → ℕ → Spot → Code → Turn → List Spot

@@ -1,7 +1,5 @@
 pub mod Asked
 pub mod Budgets
-pub mod Counters
-pub mod Heads
 pub mod Shape
 pub mod Spots
 pub mod Turns

@@ -1,5 +1,5 @@
 -- The parts of a counted loop, where a statement stands, and what is known around statements, as the code hands them on.
-use Rattle.std.specs.Prelude.{◌≡◌, ℕ, List, [], ◌∷◌, map, slice_get, Option, Some, None, option_map}
+use Rattle.std.specs.Prelude.{◌≡◌, ℕ, true, List, [], ◌∷◌, map, slice_get, Option, Some, option_map}
 use Rattle.scc_bits_kinds.specs.Kinds.{IsValid, Fits}
 use Rattle.scc_core.specs.declared.copy.Counter.{Counter as Held}
 use Rattle.scc_core.specs.declared.expr.CoreExpr.{CoreExpr}
@@ -20,11 +20,16 @@ use Rattle.scc_unroll.specs.declared.counted.Counted.{Counted}
 use Rattle.scc_unroll.specs.declared.shape.Stand.{Stand}
 use Rattle.scc_unroll.specs.declared.shape.Stand.TheVariants as stand
 use Rattle.scc_unroll.specs.declared.shape.Turning.{Turning}
-use Rattle.scc_unroll.specs.Counters.{counters_of}
+use Rattle.scc_unroll_laws.specs.Counters.{counters_of}
 use Rattle.scc_unroll.specs.Used.{used}
 
 abbrev pub turned : Turning → spec.Turning
 turned t = record { test = term_of t.test.now; turn_place = t.place; turn = code_of t.turn.now; step_place = t.step_place; step_left = (taken_of t.step_left.now).left; step = term_of t.step.now }
+
+-- these are the parts of that body, whose step assigns a location as a whole
+pub record HasParts (t : Turning) (c : Code) : Type 0 where
+  pub turning : spec.turning_of c ≡ Some (turned t)
+  pub whole : spec.is_whole (taken_of t.step_left.now).pick ≡ true
 
 abbrev pub stand_of : Stand → spec.Stand
 stand_of stand.First = spec.First

@@ -1,10 +1,11 @@
 -- Turns of counted loops, as the code finds them.
-use Rattle.std.specs.Prelude.{ℕ, Bool, true, false, List, [], ◌++◌, map, Option, Some, None, option_map}
+use Rattle.std.specs.Prelude.{ℕ, Bool, true, false, List, ◌++◌, map, Option, Some, None, option_map}
 use Rattle.scc_bits_kinds.specs.declared.kind.Word.{Word}
 use Rattle.scc_core.specs.declared.copy.Counter.{Counter as Held}
-use Rattle.scc_core_spec.specs.Counted.{Turn, Turns, no_turns, one_more}
+use Rattle.scc_core_spec.specs.Counted.{Counting, Turn, Turns, no_turns, one_more}
 use Rattle.scc_unroll.specs.declared.counted.At.{At}
 use Rattle.scc_unroll.specs.declared.counted.Counted.{Counted}
+use Rattle.scc_unroll.specs.declared.ended.Ended.{Ended}
 use Rattle.scc_unroll.specs.declared.turns.Turn.{Turn as HeldTurn}
 use Rattle.scc_unroll.specs.declared.turns.Turns.{Turns as HeldTurns}
 use Rattle.scc_unroll.specs.declared.turns.Going.{Going}
@@ -16,6 +17,10 @@ turn_of t = record { now = t.now.bits; next = t.next.bits }
 
 abbrev pub turns_of : HeldTurns → Turns
 turns_of t = record { list = map turn_of t.list; ends = t.ends }
+
+-- a loop that is written out
+abbrev pub ended_of : Ended → Counting
+ended_of e = record { cell = e.cell; turns = record { list = map turn_of e.list; ends = true } }
 
 -- what is asked of a loop has the values that the code finds
 pub record IsTold (at : At) (ns : List Held) (g : Counted) : Type 0 where

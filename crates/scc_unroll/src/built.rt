@@ -1,10 +1,25 @@
 //! The unrolled body.
-use crate::counted::{At, Counted, counted_by, counters_in};
+ghost use Rattle.std.specs.Prelude.{◌≡◌, ◌∷◌, [], IfOk, OnOk, map, option_map, true};
+ghost use Rattle.scc_core_spec.specs.Code.{Code};
+ghost use Rattle.scc_core_spec.specs.Code as code;
+ghost use Rattle.scc_core_spec.specs.Counted as spec;
+ghost use Rattle.scc_core_spec.specs.Unrolled.{counting_count, unrolled, written_out};
+ghost use Rattle.scc_core_view.specs.Codes.{code_of, counted, stmt_code};
+ghost use Rattle.scc_core_view.specs.Terms.{taken_of};
+ghost use Rattle.scc_unroll.specs.Asked.{AreTaken, IsItself, StandIsRead, asked};
+ghost use Rattle.scc_unroll.specs.Shape.{Around, HasParts, setting_of, stand_of, turned};
+ghost use Rattle.scc_unroll.specs.Turns.{turn_of};
+ghost use Rattle.scc_unroll_laws.specs.Counters.{counters_of};
+ghost use Rattle.scc_unroll_laws.specs.Heads.{stand_behind};
+ghost use Rattle.scc_unroll_laws.specs.Writing.{each_turn, set_before};
+
+use crate::counted::{At, counters_in};
+use crate::ended::{Ended, ended_by};
+use crate::made::{aim, choice, kept, push_turn, put};
 use crate::shape::{Stand, are_all, behind};
-use crate::turns::{Turn, turns_by};
+use crate::turns::Turn;
 use scc_base::{List, NoMemory, Place, lost};
-use scc_bits::Word;
-use scc_core::{Copies, CoreExpr, CoreExprNode, CoreNode, CoreStmt, Count, Counter};
+use scc_core::{CoreNode, CoreStmt, Count, Counter};
 
 /// The statements with their counted loops turn by turn, in which the counters stand as literals.
 #[cycle(unrolled)]
@@ -13,11 +28,15 @@ pub fn unrolled(
     counters: &[Counter],
     stand: Stand<'_>,
     body: &[CoreStmt],
-) -> Result<List<CoreStmt>, NoMemory> {
+) -> Result<List<CoreStmt>, NoMemory>
+    ensures { (b : Code) → Around at.now b counters.now → AreTaken at.now.known (asked body.now) → StandIsRead at.now.known stand.entry → IfOk result (λ l. code_of l ≡ unrolled (setting_of at.now b) (counters_of counters.now) (stand_of stand.entry) (code_of body.now)) }
+{
     let mut stand = stand;
     let mut out = List::new(at.alloc);
-    for (i, s) in body.iter().enumerate() {
-        let last = are_all(i + 1, body);
+    let mut count = 0usize;
+    for s in body {
+        count += 1;
+        let last = are_all(count, body);
         unroll(at, counters, stand, s, last, &mut out)?;
         stand = behind(stand, s);
     }
@@ -33,52 +52,55 @@ fn unroll(
     s: &CoreStmt,
     last: bool,
     out: &mut List<CoreStmt>,
-) -> Result<(), NoMemory> {
+) -> Result<(), NoMemory>
+    ensures { (b r : Code) → Around at.now b counters.now → AreTaken at.now.known (asked (s.now ∷ [])) → StandIsRead at.now.known stand.entry → spec.is_end r ≡ last → OnOk result (set_before out.old (unrolled (setting_of at.now b) (counters_of counters.now) (stand_of stand.entry) (stmt_code s.now r)) ≡ set_before out.new (unrolled (setting_of at.now b) (counters_of counters.now) (stand_behind (stand_of stand.entry) (code_of (s.now ∷ []))) r)) }
+{
     match &s.node {
         CoreNode::Loop { count, body } => {
-            let of = counted_by(at, counters, stand, count, body.as_slice(), last)?;
-            match of {
-                Some(of) => {
-                    unroll_counted(at, counters, &of, s.place, count, body.as_slice(), out)
+            let list = body.as_slice();
+            let ended = ended_by(at, counters, stand, count, list, last)?;
+            match ended {
+                Some(of) => write_loop(at, counters, &of, list, out),
+                None => {
+                    let copy = kept_loop(at, counters, s.place, count, list)?;
+                    out.push(copy)
                 }
-                None => kept_loop(at, counters, s.place, count, body.as_slice(), out),
             }
         }
         _ => {
-            let node = copied(at, counters, s)?;
-            let place = s.place;
-            out.push(CoreStmt { place, node })
+            let copy = copied(at, counters, s)?;
+            out.push(copy)
         }
     }
 }
 
 // A statement that is no loop.
 #[cycle(unrolled)]
-fn copied(at: &At<'_>, counters: &[Counter], s: &CoreStmt) -> Result<CoreNode, NoMemory> {
-    let copies = Copies::with(at.alloc, counters);
+fn copied(at: &At<'_>, counters: &[Counter], s: &CoreStmt) -> Result<CoreStmt, NoMemory>
+    ensures { (b : Code) → Around at.now b counters.now → AreTaken at.now.known (asked (s.now ∷ [])) → IfOk result (λ z. (w : spec.Stand) (r : Code) → unrolled (setting_of at.now b) (counters_of counters.now) w (stmt_code s.now r) ≡ stmt_code z (unrolled (setting_of at.now b) (counters_of counters.now) (stand_behind w (code_of (s.now ∷ []))) r)) }
+{
+    let place = s.place;
     match &s.node {
         CoreNode::If { test, yes, no } => {
-            let test = copies.expr(test)?;
             let yes = unrolled(at, counters, Stand::Elsewhere, yes.as_slice())?;
             let no = unrolled(at, counters, Stand::Elsewhere, no.as_slice())?;
-            Ok(CoreNode::If { test, yes, no })
+            choice(at.alloc, counters, place, test, yes, no)
         }
         CoreNode::Block(body) => {
             let body = unrolled(at, counters, Stand::First, body.as_slice())?;
-            Ok(CoreNode::Block(body))
+            let node = CoreNode::Block(body);
+            Ok(CoreStmt { place, node })
         }
-        CoreNode::Assign { left, value } => {
-            let left = copies.left(left)?;
-            let value = copies.expr(value)?;
-            Ok(CoreNode::Assign { left, value })
+        CoreNode::Assign { left, value } => put(at.alloc, counters, place, left, value),
+        CoreNode::Exit(n) => {
+            let node = CoreNode::Exit(*n);
+            Ok(CoreStmt { place, node })
         }
-        CoreNode::Exit(n) => Ok(CoreNode::Exit(*n)),
-        CoreNode::Wait { n } => Ok(CoreNode::Wait { n: *n }),
-        CoreNode::Alias { to, target } => {
-            let to = copies.pointed(to)?;
-            let target = copies.left(target)?;
-            Ok(CoreNode::Alias { to, target })
+        CoreNode::Wait { n } => {
+            let node = CoreNode::Wait { n: *n };
+            Ok(CoreStmt { place, node })
         }
+        CoreNode::Alias { to, target } => aim(at.alloc, counters, place, to, target),
         CoreNode::Loop { .. } => Err(lost()),
     }
 }
@@ -91,30 +113,30 @@ fn kept_loop(
     place: Place,
     count: &Option<Count>,
     body: &[CoreStmt],
-    out: &mut List<CoreStmt>,
-) -> Result<(), NoMemory> {
-    let count = count_copied(at, counters, count)?;
+) -> Result<CoreStmt, NoMemory>
+    ensures { (b : Code) → Around at.now b counters.now → AreTaken at.now.known (asked body.now) → IfOk result (λ z. (r : Code) → stmt_code z r ≡ code.Loop place (option_map (counting_count (counters_of counters.now)) (counted count.now)) (unrolled (setting_of at.now b) (counters_of counters.now) spec.Elsewhere (code_of body.now)) r) }
+{
     let body = unrolled(at, counters, Stand::Elsewhere, body)?;
-    let node = CoreNode::Loop { count, body };
-    out.push(CoreStmt { place, node })
+    kept(at.alloc, counters, place, count, body)
 }
 
-// A counted loop; one without an end stays.
+// The turns of a loop by its body.
 #[cycle(unrolled)]
-fn unroll_counted(
+fn write_loop(
     at: &At<'_>,
     counters: &[Counter],
-    of: &Counted<'_>,
-    place: Place,
-    count: &Option<Count>,
+    of: &Ended<'_>,
     body: &[CoreStmt],
     out: &mut List<CoreStmt>,
-) -> Result<(), NoMemory> {
-    let turns = turns_by(at, counters, of)?;
-    if turns.ends {
-        write_turns(at, counters, of, turns.list.as_slice(), body, out)
-    } else {
-        kept_loop(at, counters, place, count, body, out)
+) -> Result<(), NoMemory>
+    ensures { (b : Code) → Around at.now b counters.now → AreTaken at.now.known (asked body.now) → IsItself of.now.turning.step.now → HasParts of.now.turning (code_of body.now) → OnOk result ((r : Code) → set_before out.new r ≡ set_before out.old (written_out (spec.turning_of (code_of body.now)) (map (λ x. (x, unrolled (setting_of at.now b) (spec.counter of.now.cell x.now ∷ counters_of counters.now) spec.Elsewhere (code_of body.now))) (map turn_of of.now.list)) r)) }
+{
+    let [_, block, _] = body else {
+        return Err(lost());
+    };
+    match &block.node {
+        CoreNode::Block(inner) => write_turns(at, counters, of, block.place, inner.as_slice(), out),
+        _ => Err(lost()),
     }
 }
 
@@ -123,48 +145,34 @@ fn unroll_counted(
 fn write_turns(
     at: &At<'_>,
     counters: &[Counter],
-    of: &Counted<'_>,
-    list: &[Turn],
-    body: &[CoreStmt],
+    of: &Ended<'_>,
+    place: Place,
+    inner: &[CoreStmt],
     out: &mut List<CoreStmt>,
-) -> Result<(), NoMemory> {
-    let [_, block, _] = body else {
-        return Err(lost());
-    };
-    let CoreNode::Block(inner) = &block.node else {
-        return Err(lost());
-    };
-    for turn in list {
-        let around = counters_in(at, counters, of.cell, turn.now)?;
-        let written = unrolled(at, around.as_slice(), Stand::First, inner.as_slice())?;
-        let place = block.place;
-        let node = CoreNode::Block(written);
-        out.push(CoreStmt { place, node })?;
-        out.push(step(at, of, turn.next)?)?;
+) -> Result<(), NoMemory>
+    ensures { (b : Code) → Around at.now b counters.now → AreTaken at.now.known (asked inner.now) → IsItself of.now.turning.step.now → spec.is_whole (taken_of of.now.turning.step_left.now).pick ≡ true → OnOk result ((r : Code) → set_before out.new r ≡ set_before out.old (each_turn (setting_of at.now b) (counters_of counters.now) of.now.cell place (code_of inner.now) (turned of.now.turning) (map turn_of of.now.list) r)) }
+{
+    for turn in of.list.as_slice() {
+        let block = turn_block(at, counters, of.cell, turn, place, inner)?;
+        push_turn(at.alloc, &of.turning, block, turn.next, out)?;
     }
     Ok(())
 }
 
-// How a loop that stays counts.
-fn count_copied(
+// The block of a turn.
+#[cycle(unrolled)]
+fn turn_block(
     at: &At<'_>,
     counters: &[Counter],
-    count: &Option<Count>,
-) -> Result<Option<Count>, NoMemory> {
-    match count {
-        Some(count) => Ok(Some(Copies::with(at.alloc, counters).count(count)?)),
-        None => Ok(None),
-    }
-}
-
-// The counter's next number, assigned where its step stood.
-fn step(at: &At<'_>, of: &Counted<'_>, next: Word) -> Result<CoreStmt, NoMemory> {
-    let step = of.turning.step;
-    let literal = CoreExprNode::Lit(next);
-    let node = CoreNode::Assign {
-        left: Copies::plain(at.alloc).left(of.turning.step_left)?,
-        value: CoreExpr::new(at.alloc, step.place, step.kind, literal)?,
-    };
-    let place = of.turning.step_place;
+    cell: u32,
+    turn: &Turn,
+    place: Place,
+    inner: &[CoreStmt],
+) -> Result<CoreStmt, NoMemory>
+    ensures { (b : Code) → Around at.now b counters.now → AreTaken at.now.known (asked inner.now) → IfOk result (λ z. (r : Code) → stmt_code z r ≡ code.Block place (unrolled (setting_of at.now b) (spec.counter cell turn.entry.now.now.bits ∷ counters_of counters.now) spec.First (code_of inner.now)) r) }
+{
+    let around = counters_in(at, counters, cell, turn.now)?;
+    let body = unrolled(at, around.as_slice(), Stand::First, inner)?;
+    let node = CoreNode::Block(body);
     Ok(CoreStmt { place, node })
 }

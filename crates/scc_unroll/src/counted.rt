@@ -8,9 +8,9 @@ ghost use Rattle.scc_core_view.specs.Codes.{code_of, count_of, counted};
 ghost use Rattle.scc_core_view.specs.Programs.{cell_of, path_of};
 ghost use Rattle.scc_core_view.specs.Terms.{taken_of, term_of};
 ghost use Rattle.scc_semantics.specs.Location.{same_path};
-ghost use Rattle.scc_unroll.specs.Asked.{AreRead, StandIsRead, asked, asked_count};
-ghost use Rattle.scc_unroll.specs.Counters.{counter_of, counters_of};
-ghost use Rattle.scc_unroll.specs.Shape.{AreCounters, Around, IsCounter, IsRead, Knows, cells_at, counting_of, read, setting_of, stand_of};
+ghost use Rattle.scc_unroll.specs.Asked.{AreAll, AreRead, IsItself, StandIsRead, asked, asked_count};
+ghost use Rattle.scc_unroll_laws.specs.Counters.{counter_of, counters_of};
+ghost use Rattle.scc_unroll.specs.Shape.{AreCounters, Around, HasParts, IsCounter, IsRead, Knows, cells_at, counting_of, read, setting_of, stand_of};
 ghost use Rattle.scc_unroll.specs.Turns.{IsTold};
 ghost use Rattle.scc_unroll.specs.Used.{used};
 
@@ -98,7 +98,7 @@ pub fn counters_in(
     Ok(all)
 }
 
-#[tactic(auto, using(crate::proofs::Paths::path_is))]
+#[tactic(auto, using(scc_unroll_laws::proofs::Paths::path_is))]
 fn same_path(a: &[PathPart], b: &[PathPart]) -> bool
     ensures { result ≡ same_path (path_of a.now) (path_of b.now) }
 {
@@ -204,6 +204,8 @@ fn counted_from<'a>(
 ) -> Result<Option<Counted<'a>>, NoMemory>
     ensures counted { (b r : Code) → Around at.now b counters.now → AreRead at.now.known (asked_count (Some count.now)) → spec.is_end r ≡ last → IfOk result (λ o. option_map (counting_of (cells_at at.now) (counters_of counters.now)) o ≡ spec.counted_by (setting_of at.now b) (counters_of counters.now) (spec.Behind (record { left = (taken_of left.now).left; pick = (taken_of left.now).pick; value = term_of value.now })) (Some (count_of count.now)) (code_of body.now) r) }
     ensures told { AreCounters at.now.known.cells.now counters.now → IsRead at.now.known value.now → AreRead at.now.known (asked body.now) → IfOk result (λ o. IfSome o (λ g. IsTold at.now counters.now g)) }
+    ensures itself { AreAll IsItself (asked body.now) → IfOk result (λ o. IfSome o (λ g. IsItself g.turning.step.now)) }
+    ensures parts { IfOk result (λ o. IfSome o (λ g. HasParts g.turning (code_of body.now))) }
 {
     let counted = counts(at, counters, left, count, body, last)?;
     if !counted {
@@ -230,6 +232,8 @@ pub fn counted_by<'a>(
 ) -> Result<Option<Counted<'a>>, NoMemory>
     ensures counted { (b r : Code) → Around at.now b counters.now → AreRead at.now.known (asked_count count.now) → spec.is_end r ≡ last → IfOk result (λ o. option_map (counting_of (cells_at at.now) (counters_of counters.now)) o ≡ spec.counted_by (setting_of at.now b) (counters_of counters.now) (stand_of stand.entry) (counted count.now) (code_of body.now) r) }
     ensures told { AreCounters at.now.known.cells.now counters.now → StandIsRead at.now.known stand.entry → AreRead at.now.known (asked body.now) → IfOk result (λ o. IfSome o (λ g. IsTold at.now counters.now g)) }
+    ensures itself { AreAll IsItself (asked body.now) → IfOk result (λ o. IfSome o (λ g. IsItself g.turning.step.now)) }
+    ensures parts { IfOk result (λ o. IfSome o (λ g. HasParts g.turning (code_of body.now))) }
 {
     match (stand, count) {
         (Stand::Behind { left, value }, Some(count)) => {

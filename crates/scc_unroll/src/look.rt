@@ -6,10 +6,11 @@ ghost use Rattle.scc_core_spec.specs.First.{or_else};
 ghost use Rattle.scc_core_spec.specs.Unrolled.{first_spot, uncounted};
 ghost use Rattle.scc_core_view.specs.Codes.{code_of, counted, stmt_code};
 ghost use Rattle.scc_unroll.specs.Asked.{AreRead, asked, asked_count};
-ghost use Rattle.scc_unroll.specs.Counters.{counters_of};
-ghost use Rattle.scc_unroll.specs.Heads.{head_size, stand_behind};
+ghost use Rattle.scc_unroll_laws.specs.Counters.{counters_of};
+ghost use Rattle.scc_unroll_laws.specs.Heads.{head_size, stand_behind};
 ghost use Rattle.scc_unroll.specs.Shape.{Around, setting_of, stand_of};
-ghost use Rattle.scc_unroll.specs.Spots.{looked_into, spot_of};
+ghost use Rattle.scc_unroll.specs.Spots.{spot_of};
+ghost use Rattle.scc_unroll_laws.specs.Spots.{looked_into};
 
 use crate::counted::{At, counted_by, counters_in};
 use crate::shape::{Stand, are_all, behind, holds_wait, is_simple, plus, size_in, size_of};

@@ -1,7 +1,7 @@
 //! Whether loops stand in statements.
 ghost use Rattle.std.specs.Prelude.{◌≡◌, ◌||◌, [], ◌∷◌};
 ghost use Rattle.scc_core_view.specs.Codes.{code_of};
-ghost use Rattle.scc_unroll.specs.Budgets.{has_loops};
+ghost use Rattle.scc_unroll_laws.specs.Heads.{has_loops};
 
 use crate::shape::either;
 use scc_core::{CoreNode, CoreStmt};

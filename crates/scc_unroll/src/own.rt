@@ -31,7 +31,7 @@ fn own_of_cell(cells: &List<Cell>, cell: u32) -> Option<u32>
 }
 
 /// That of the local that a location is as a whole.
-#[tactic(auto, using(crate::proofs::Lefts::no_own))]
+#[tactic(auto, using(scc_unroll_laws::proofs::Lefts::no_own))]
 pub fn own_at(cells: &List<Cell>, left: &CoreLeft) -> Option<u32>
     ensures { result ≡ spec.own_at (map cell_of cells.now) (taken_of left.now).left }
 {

@@ -1,15 +1,19 @@
 //! The pass.
-ghost use Rattle.std.specs.Prelude.{◌≡◌, [], Err, IfOk, Some, None, map, option_map, slice_get};
+ghost use Rattle.std.specs.Prelude.{◌≡◌, ℕ, [], Err, IfOk, IfSome, Some, None, map, nat_lt, option_map, slice_get};
+ghost use Rattle.scc_base.specs.declared.code.Code.TheVariants as code;
 ghost use Rattle.scc_base.specs.declared.refusal.Refusal.{Refusal};
 ghost use Rattle.scc_base.specs.declared.refusal.Stop.TheVariants as stop;
-ghost use Rattle.scc_core_spec.specs.Code.{Code as Statements};
-ghost use Rattle.scc_core_spec.specs.Counted.{Elsewhere};
-ghost use Rattle.scc_core_spec.specs.Unrolled.{earlier, run_turns};
+ghost use Rattle.scc_core_spec.specs.Code.{Code as Statements, size};
+ghost use Rattle.scc_core_spec.specs.Counted.{Elsewhere, uses};
+ghost use Rattle.scc_core_spec.specs.First.{first_of, refused, when};
+ghost use Rattle.scc_core_spec.specs.Unrolled.{earlier, first_unrolled, run_turns, unrolled, with_body};
 ghost use Rattle.scc_core_view.specs.Codes.{code_of};
-ghost use Rattle.scc_unroll.specs.Asked.{AreRead, asked};
+ghost use Rattle.scc_core_view.specs.Programs.{cell_of, process_of};
+ghost use Rattle.scc_unroll.specs.Asked.{AreRead, AreTaken, asked};
 ghost use Rattle.scc_unroll.specs.Shape.{Around, setting_of};
 ghost use Rattle.scc_unroll.specs.Spots.{spot_of};
-ghost use Rattle.scc_unroll.specs.Unrolled.{KeepsAllButBodies, IsOfUnrolling, head_of};
+ghost use Rattle.scc_unroll.specs.Used.{used};
+ghost use Rattle.scc_unroll.specs.Unrolled.{AreBodies, IsOfUnrolling, IsRefused, IsUnrolled, body_of, head_of, refusal_in};
 
 use crate::built::unrolled;
 use crate::counted::At;
@@ -18,7 +22,7 @@ use crate::look::{Spot, first_uncounted};
 use crate::shape::Stand;
 use crate::sizes::{STATEMENTS, unrolled_size};
 use crate::uses::{Uses, note_all};
-use scc_base::{Code, List, NoMemory, Place, Stop, Tally};
+use scc_base::{Code, List, NoMemory, Place, Refusal, Stop, Tally};
 use scc_core::{Core, CoreProcess, CoreStmt, Known, Pass, Places};
 use std::alloc::Global;
 
@@ -28,9 +32,9 @@ use std::alloc::Global;
 pub struct Unroll;
 
 impl Pass for Unroll {
-    ghost gives = { λ _ c m. KeepsAllButBodies c m };
+    ghost gives = { λ _ c m. IsUnrolled c m };
 
-    ghost refuses = { λ _ _ r. IsOfUnrolling r };
+    ghost refuses = { λ _ c r. IsRefused c r };
 
     fn run(&self, alloc: Global, c: Core) -> Result<Core, Stop> {
         let Core {
@@ -57,10 +61,14 @@ fn all(
 ) -> Result<List<CoreProcess>, Stop>
     ensures heads { IfOk result (λ ps. map head_of ps ≡ map head_of processes) }
     ensures stop { (r : Refusal) → result ≡ Err (stop.Refused r) → IsOfUnrolling r }
+    ensures refused { (r : Refusal) → AreBodies known.entry processes → result ≡ Err (stop.Refused r) → first_of (first_unrolled (map cell_of known.entry.cells.now)) (map process_of processes) ≡ Some r }
+    ensures passed { AreBodies known.entry processes → IfOk result (λ ps. first_of (first_unrolled (map cell_of known.entry.cells.now)) (map process_of processes) ≡ None) }
+    ensures given { AreBodies known.entry processes → IfOk result (λ ps. map process_of ps ≡ map (with_body (body_of (map cell_of known.entry.cells.now))) (map process_of processes)) }
 {
     let mut out = List::new(alloc);
     for p in processes.into_vec() {
-        out.push(process(alloc, known, p)?)?;
+        let new = process(alloc, known, p)?;
+        out.push(new)?;
     }
     Ok(out)
 }
@@ -68,6 +76,9 @@ fn all(
 fn process(alloc: Global, known: Known<'_>, p: CoreProcess) -> Result<CoreProcess, Stop>
     ensures head { IfOk result (λ q. head_of q ≡ head_of p) }
     ensures stop { (r : Refusal) → result ≡ Err (stop.Refused r) → IsOfUnrolling r }
+    ensures refused { (r : Refusal) → AreTaken known.entry (asked p.body) → result ≡ Err (stop.Refused r) → first_unrolled (map cell_of known.entry.cells.now) (process_of p) ≡ Some r }
+    ensures passed { AreTaken known.entry (asked p.body) → IfOk result (λ q. first_unrolled (map cell_of known.entry.cells.now) (process_of p) ≡ None) }
+    ensures given { AreTaken known.entry (asked p.body) → IfOk result (λ q. process_of q ≡ with_body (body_of (map cell_of known.entry.cells.now)) (process_of p)) }
 {
     let mut p = p;
     p.body = new_body(alloc, known, &p)?;
@@ -77,6 +88,9 @@ fn process(alloc: Global, known: Known<'_>, p: CoreProcess) -> Result<CoreProces
 // The unrolled body.
 fn new_body(alloc: Global, known: Known<'_>, p: &CoreProcess) -> Result<List<CoreStmt>, Stop>
     ensures stop { (r : Refusal) → result ≡ Err (stop.Refused r) → IsOfUnrolling r }
+    ensures refused { (r : Refusal) → AreTaken known.entry (asked p.now.body) → result ≡ Err (stop.Refused r) → first_unrolled (map cell_of known.entry.cells.now) (process_of p.now) ≡ Some r }
+    ensures passed { AreTaken known.entry (asked p.now.body) → IfOk result (λ l. first_unrolled (map cell_of known.entry.cells.now) (process_of p.now) ≡ None) }
+    ensures given { AreTaken known.entry (asked p.now.body) → IfOk result (λ l. code_of l ≡ body_of (map cell_of known.entry.cells.now) (process_of p.now)) }
 {
     let uses = uses_of(alloc, known, p.body.as_slice())?;
     let at = At {
@@ -88,7 +102,9 @@ fn new_body(alloc: Global, known: Known<'_>, p: &CoreProcess) -> Result<List<Cor
     body_at(&at, p.place, p.body.as_slice())
 }
 
-fn uses_of(alloc: Global, known: Known<'_>, body: &[CoreStmt]) -> Result<Uses, NoMemory> {
+fn uses_of(alloc: Global, known: Known<'_>, body: &[CoreStmt]) -> Result<Uses, NoMemory>
+    ensures { IfOk result (λ u. (o : ℕ) → used u o ≡ uses (map cell_of known.entry.cells.now) o (code_of body.now)) }
+{
     let mut uses = Uses::new(alloc);
     note_all(body, known.cells(), &mut uses)?;
     Ok(uses)
@@ -96,15 +112,35 @@ fn uses_of(alloc: Global, known: Known<'_>, body: &[CoreStmt]) -> Result<Uses, N
 
 fn body_at(at: &At<'_>, place: Place, body: &[CoreStmt]) -> Result<List<CoreStmt>, Stop>
     ensures stop { (r : Refusal) → result ≡ Err (stop.Refused r) → IsOfUnrolling r }
+    ensures refused { (b : Statements) (r : Refusal) → Around at.now b [] → AreTaken at.now.known (asked body.now) → result ≡ Err (stop.Refused r) → refusal_in (setting_of at.now b) place (code_of body.now) ≡ Some r }
+    ensures passed { (b : Statements) → Around at.now b [] → AreTaken at.now.known (asked body.now) → IfOk result (λ l. refusal_in (setting_of at.now b) place (code_of body.now) ≡ None) }
+    ensures given { (b : Statements) → Around at.now b [] → AreTaken at.now.known (asked body.now) → IfOk result (λ l. code_of l ≡ unrolled (setting_of at.now b) [] Elsewhere (code_of body.now)) }
+{
+    let refusal = refusal_of(at, place, body)?;
+    match refusal {
+        Some(refusal) => Err(Stop::Refused(refusal)),
+        None => {
+            let written = unrolled(at, &[], Stand::Elsewhere, body)?;
+            Ok(written)
+        }
+    }
+}
+
+// What is refused of a body, of a process at that place.
+fn refusal_of(at: &At<'_>, place: Place, body: &[CoreStmt]) -> Result<Option<Refusal>, NoMemory>
+    ensures stop { IfOk result (λ o. IfSome o (λ r. IsOfUnrolling r)) }
+    ensures refusal { (b : Statements) → Around at.now b [] → AreRead at.now.known (asked body.now) → IfOk result (λ o. o ≡ refusal_in (setting_of at.now b) place (code_of body.now)) }
 {
     let uncounted = first_uncounted(at, &[], Stand::Elsewhere, 0, body)?;
     let over = over_of(at, body)?;
-    stop_at(uncounted, over)?;
-    if is_too_large(at, body)? {
-        // E602.
-        return Err(Stop::refused(Code::TooManyTurns, place));
+    let of_loops = earlier_of(uncounted, over);
+    match of_loops {
+        Some(refusal) => Ok(Some(refusal)),
+        None => {
+            let of_size = size_refusal(at, place, body)?;
+            Ok(of_size)
+        }
     }
-    Ok(unrolled(at, &[], Stand::Elsewhere, body)?)
 }
 
 // The loop that makes a turn too many.
@@ -115,27 +151,54 @@ fn over_of(at: &At<'_>, body: &[CoreStmt]) -> Result<Option<Spot>, NoMemory>
     Ok(budget.over)
 }
 
-fn is_too_large(at: &At<'_>, body: &[CoreStmt]) -> Result<bool, NoMemory> {
+// Whether the unrolled body has too many statements.
+fn is_too_large(at: &At<'_>, body: &[CoreStmt]) -> Result<bool, NoMemory>
+    ensures { (b : Statements) → Around at.now b [] → AreRead at.now.known (asked body.now) → IfOk result (λ t. t ≡ nat_lt 65536 (size (unrolled (setting_of at.now b) [] Elsewhere (code_of body.now)))) }
+{
     let none = Tally::new(STATEMENTS);
-    Ok(unrolled_size(at, &[], Stand::Elsewhere, body, none)?.is_over())
+    let sum = unrolled_size(at, &[], Stand::Elsewhere, body, none)?;
+    Ok(sum.is_over())
 }
 
-// The earlier one of a loop that isn't counted and one that makes a turn too many.
-fn stop_at(uncounted: Option<Spot>, over: Option<Spot>) -> Result<(), Stop>
-    ensures stop { (r : Refusal) → result ≡ Err (stop.Refused r) → IsOfUnrolling r }
-    ensures refused { (r : Refusal) → result ≡ Err (stop.Refused r) → earlier (option_map spot_of uncounted) (option_map spot_of over) ≡ Some r }
-    ensures passed { IfOk result (λ u. earlier (option_map spot_of uncounted) (option_map spot_of over) ≡ None) }
+// That of an unrolled body that has too many.
+fn size_refusal(at: &At<'_>, place: Place, body: &[CoreStmt]) -> Result<Option<Refusal>, NoMemory>
+    ensures stop { IfOk result (λ o. IfSome o (λ r. IsOfUnrolling r)) }
+    ensures refusal { (b : Statements) → Around at.now b [] → AreRead at.now.known (asked body.now) → IfOk result (λ o. o ≡ when (nat_lt 65536 (size (unrolled (setting_of at.now b) [] Elsewhere (code_of body.now)))) (refused code.TooManyTurns place)) }
+{
+    let large = is_too_large(at, body)?;
+    if large {
+        // E602.
+        Ok(Some(refusal(Code::TooManyTurns, place)))
+    } else {
+        Ok(None)
+    }
+}
+
+fn refusal(code: Code, place: Place) -> Refusal
+    ensures { result ≡ refused code place }
+{
+    Refusal {
+        code,
+        place,
+        other: None,
+    }
+}
+
+// That of the earlier one of a loop that isn't counted and one that makes a turn too many.
+fn earlier_of(uncounted: Option<Spot>, over: Option<Spot>) -> Option<Refusal>
+    ensures stop { IfSome result (λ r. IsOfUnrolling r) }
+    ensures refusal { result ≡ earlier (option_map spot_of uncounted) (option_map spot_of over) }
 {
     match (uncounted, over) {
-        (None, None) => Ok(()),
+        (None, None) => None,
         // E508.
-        (Some(a), None) => Err(Stop::refused(Code::UncountedLoop, a.place)),
-        (None, Some(b)) => Err(Stop::refused(Code::TooManyTurns, b.place)),
+        (Some(a), None) => Some(refusal(Code::UncountedLoop, a.place)),
+        (None, Some(b)) => Some(refusal(Code::TooManyTurns, b.place)),
         (Some(a), Some(b)) => {
             if a.number < b.number {
-                Err(Stop::refused(Code::UncountedLoop, a.place))
+                Some(refusal(Code::UncountedLoop, a.place))
             } else {
-                Err(Stop::refused(Code::TooManyTurns, b.place))
+                Some(refusal(Code::TooManyTurns, b.place))
             }
         }
     }

@@ -1,12 +1,12 @@
 //! What statements are: their number, their waits, and the form of a counted loop's body.
-ghost use Rattle.std.specs.Prelude.{◌≡◌, nat_eq, length, ◌+◌, ◌&&◌, ◌||◌, IfOk, IfSome, [], ◌∷◌, None, option_map, if◌then◌else◌};
+ghost use Rattle.std.specs.Prelude.{◌≡◌, nat_eq, length, ◌+◌, ◌&&◌, ◌||◌, IfOk, IfSome, [], ◌∷◌, None, true, option_map, if◌then◌else◌};
 ghost use Rattle.scc_core.specs.declared.statics.Known.{Known};
 ghost use Rattle.scc_core_spec.specs.Code as code;
 ghost use Rattle.scc_core_spec.specs.Counted as spec;
 ghost use Rattle.scc_core_view.specs.Codes.{code_of};
 ghost use Rattle.scc_core_view.specs.Terms.{taken_of, term_of};
-ghost use Rattle.scc_unroll.specs.Asked.{AreRead, StandIsRead, asked};
-ghost use Rattle.scc_unroll.specs.Heads.{simple, stand_behind};
+ghost use Rattle.scc_unroll.specs.Asked.{AreAll, AreRead, IsItself, StandIsRead, asked};
+ghost use Rattle.scc_unroll_laws.specs.Heads.{simple, stand_behind};
 ghost use Rattle.scc_unroll.specs.Shape.{IsRead, stand_of, turned};
 
 use scc_base::{NoMemory, Place, lost};
@@ -116,7 +116,7 @@ pub fn is_end(body: &[CoreStmt]) -> bool
 }
 
 /// Whether a location is a cell as a whole.
-#[tactic(auto, using(crate::proofs::Lefts::no_cell))]
+#[tactic(auto, using(scc_unroll_laws::proofs::Lefts::no_cell))]
 pub fn is_cell(cell: u32, left: &CoreLeft) -> bool
     ensures { result ≡ (spec.is_cell cell (taken_of left.now).left && spec.is_whole (taken_of left.now).pick) }
 {
@@ -170,6 +170,8 @@ pub struct Turning<'a> {
 pub fn turning_in(cell: u32, body: &[CoreStmt]) -> Option<Turning<'_>>
     ensures parts { option_map turned result ≡ if spec.is_turning cell (code_of body.now) then spec.turning_of (code_of body.now) else None }
     ensures read { (known : Known) → AreRead known (asked body.now) → IfSome result (λ t. IsRead known t.test.now × IsRead known t.step.now) }
+    ensures itself { AreAll IsItself (asked body.now) → IfSome result (λ t. IsItself t.step.now) }
+    ensures whole { IfSome result (λ t. spec.is_whole (taken_of t.step_left.now).pick ≡ true) }
 {
     let [first, rest @ ..] = body else {
         return None;
@@ -201,6 +203,8 @@ fn leaves_block(body: &[CoreStmt]) -> bool
 fn turn<'a>(cell: u32, test: &'a CoreExpr, body: &'a [CoreStmt]) -> Option<Turning<'a>>
     ensures parts { option_map turned result ≡ if spec.is_turn cell (code_of body.now) then spec.turn_of (term_of test.now) (code_of body.now) else None }
     ensures read { (known : Known) → IsRead known test.now → AreRead known (asked body.now) → IfSome result (λ t. IsRead known t.test.now × IsRead known t.step.now) }
+    ensures itself { AreAll IsItself (asked body.now) → IfSome result (λ t. IsItself t.step.now) }
+    ensures whole { IfSome result (λ t. spec.is_whole (taken_of t.step_left.now).pick ≡ true) }
 {
     let [block, rest @ ..] = body else {
         return None;
@@ -220,6 +224,8 @@ fn step<'a>(
 ) -> Option<Turning<'a>>
     ensures parts { option_map turned result ≡ if spec.is_step cell (code_of body.now) then spec.step_of (term_of test.now) place (code_of turn.now) (code_of body.now) else None }
     ensures read { (known : Known) → IsRead known test.now → AreRead known (asked body.now) → IfSome result (λ t. IsRead known t.test.now × IsRead known t.step.now) }
+    ensures itself { AreAll IsItself (asked body.now) → IfSome result (λ t. IsItself t.step.now) }
+    ensures whole { IfSome result (λ t. spec.is_whole (taken_of t.step_left.now).pick ≡ true) }
 {
     let [s, rest @ ..] = body else {
         return None;

@@ -1,9 +1,9 @@
-use Rattle.std.proofs.Common.{◌≡◌, sym, ap, subst, ◌∙◌, Option, Some}
+use Rattle.std.proofs.Common.{sym, ap, subst, ◌∙◌, Option, Some}
 use Rattle.std.specs.Prelude.{IfSome}
 use Rattle.scc_core_view.specs.Codes.{code_of}
 use Rattle.scc_core_view.specs.Terms.{term_of}
 use Rattle.scc_core_spec.specs.Counted as spec
-use Rattle.scc_unroll.specs.Counters.{counters_of}
+use Rattle.scc_unroll_laws.specs.Counters.{counters_of}
 use Rattle.scc_unroll.specs.Shape.{IsRead, cells_at, turned}
 use Rattle.scc_unroll.proofs.Forms.{not_counted, is_counted, parts_found}
 use Rattle.scc_unroll.proofs.counted.counted_from.Goals as goal

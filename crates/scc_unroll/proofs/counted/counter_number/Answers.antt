@@ -1,4 +1,4 @@
-use Rattle.std.proofs.Common.{◌≡◌, sym, ap, ◌∙◌, map, slice_get, Some, None}
+use Rattle.std.proofs.Common.{sym, ap, ◌∙◌, Some, None}
 use Rattle.scc_core_spec.specs.Counted.{number_of}
 use Rattle.scc_core_view.specs.Programs.{path_of}
 use Rattle.scc_unroll.proofs.Forms.{held_at}

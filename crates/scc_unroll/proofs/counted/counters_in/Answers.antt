@@ -1,5 +1,5 @@
-use Rattle.std.proofs.Common.{◌≡◌, sym, ap, subst, ◌∙◌, ◌∷◌}
-use Rattle.scc_unroll.specs.Counters.{counters_of}
+use Rattle.std.proofs.Common.{sym, ap, subst, ◌∙◌, ◌∷◌}
+use Rattle.scc_unroll_laws.specs.Counters.{counters_of}
 use Rattle.scc_unroll.specs.Shape.{AreCounters, IsCounter}
 use Rattle.scc_unroll.proofs.counted.counters_in.Goals as goal
 

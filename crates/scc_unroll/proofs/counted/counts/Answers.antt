@@ -1,4 +1,4 @@
-use Rattle.std.proofs.Common.{◌≡◌, sym, ap, ◌∙◌}
+use Rattle.std.proofs.Common.{sym, ap, ◌∙◌}
 use Rattle.std.specs.Prelude.{is_some}
 use Rattle.scc_core_spec.specs.Counted.{is_cell, is_whole}
 use Rattle.scc_core_view.specs.Terms.{taken_of}

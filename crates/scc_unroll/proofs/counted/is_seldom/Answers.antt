@@ -1,4 +1,4 @@
-use Rattle.std.proofs.Common.{◌≡◌, sym, ap, ◌∙◌, map, slice_get, Some, None}
+use Rattle.std.proofs.Common.{sym, ap, ◌∙◌, map, slice_get}
 use Rattle.std.specs.Prelude.{nat_le}
 use Rattle.scc_core_spec.specs.Counted.{number_of, is_seldom}
 use Rattle.scc_core_view.specs.Programs.{cell_of, path_of}

@@ -1,23 +1,23 @@
-use Rattle.std.proofs.Common.{◌≡◌, refl, sym, ap, subst, ◌∙◌, arith, ℕ, ◌+◌, ◌<◌, nat_eq, length, drop, List, [], ◌∷◌, ◌++◌, map, Option, Some, None, option_map}
+use Rattle.std.proofs.Common.{◌≡◌, refl, sym, ap, subst, ◌∙◌, arith, ◌+◌, ◌<◌, nat_eq, length, drop, [], ◌∷◌, map, Some, None, option_map}
 use Rattle.std.specs.Prelude.{IfSome, flat_map}
 use Rattle.std.proofs.lemmas.List.{drop_all}
 use Rattle.scc_core.proofs.Trees.{get_own}
 use Rattle.scc_core_spec.specs.Code.{Code, End, size}
 use Rattle.scc_core_spec.specs.Counted as spec
 use Rattle.scc_core_spec.specs.Unrolled.{Spot, run_turns}
-use Rattle.scc_core_view.specs.Codes.{code_of, counted, stmt_code}
+use Rattle.scc_core_view.specs.Codes.{code_of, counted}
 use Rattle.scc_core_view.specs.Terms.{term_of}
 use Rattle.scc_unroll.specs.Asked.{AreRead, asked}
 use Rattle.scc_unroll.specs.Budgets.{after, budget_of, took, turn_spots}
-use Rattle.scc_unroll.specs.Counters.{counters_of}
-use Rattle.scc_unroll.specs.Heads.{head_size, stand_behind}
-use Rattle.scc_unroll.specs.Shape.{Around, cells_at, counting_of, setting_of, stand_of}
+use Rattle.scc_unroll_laws.specs.Counters.{counters_of}
+use Rattle.scc_unroll_laws.specs.Heads.{head_size, stand_behind}
+use Rattle.scc_unroll.specs.Shape.{cells_at, counting_of, setting_of, stand_of}
 use Rattle.scc_unroll.specs.Spots.{spot_of}
 use Rattle.scc_unroll.specs.Turns.{IsTold, turn_of}
 use Rattle.scc_unroll.proofs.Asked.{first_read, rest_read, yes_read, no_read, block_read, count_read, loop_read}
 use Rattle.scc_unroll.proofs.Budgets.{stays_over, no_turns, simple_turns, turns_more, turns_if, turns_block, turns_loop, turns_counted}
-use Rattle.scc_unroll.proofs.Heads.{from_here, head_sized, last_is}
-use Rattle.scc_unroll.proofs.Stmts.{as_if, as_block, as_loop}
+use Rattle.scc_unroll_laws.proofs.Heads.{from_here, head_sized, last_is}
+use Rattle.scc_unroll_laws.proofs.Stmts.{as_if, as_block, as_loop}
 use Rattle.scc_unroll.proofs.limits.+turns.Goals as goal
 
 -- ---- statements

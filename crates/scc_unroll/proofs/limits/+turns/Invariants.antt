@@ -5,7 +5,7 @@ use Rattle.scc_core_spec.specs.Unrolled.{run_turns}
 use Rattle.scc_core_view.specs.Codes.{code_of}
 use Rattle.scc_unroll.specs.Asked.{AreRead, StandIsRead, asked}
 use Rattle.scc_unroll.specs.Budgets.{after, budget_of, turn_spots}
-use Rattle.scc_unroll.specs.Counters.{counters_of}
+use Rattle.scc_unroll_laws.specs.Counters.{counters_of}
 use Rattle.scc_unroll.specs.Shape.{Around, setting_of, stand_of}
 use Rattle.scc_unroll.specs.Spots.{spot_of}
 use Rattle.scc_unroll.specs.Turns.{turn_of}

@@ -1,20 +1,21 @@
 use Rattle.std.proofs.Common.{◌≡◌, refl, sym, ap, subst, ◌∙◌, arith, ℕ, ◌+◌, ◌<◌, length, drop, List, [], ◌∷◌, Option, Some, None, option_map}
 use Rattle.std.proofs.lemmas.List.{drop_all}
-use Rattle.scc_core_spec.specs.Code.{Code, End, size, holds_wait}
+use Rattle.scc_core_spec.specs.Code.{Code, End, size}
 use Rattle.scc_core_spec.specs.Counted as spec
 use Rattle.scc_core_spec.specs.First.{or_else}
 use Rattle.scc_core_spec.specs.Unrolled.{Spot, first_spot, uncounted}
-use Rattle.scc_core_view.specs.Codes.{code_of, counted, stmt_code}
+use Rattle.scc_core_view.specs.Codes.{code_of, counted}
 use Rattle.scc_core_view.specs.Terms.{term_of}
 use Rattle.scc_unroll.specs.Asked.{AreRead, asked}
-use Rattle.scc_unroll.specs.Counters.{counters_of}
-use Rattle.scc_unroll.specs.Heads.{head_size, stand_behind}
-use Rattle.scc_unroll.specs.Shape.{Around, setting_of, stand_of}
-use Rattle.scc_unroll.specs.Spots.{looked_into, spot_of}
+use Rattle.scc_unroll_laws.specs.Counters.{counters_of}
+use Rattle.scc_unroll_laws.specs.Heads.{head_size, stand_behind}
+use Rattle.scc_unroll.specs.Shape.{setting_of, stand_of}
+use Rattle.scc_unroll.specs.Spots.{spot_of}
+use Rattle.scc_unroll_laws.specs.Spots.{looked_into}
 use Rattle.scc_unroll.proofs.Asked.{first_read, rest_read, yes_read, no_read, count_read, loop_read}
-use Rattle.scc_unroll.proofs.Heads.{from_here, head_sized, last_is}
-use Rattle.scc_unroll.proofs.Looks.{simple_look, look_if, look_loop}
-use Rattle.scc_unroll.proofs.Stmts.{as_if, as_loop}
+use Rattle.scc_unroll_laws.proofs.Heads.{from_here, head_sized, last_is}
+use Rattle.scc_unroll_laws.proofs.Looks.{simple_look, look_if, look_loop}
+use Rattle.scc_unroll_laws.proofs.Stmts.{as_if, as_loop}
 use Rattle.scc_unroll.proofs.look.+looked.Goals as goal
 
 -- ---- statements

@@ -1,6 +1,6 @@
-use Rattle.std.proofs.Common.{◌≡◌, sym, ap, ◌∙◌, ℕ, Option, option_map}
+use Rattle.std.proofs.Common.{sym, ap, ◌∙◌, ℕ, Option, option_map}
 use Rattle.scc_core_spec.specs.Counted as spec
-use Rattle.scc_unroll.specs.Counters.{counters_of}
+use Rattle.scc_unroll_laws.specs.Counters.{counters_of}
 use Rattle.scc_unroll.specs.Shape.{cells_at, counting_of}
 use Rattle.scc_unroll.proofs.look.counted_cell.Goals as goal
 

@@ -1,9 +1,9 @@
-use Rattle.std.proofs.Common.{◌≡◌, sym, ap, ◌∙◌, arith, ◌+◌, ◌<◌, ◌||◌, length, drop, [], ◌∷◌}
+use Rattle.std.proofs.Common.{sym, ap, ◌∙◌, arith, ◌+◌, ◌<◌, ◌||◌, length, drop, [], ◌∷◌}
 use Rattle.std.proofs.lemmas.List.{drop_all}
-use Rattle.scc_unroll.specs.Budgets.{has_loops}
+use Rattle.scc_unroll_laws.specs.Heads.{has_loops}
 use Rattle.scc_core_view.specs.Codes.{code_of}
-use Rattle.scc_unroll.proofs.Heads.{loops_here}
-use Rattle.scc_unroll.proofs.Sums.{or_step, none_behind}
+use Rattle.scc_unroll_laws.proofs.Heads.{loops_here}
+use Rattle.scc_unroll_laws.proofs.Sums.{or_step, none_behind}
 use Rattle.scc_unroll.proofs.loops.+loops.Goals as goal
 
 pub has_loops-loop-s-preserved : goal.has_loops-loop-s-preserved

@@ -1,5 +1,5 @@
 use Rattle.std.proofs.Common.{◌≡◌, ◌||◌, drop}
-use Rattle.scc_unroll.specs.Budgets.{has_loops}
+use Rattle.scc_unroll_laws.specs.Heads.{has_loops}
 use Rattle.scc_core_view.specs.Codes.{code_of}
 use Rattle.scc_unroll.proofs.loops.+loops.Given as goal
 

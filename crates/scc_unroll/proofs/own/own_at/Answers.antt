@@ -1,7 +1,7 @@
 use Rattle.std.proofs.Common.{◌≡◌, sym, ◌∙◌, arith, nat_eq, true, length, map}
 use Rattle.std.proofs.lemmas.Grind.{common_steps}
 use Rattle.scc_core_view.specs.Programs.{cell_of}
-use Rattle.scc_unroll.proofs.Lefts.{own_from_cell, own_from_front, own_from_null}
+use Rattle.scc_unroll_laws.proofs.Lefts.{own_from_cell, own_from_front, own_from_null}
 use Rattle.scc_unroll.proofs.own.own_at.Goals as goal
 
 pub returns-in-Cell : goal.returns-in-Cell

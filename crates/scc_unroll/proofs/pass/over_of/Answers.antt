@@ -1,4 +1,4 @@
-use Rattle.std.proofs.Common.{◌≡◌, ap, ◌∙◌, []}
+use Rattle.std.proofs.Common.{ap, ◌∙◌, []}
 use Rattle.scc_core_spec.specs.Counted.{Elsewhere}
 use Rattle.scc_core_spec.specs.Unrolled.{run_turns}
 use Rattle.scc_core_view.specs.Codes.{code_of}

@@ -1,9 +1,9 @@
-use Rattle.std.proofs.Common.{◌≡◌, sym, ap, ◌∙◌, arith, ◌+◌, ◌<◌, length, drop, [], ◌∷◌}
+use Rattle.std.proofs.Common.{sym, ap, ◌∙◌, arith, ◌+◌, ◌<◌, length, drop, [], ◌∷◌}
 use Rattle.std.proofs.lemmas.List.{drop_all}
 use Rattle.scc_core_spec.specs.Code.{size}
 use Rattle.scc_core_view.specs.Codes.{code_of}
-use Rattle.scc_unroll.proofs.Heads.{size_here}
-use Rattle.scc_unroll.proofs.Sums.{sum_step, nothing_left}
+use Rattle.scc_unroll_laws.proofs.Heads.{size_here}
+use Rattle.scc_unroll_laws.proofs.Sums.{sum_step, nothing_left}
 use Rattle.scc_unroll.proofs.shape.+size.Goals as goal
 
 pub size_of-loop-s-preserved : goal.size_of-loop-s-preserved

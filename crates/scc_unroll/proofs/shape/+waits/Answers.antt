@@ -1,9 +1,9 @@
-use Rattle.std.proofs.Common.{◌≡◌, sym, ap, ◌∙◌, arith, ◌+◌, ◌<◌, ◌||◌, length, drop, [], ◌∷◌}
+use Rattle.std.proofs.Common.{sym, ap, ◌∙◌, arith, ◌+◌, ◌<◌, ◌||◌, length, drop, [], ◌∷◌}
 use Rattle.std.proofs.lemmas.List.{drop_all}
 use Rattle.scc_core_spec.specs.Code.{holds_wait}
 use Rattle.scc_core_view.specs.Codes.{code_of}
-use Rattle.scc_unroll.proofs.Heads.{waits_here}
-use Rattle.scc_unroll.proofs.Sums.{or_step, none_behind}
+use Rattle.scc_unroll_laws.proofs.Heads.{waits_here}
+use Rattle.scc_unroll_laws.proofs.Sums.{or_step, none_behind}
 use Rattle.scc_unroll.proofs.shape.+waits.Goals as goal
 
 pub holds_wait-loop-s-preserved : goal.holds_wait-loop-s-preserved

@@ -1,5 +1,5 @@
 use Rattle.std.proofs.Common.{◌∙◌, sym}
-use Rattle.scc_unroll.proofs.Heads.{end_of}
+use Rattle.scc_unroll_laws.proofs.Heads.{end_of}
 use Rattle.scc_unroll.proofs.shape.is_end.Goals as goal
 
 pub returns : goal.returns

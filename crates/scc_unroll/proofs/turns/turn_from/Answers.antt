@@ -1,8 +1,8 @@
-use Rattle.std.proofs.Common.{◌≡◌, refl, sym, ap, ◌∙◌, Option, Some, option_map, ◌∷◌}
+use Rattle.std.proofs.Common.{refl, sym, ap, ◌∙◌, option_map}
 use Rattle.scc_core_spec.specs.Counted.{Counter, counter, counting}
-use Rattle.scc_core_spec.specs.Static.{goes, is_true, static}
+use Rattle.scc_core_spec.specs.Static.{is_true, static}
 use Rattle.scc_core_view.specs.Terms.{term_of}
-use Rattle.scc_unroll.specs.Counters.{counters_of}
+use Rattle.scc_unroll_laws.specs.Counters.{counters_of}
 use Rattle.scc_unroll.specs.Shape.{cells_at, read, turned}
 use Rattle.scc_unroll.proofs.EachTurn.{turn_is}
 use Rattle.scc_unroll.proofs.turns.turn_from.Goals as goal

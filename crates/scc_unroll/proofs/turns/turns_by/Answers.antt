@@ -1,7 +1,7 @@
-use Rattle.std.proofs.Common.{◌≡◌, refl, sym, ap, ◌∙◌, arith, ◌-◌, ◌<◌, ℕ, false, true, List, map, Option, option_map}
-use Rattle.scc_core_spec.specs.Counted.{Turns, no_turns, turns_from}
+use Rattle.std.proofs.Common.{◌≡◌, sym, ap, ◌∙◌, arith, ◌-◌, ◌<◌, ℕ, false, true, map, Option, option_map}
+use Rattle.scc_core_spec.specs.Counted.{Turns, turns_from}
 use Rattle.scc_core_view.specs.Terms.{term_of}
-use Rattle.scc_unroll.specs.Counters.{counters_of}
+use Rattle.scc_unroll_laws.specs.Counters.{counters_of}
 use Rattle.scc_unroll.specs.Shape.{cells_at, turned}
 use Rattle.scc_unroll.specs.Turns.{put, turn_of, went}
 use Rattle.scc_unroll.proofs.EachTurn.{put_first, put_one, put_none, one_less}

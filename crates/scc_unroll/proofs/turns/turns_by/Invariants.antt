@@ -1,6 +1,6 @@
 use Rattle.std.proofs.Common.{◌≡◌, map, option_map}
 use Rattle.scc_core_spec.specs.Counted.{turns_from}
-use Rattle.scc_unroll.specs.Counters.{counters_of}
+use Rattle.scc_unroll_laws.specs.Counters.{counters_of}
 use Rattle.scc_unroll.specs.Shape.{cells_at, counting_of, turned}
 use Rattle.scc_unroll.specs.Turns.{IsTold, put, turn_of}
 use Rattle.scc_unroll.proofs.turns.turns_by.Given as goal

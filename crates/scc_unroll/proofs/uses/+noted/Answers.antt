@@ -1,11 +1,11 @@
-use Rattle.std.proofs.Common.{◌≡◌, sym, ap, ◌∙◌, arith, ℕ, ◌+◌, ◌<◌, length, drop, map, [], ◌∷◌}
+use Rattle.std.proofs.Common.{sym, ap, ◌∙◌, arith, ◌+◌, ◌<◌, length, drop, map, [], ◌∷◌}
 use Rattle.std.proofs.lemmas.List.{drop_all}
 use Rattle.scc_core_spec.specs.Counted.{uses}
 use Rattle.scc_core_view.specs.Codes.{code_of}
 use Rattle.scc_core_view.specs.Programs.{cell_of}
 use Rattle.scc_unroll.specs.Used.{used}
-use Rattle.scc_unroll.proofs.Heads.{uses_here}
-use Rattle.scc_unroll.proofs.Sums.{use_step, nothing_left}
+use Rattle.scc_unroll_laws.proofs.Heads.{uses_here}
+use Rattle.scc_unroll_laws.proofs.Sums.{use_step, nothing_left}
 use Rattle.scc_unroll.proofs.uses.+noted.Goals as goal
 
 pub note_all-loop-s-preserved : goal.note_all-loop-s-preserved

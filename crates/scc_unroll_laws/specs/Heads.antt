@@ -1,5 +1,5 @@
 -- What the first of some statements is by itself: how many it is, where the next one stands, and whether others stand in it.
-use Rattle.std.specs.Prelude.{ℕ, ◌+◌, Bool, true, false}
+use Rattle.std.specs.Prelude.{ℕ, ◌+◌, Bool, true, false, ◌||◌}
 use Rattle.scc_core_spec.specs.Code.{Code, End, Put, Aim, If, Block, Loop, Exit, Wait, size}
 use Rattle.scc_core_spec.specs.Counted.{Stand, Elsewhere, behind}
 
@@ -25,3 +25,14 @@ simple (If p t a b r) = false
 simple (Block p b r) = false
 simple (Loop p n b r) = false
 simple _ = true
+
+-- whether a loop stands in them
+abbrev pub has_loops : Code → Bool
+has_loops End = false
+has_loops (Put p l k e r) = has_loops r
+has_loops (Aim p to t r) = has_loops r
+has_loops (If p t a b r) = has_loops a || (has_loops b || has_loops r)
+has_loops (Block p b r) = has_loops b || has_loops r
+has_loops (Loop p n b r) = true
+has_loops (Exit p n r) = has_loops r
+has_loops (Wait p l n r) = has_loops r

@@ -4,8 +4,6 @@ use Rattle.std.specs.Prelude.{find, if◌then◌else◌}
 use Rattle.scc_base.specs.declared.refusal.Place.{Place}
 use Rattle.scc_base.specs.declared.names.Name.{Name}
 use Rattle.scc_bits_kinds.specs.declared.kind.Kind.{Kind}
-use Rattle.scc_bits_kinds.specs.declared.op.Op.{Op}
-use Rattle.scc_bits_kinds.specs.declared.kind.Word.{Word}
 use Rattle.scc_bits.specs.Value.{Number}
 use Rattle.scc_core.specs.declared.copy.Counter.{Counter as Held}
 use Rattle.scc_core.specs.declared.expr.CoreExpr.{CoreExpr, fold-roll-CoreExpr, ind-CoreExpr}
@@ -20,11 +18,11 @@ use Rattle.scc_core.specs.declared.program.CellName.{CellName}
 use Rattle.scc_core.specs.Counters as with
 use Rattle.scc_core_view.specs.Terms.{term_of, taken_of}
 use Rattle.scc_core_view.specs.Terms as to
-use Rattle.scc_unroll.proofs.Trees.{term_node, term_base, term_part, term_pick, term_layer, term_made}
+use Rattle.scc_unroll_laws.proofs.Trees.{term_node, term_base, term_part, term_pick, term_layer, term_made}
 use Rattle.scc_core_spec.specs.Term.{Term, Left, Pick}
 use Rattle.scc_core_spec.specs.Term as term
 use Rattle.scc_core_spec.specs.Counted.{Counter, counter_at, loaded_as, counting, counting_left, counting_pick}
-use Rattle.scc_unroll.specs.Counters.{counter_of, counters_of}
+use Rattle.scc_unroll_laws.specs.Counters.{counter_of, counters_of}
 
 abbrev Each : {A : Type 0} → (A → Type 0) → List A → Type 0
 Each P [] = Unit {0}

@@ -1,5 +1,5 @@
-use Rattle.scc_unroll.proofs.Counting.{copy_says, left_copy_says}
-use Rattle.scc_unroll.proofs.laws.a_copy_counts.Goals as goal
+use Rattle.scc_unroll_laws.proofs.Counting.{copy_says, left_copy_says}
+use Rattle.scc_unroll_laws.proofs.laws.a_copy_counts.Goals as goal
 
 pub returns-clause-terms : goal.returns-clause-terms
 returns-clause-terms c = copy_says

@@ -1,5 +1,5 @@
 -- The first loop of a walk.
-use Rattle.std.proofs.Common.{◌≡◌, refl, sym, ap, subst, ◌∙◌, arith, ℕ, ◌+◌, Bool, true, false, List, [], ◌∷◌, ◌++◌, Option, Some, None, option_map}
+use Rattle.std.proofs.Common.{◌≡◌, refl, sym, ap, ◌∙◌, arith, ℕ, ◌+◌, Bool, true, false, List, [], ◌∷◌, ◌++◌, Option, Some, None, option_map}
 use Rattle.scc_base.specs.declared.refusal.Place.{Place}
 use Rattle.scc_core.specs.declared.stmt.CoreStmt.{CoreStmt}
 use Rattle.scc_core.specs.declared.stmt.CoreNode.TheOpen.{CoreNode-F}
@@ -8,11 +8,11 @@ use Rattle.scc_core_spec.specs.Term.{Term}
 use Rattle.scc_core_spec.specs.Code.{Code, Count, End, If, Block, Loop, size, holds_wait}
 use Rattle.scc_core_spec.specs.Counted.{Counter, Counting, First, Elsewhere, Setting, Stand, around, counted_by, counter}
 use Rattle.scc_core_view.specs.Codes.{Node, stmt_node, stmt_code}
-use Rattle.scc_unroll.specs.Heads.{head_size, simple, stand_behind}
-use Rattle.scc_unroll.proofs.Heads.{each_stmt}
+use Rattle.scc_unroll_laws.specs.Heads.{head_size, simple, stand_behind}
+use Rattle.scc_unroll_laws.proofs.Heads.{each_stmt}
 use Rattle.scc_core_spec.specs.First.{or_else}
 use Rattle.scc_core_spec.specs.Unrolled.{Spot, first_spot, spots_if, uncounted}
-use Rattle.scc_unroll.specs.Spots.{is_left, looked_into}
+use Rattle.scc_unroll_laws.specs.Spots.{is_left, looked_into}
 
 pub first_both : (xs ys : List Spot) → first_spot (xs ++ ys) ≡ or_else (first_spot xs) (first_spot ys)
 first_both [] ys = refl

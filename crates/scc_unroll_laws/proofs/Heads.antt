@@ -12,8 +12,7 @@ use Rattle.scc_core_spec.specs.Counted.{is_end, is_it, own_at, times, uses}
 use Rattle.scc_core_spec.specs.Static.{Cells}
 use Rattle.scc_core_view.specs.Terms.{taken_of}
 use Rattle.scc_core_view.specs.Codes.{Node, stmt_node, stmt_step, stmt_code, code_of, before}
-use Rattle.scc_unroll.specs.Budgets.{has_loops}
-use Rattle.scc_unroll.specs.Heads.{head_size}
+use Rattle.scc_unroll_laws.specs.Heads.{has_loops, head_size}
 
 pub record Heads (f : Code → Code) : Type 0 where
   pub sizes : (c : Code) → size (f c) ≡ head_size (f End) + size c

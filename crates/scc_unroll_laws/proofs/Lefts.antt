@@ -1,5 +1,5 @@
 -- Locations with and without parts.
-use Rattle.std.proofs.Common.{◌≡◌, refl, sym, ap, ◌∙◌, arith, ℕ, suc, Bool, true, false, ◌&&◌, nat_eq, length, List, [], ◌∷◌, map, slice_get, Option, Some, None, option_map, option_and_then}
+use Rattle.std.proofs.Common.{◌≡◌, refl, sym, ap, ◌∙◌, arith, ℕ, suc, Bool, true, false, nat_eq, length, List, [], ◌∷◌, map, slice_get, Option, Some, None, option_map, option_and_then}
 use Rattle.std.proofs.lemmas.Bool.Decides.{nat_tests}
 use Rattle.std.proofs.lemmas.Option.{slice_get-map}
 use Rattle.scc_base.specs.declared.refusal.Place.{Place}
@@ -17,11 +17,11 @@ use Rattle.scc_core.specs.declared.program.CellName.{CellName}
 use Rattle.scc_core_view.specs.Programs.{cell_of}
 use Rattle.scc_core_view.specs.Terms.{name_of, term_of, taken_of}
 use Rattle.scc_core_view.specs.Terms as to
-use Rattle.scc_unroll.proofs.Trees.{term_node, term_base, term_part, term_pick}
-use Rattle.scc_core_spec.specs.Term.{Term, Left, Pick, Cell, Prefix, Null, Follow, Member, Index, Whole}
+use Rattle.scc_unroll_laws.proofs.Trees.{term_node, term_base, term_part, term_pick}
+use Rattle.scc_core_spec.specs.Term.{Term, Left, Cell, Prefix, Null, Follow, Member, Index}
 use Rattle.scc_core_spec.specs.Static.{Cells}
 use Rattle.scc_core_spec.specs.Program as program
-use Rattle.scc_core_spec.specs.Counted.{own_at, own_of, is_cell, is_whole}
+use Rattle.scc_core_spec.specs.Counted.{own_at, own_of, is_cell}
 
 abbrev is_part : Left → Bool
 is_part (Member l n) = true

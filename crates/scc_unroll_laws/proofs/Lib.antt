@@ -1,0 +1,12 @@
+pub mod Copied
+pub mod Counting
+pub mod Firsts
+pub mod Heads
+pub mod Lefts
+pub mod Looks
+pub mod Paths
+pub mod Sizes
+pub mod Stmts
+pub mod Sums
+pub mod Trees
+pub mod Writing
