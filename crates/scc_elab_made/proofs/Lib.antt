@@ -1,2 +1,4 @@
 pub mod Clearing
 pub mod Rows
+pub mod Endings
+pub mod Nodes

@@ -4,7 +4,11 @@
 mod binds;
 mod elements;
 mod locals;
+mod moment;
+mod single;
 
 pub use binds::bind;
 pub use elements::{ElementPath, elements_of};
 pub use locals::begin;
+pub use moment::Moment;
+pub use single::simple;
