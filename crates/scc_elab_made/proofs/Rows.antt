@@ -1,5 +1,5 @@
 -- The elements of an array, by its first index.
-use Rattle.std.proofs.Common.{◌≡◌, refl, sym, ap, ◌∙◌, ℕ, zero, suc, ◌+◌, ◌-◌, ◌<◌, ◌≤◌, length, take, drop, slice_index_or, List, [], ◌∷◌, ◌++◌, map, append_assoc, arith}
+use Rattle.std.proofs.Common.{◌≡◌, refl, sym, ap, ◌∙◌, ℕ, zero, suc, ◌+◌, ◌-◌, ◌<◌, ◌≤◌, length, take, drop, get_or, slice_index_or, List, [], ◌∷◌, ◌++◌, map, append_assoc, arith}
 use Rattle.std.specs.Prelude.{flat_map}
 use Rattle.std.specs.List.{range_with_len}
 use Rattle.scc_semantics.specs.Location.{Part, Element}
@@ -59,3 +59,15 @@ row_done path part ns new front t i k n h e f g inv =
     ap (λ z. z ++ rows path ns (i + 1) (n - (i + 1))) (g ∙ ap (λ z. front ++ elements_at z ns) (f ∙ ap (λ z. path ++ Element z ∷ []) e))
     ∙ append_assoc front (elements_at (path ++ Element i ∷ []) ns) (rows path ns (i + 1) (n - (i + 1)))
     ∙ ap (λ z. front ++ z) (sym (next_row path ns i n h)) ∙ inv
+
+-- a list by its first and the others
+pub slice_is : {A : Type 0} (xs : List A) (s : A) → 1 ≤ length xs → s ≡ get_or xs 0 s → s ∷ take (length xs - 1) (drop 1 xs) ≡ xs
+slice_is [] s a e = absurd (omega arith)
+slice_is (x ∷ xs) s a e = λ i. e i ∷ (ap (λ n. take n xs) (less (length xs)) ∙ take_all xs) i
+  where
+    less : (n : ℕ) → suc n - 1 ≡ n
+    less n = omega arith
+
+pub empty_is : {A : Type 0} (xs : List A) → length xs < 1 → xs ≡ []
+empty_is [] a = refl
+empty_is (x ∷ xs) a = absurd (omega arith)

@@ -1,2 +1,5 @@
 pub mod Paths
 pub mod Runs
+pub mod Works
+pub mod Firsts
+pub mod Passings

@@ -3,12 +3,21 @@
 
 mod binds;
 mod elements;
+mod inits;
+mod laws;
 mod locals;
 mod moment;
+mod places;
+mod running;
 mod single;
+mod works;
 
 pub use binds::bind;
 pub use elements::{ElementPath, elements_of};
+pub use laws::{initialisers_run_in_order, loops_test_before_turns, statements_run_in_order};
 pub use locals::begin;
 pub use moment::Moment;
 pub use single::simple;
+pub use works::{
+    Args, At, ElementsOf, Form, How, LeadOf, LoopOf, MembersOf, RunOf, VectorOf, Work,
+};
