@@ -1,9 +1,16 @@
 -- What is still to be done, when more is put on top of it.
-use Rattle.std.proofs.Common.{◌≡◌, refl, sym, ap, ◌∙◌, subst, arith, ℕ, zero, suc, ◌-◌, nat_le, not, Bool, true, false, if◌then◌else◌, List, [], ◌∷◌, ◌++◌, Option, Some, None}
+use Rattle.std.proofs.Common.{◌≡◌, refl, sym, ap, ◌∙◌, subst, arith, ℕ, zero, suc, ◌-◌, nat_le, not, Bool, true, false, if◌then◌else◌, List, [], ◌∷◌, ◌++◌, Option, Some, None, option_map}
 use Rattle.std.specs.Prelude.{Result, Ok, Err, OnOk, IsOk}
 use Rattle.std.specs.Borrow.{Bor}
 use Rattle.scc_plain_tree.specs.declared.stmt.PlainStmt.{PlainStmt}
-use Rattle.scc_plain_view.specs.Codes.{code_of}
+use Rattle.scc_plain_view.specs.Codes.{code_of, stmt_code, count_of}
+use Rattle.scc_plain_view.specs.Terms.{term_of}
+use Rattle.scc_plain_tree.specs.declared.expr.PlainExpr.{PlainExpr}
+use Rattle.scc_plain_tree.specs.declared.stmt.PlainCount.{PlainCount}
+use Rattle.scc_plain_tree.specs.declared.stmt.PlainNode.TheVariants as node
+use Rattle.scc_elab_made.proofs.Nodes.{if_is, block_is, loop_is, exit_is}
+use Rattle.scc_elab_made.proofs.Picking.{run_takes, run_passes}
+use Rattle.scc_elab_made.specs.declared.works.How.{How}
 use Rattle.scc_elab_made.specs.declared.works.At.{At}
 use Rattle.scc_elab_made.specs.declared.works.How.TheVariants as how
 use Rattle.scc_base.specs.declared.refusal.Refusal.{Refusal}
@@ -12,23 +19,23 @@ use Rattle.scc_base.specs.declared.refusal.Stop.TheVariants as stop
 use Rattle.scc_core_spec.specs.Resolved.{Tried, Made, Stopped, and_made}
 use Rattle.scc_base.specs.declared.refusal.Place.{Place}
 use Rattle.scc_elab_spec.specs.Term.{Term}
-use Rattle.scc_elab_spec.specs.Worth.{Site, worth}
+use Rattle.scc_elab_spec.specs.Worth.{Site, at_now, worth}
 use Rattle.scc_elab_worth.specs.Meant.{IsWorth}
 use Rattle.scc_elab_spec.specs.Program.{Plain, Loop, End, Count}
 use Rattle.scc_elab_made.specs.declared.works.LoopOf.{LoopOf}
-use Rattle.scc_elab_made.specs.Firsts.{IsParts}
+use Rattle.scc_elab_made.specs.Firsts.{IsParts, takes_first}
 use Rattle.scc_elab_made.specs.Passings.{passing_of}
 use Rattle.scc_elab_made.specs.declared.running.Passing.{Passing}
 use Rattle.scc_elab_made.specs.declared.running.Passing.TheVariants as passing
 use Rattle.scc_base.specs.declared.code.Code.TheVariants as reason
 use Rattle.scc_core_spec.specs.First.{refused}
 use Rattle.scc_elab_spec.specs.Grown.{Grown, with_turn}
-use Rattle.scc_elab_spec.specs.Construct.{Now, Ran, Fell, Left_out, Halted, then_run, shut, from_tried, looped, turned, most_turns}
+use Rattle.scc_elab_spec.specs.Construct.{Now, Ran, Fell, Left_out, Halted, then_run, shut, from_tried, looped, turned, choose_of, most_turns}
 use Rattle.scc_elab_spec.specs.Made.{grown_by}
 use Rattle.scc_elab_made.specs.declared.works.Work.{Work}
 use Rattle.scc_elab_made.specs.declared.works.Work.TheVariants as work
 use Rattle.scc_elab_made.specs.Runs.{Ends}
-use Rattle.scc_elab_made.specs.Works.{through, pass, outcome, anew, at_in, run_at, turns_of, turn_of, making_at, site_at, Steps, Puts}
+use Rattle.scc_elab_made.specs.Works.{through, pass, outcome, anew, at_in, run_at, turns_of, turn_of, making_at, site_at, Stand, chosen_of, tested_in, Steps, Puts, Leaves}
 
 pub pass_last : (p : Plain) (ws : List Work) (w : Work) (x : Ran) → pass p (ws ++ w ∷ []) x ≡ pass p ws (through p w x)
 pass_last p [] w x = refl
@@ -192,3 +199,63 @@ module _ (p : Plain) (t : Tried Grown) (ws rest : List Work) (w : Work) (left : 
 
   pub leave_stays : (new : List Work) → k ≡ passing.Stays → new ≡ rest ++ w ∷ [] → t ≡ outcome p new (Fell n)
   leave_stays new e f = inv ∙ outcome_one p rest ws w (Left_out left n) popped ∙ ap (outcome p rest) (stays_through p w left n (sym kind ∙ e)) ∙ sym (outcome_one p rest new w (Fell n) f)
+
+-- ---- statements
+
+pub puts_rest : {A E : Type 0} (r : Result A E) (old new : List Work) (a b : At) (h : How) (list : Bor (List PlainStmt)) → OnOk r (new ≡ old ++ work.Run (record { at = a; how = h; list = list }) ∷ []) → at_in a ≡ at_in b
+    → Puts r old new (λ p x. then_run x (run_at p (at_in b) (chosen_of h (code_of list.now))))
+puts_rest (Ok v) old new a b h list e f = λ p x. outcome_one p old new (work.Run (record { at = a; how = h; list = list })) x e ∙ ap (λ s. outcome p old (then_run x (run_at p s (chosen_of h (code_of list.now))))) f
+puts_rest (Err v) old new a b h list e f = tt
+
+tested_end : (n : Now) (a b k : Now → Ran) (w : Tried ℕ) → ((m : Now) → k m ≡ Fell m) → from_tried w (λ v. then_run (choose_of v a b n) k) ≡ from_tried w (λ v. choose_of v a b n)
+tested_end n a b k (Made v) h = by (choose_of v a b n)
+  where
+    by : (q : Ran) → then_run q k ≡ q
+    by (Fell m) = h m
+    by (Left_out d m) = refl
+    by (Halted z) = refl
+tested_end n a b k (Stopped z) h = refl
+
+pub if_goes : (p : Plain) (a : Stand) (s : PlainStmt) (t : PlainExpr) (one other x y : List PlainStmt) (ws : List Work) (n : Now) → s.node ≡ node.If t one other → x ≡ one → y ≡ other
+    → outcome p ws (run_at p a (stmt_code s End) n) ≡ outcome p ws (tested_in p a (term_of t) (code_of x) (code_of y) n)
+if_goes p a s t one other x y ws n is e f = ap (λ c. outcome p ws (run_at p a c n)) (if_is s t one other End is)
+    ∙ ap (outcome p ws) (tested_end n (run_at p a (code_of one)) (run_at p a (code_of other)) (run_at p a End) (worth (at_now (site_at p a) n.grown) (term_of t)) (λ m. refl))
+    ∙ (λ i. outcome p ws (tested_in p a (term_of t) (code_of (sym e i)) (code_of (sym f i)) n))
+
+pub block_goes : (p : Plain) (a : Stand) (s : PlainStmt) (body x : List PlainStmt) (ws new : List Work) (n : Now) → s.node ≡ node.Block body → x ≡ body
+    → ((q : Plain) (z : Ran) → outcome q new z ≡ outcome q ws (shut (then_run z (run_at q a (code_of x))) Fell)) → outcome p ws (run_at p a (stmt_code s End) n) ≡ outcome p new (Fell n)
+block_goes p a s body x ws new n is e h = ap (λ c. outcome p ws (run_at p a c n)) (block_is s body End is) ∙ ap (λ c. outcome p ws (shut (run_at p a (code_of c) n) Fell)) (sym e) ∙ sym (h p (Fell n))
+
+pub loop_goes : (p : Plain) (a : Stand) (s : PlainStmt) (c : Option PlainCount) (body x : List PlainStmt) (ws new : List Work) (n : Now) → s.node ≡ node.Loop c body → x ≡ body
+    → ((c : Option Count) (q : Plain) (z : Ran) → outcome q new z ≡ outcome q ws (then_run z (run_at q a (Loop s.place c (code_of x) End)))) → outcome p ws (run_at p a (stmt_code s End) n) ≡ outcome p new (Fell n)
+loop_goes p a s c body x ws new n is e h = ap (λ c. outcome p ws (run_at p a c n)) (loop_is s c body End is) ∙ ap (λ z. outcome p ws (run_at p a (Loop s.place (option_map count_of c) (code_of z) End) n)) (sym e) ∙ sym (h (option_map count_of c) p (Fell n))
+
+pub exit_goes : (p : Plain) (a : Stand) (s : PlainStmt) (d : ℕ) (ws : List Work) (n : Now) → s.node ≡ node.Exit d → outcome p ws (run_at p a (stmt_code s End) n) ≡ outcome p ws (Left_out d n)
+exit_goes p a s d ws n is = ap (λ c. outcome p ws (run_at p a c n)) (exit_is s d End is)
+
+-- ---- lists of statements
+
+pub empty_runs : (p : Plain) (a : Stand) (h : How) (list : List PlainStmt) (ws : List Work) (n : Now) → list ≡ [] → outcome p ws (run_at p a (chosen_of h (code_of list)) n) ≡ outcome p ws (Fell n)
+empty_runs p a h list ws n e = ap (λ z. outcome p ws (run_at p a (chosen_of h (code_of z)) n)) e ∙ ap (outcome p ws) (by h)
+  where
+    by : (h : How) → run_at p a (chosen_of h End) n ≡ Fell n
+    by how.All = refl
+    by (how.Of m) = refl
+    by (how.Without m) = refl
+
+module _ (p : Plain) (a : Stand) (h : How) (x : PlainStmt) (xs all : List PlainStmt) (ws new : List Work) (n : Now) (b : Bool) (is : x ∷ xs ≡ all) (takes : b ≡ takes_first h (code_of all))
+    (put : (q : Plain) (z : Ran) → outcome q new z ≡ outcome q ws (then_run z (run_at q a (chosen_of h (code_of xs))))) where
+  pub taken_goes : b ≡ true → outcome p ws (run_at p a (chosen_of h (code_of all)) n) ≡ outcome p new (run_at p a (stmt_code x End) n)
+  taken_goes e = ap (λ z. outcome p ws (run_at p a (chosen_of h (code_of z)) n)) (sym is) ∙ ap (outcome p ws) (run_takes p a x xs h n (ap (λ z. takes_first h (code_of z)) is ∙ sym takes ∙ e)) ∙ sym (put p (run_at p a (stmt_code x End) n))
+
+  pub passed_goes : b ≡ false → outcome p ws (run_at p a (chosen_of h (code_of all)) n) ≡ outcome p new (Fell n)
+  passed_goes e = ap (λ z. outcome p ws (run_at p a (chosen_of h (code_of z)) n)) (sym is) ∙ ap (outcome p ws) (run_passes p a x xs h n (ap (λ z. takes_first h (code_of z)) is ∙ sym takes ∙ e)) ∙ sym (put p (Fell n))
+
+-- ---- all of it
+
+pub popped : (p : Plain) (t : Tried Grown) (ws rest : List Work) (w : Work) (n : Now) → t ≡ outcome p ws (Fell n) → ws ≡ rest ++ w ∷ [] → t ≡ outcome p rest (through p w (Fell n))
+popped p t ws rest w n inv e = inv ∙ outcome_one p rest ws w (Fell n) e
+
+pub left_by : (A : Type 0) (p : Plain) (z : Stop) (ws : List Work) (n : Now) (g : Grown) (t u : Tried Grown) → t ≡ u → Steps {A = A} p (Err z) ws n u → Leaves {A = A} (Err z) g t
+left_by A p (stop.Refused r) ws n g t u e s = e ∙ s
+left_by A p stop.NoMemory ws n g t u e s = tt

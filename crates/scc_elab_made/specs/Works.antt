@@ -107,3 +107,9 @@ Puts (Err e) old new f = Unit {0}
 -- one of two branches, by a test
 abbrev pub tested_in : Plain → Stand → Term → Code → Code → Now → Ran
 tested_in p a t one other n = from_tried (worth (at_now (site_at p a) n.grown) t) (λ x. choose_of x (run_at p a one) (run_at p a other) n)
+
+-- this is left, or it is the refusal; or memory is wanted
+abbrev pub Leaves : {A : Type 0} → Result A Stop → Grown → Tried Grown → Type 0
+Leaves (Ok a) g t = t ≡ Made g
+Leaves (Err (stop.Refused z)) g t = t ≡ Stopped z
+Leaves (Err stop.NoMemory) g t = Unit {0}

@@ -17,6 +17,7 @@ pub use elements::{ElementPath, elements_of};
 pub use laws::{initialisers_run_in_order, loops_test_before_turns, statements_run_in_order};
 pub use locals::begin;
 pub use moment::Moment;
+pub use running::run;
 pub use single::simple;
 pub use works::{
     Args, At, ElementsOf, Form, How, LeadOf, LoopOf, MembersOf, RunOf, VectorOf, Work,

@@ -1,9 +1,10 @@
 //! Statements of constructors, one after another.
 ghost use Rattle.std.specs.Prelude.{◌≡◌, ◌≤◌, IfOk, length, Option, take};
+ghost use Rattle.scc_elab_grown.specs.Grown.{grown_of};
 ghost use Rattle.scc_elab_made.specs.Firsts.{IsParts, takes_first};
 ghost use Rattle.scc_elab_made.specs.Passings.{passing_of};
 ghost use Rattle.scc_elab_made.specs.Runs.{now_of};
-ghost use Rattle.scc_elab_made.specs.Works.{at_in, making_at, outcome, Puts, run_at, site_at, Steps, tested_in, through, turns_of, turn_of};
+ghost use Rattle.scc_elab_made.specs.Works.{at_in, chosen_of, Leaves, making_at, outcome, Puts, run_at, site_at, Steps, tested_in, through, turns_of, turn_of};
 ghost use Rattle.scc_elab_made.specs.declared.works.Work.TheVariants as work;
 ghost use Rattle.scc_elab_spec.specs.Construct.{Fell, Left_out, ran_in, shut, then_run};
 ghost use Rattle.scc_elab_spec.specs.Program.{Count, End, Loop};
@@ -226,6 +227,138 @@ fn leave<'t>(p: &Plain, works: &mut Vec<Work<'t>>, m: &Moment, depth: u32) -> Re
                 left -= 1;
             }
             Passing::Stays => return Ok(push(works, work)?),
+        }
+    }
+    Err(Stop::from(lost()))
+}
+
+// The rest of some statements is to be run.
+fn put_rest<'t>(
+    m: &Moment,
+    at: &At<'t>,
+    how: How,
+    list: &'t [PlainStmt],
+    works: &mut Vec<Work<'t>>,
+) -> Result<(), NoMemory>
+    ensures { Puts result works.old.items works.new.items (λ p x. then_run x (run_at p (at_in at.now) (chosen_of how (code_of list.now)))) }
+{
+    let at = at.copied(m.grown.alloc)?;
+    push(works, Work::Run(RunOf { at, how, list }))
+}
+
+// Whether a statement holds others or makes objects.
+fn is_nested(s: &PlainStmt) -> bool {
+    matches!(
+        &s.node,
+        PlainNode::If { .. }
+            | PlainNode::Block(_)
+            | PlainNode::Loop { .. }
+            | PlainNode::Exit(_)
+            | PlainNode::Make { .. }
+    )
+}
+
+fn nested<'t>(
+    p: &Plain,
+    at: &At<'t>,
+    s: &'t PlainStmt,
+    works: &mut Vec<Work<'t>>,
+    m: &Moment,
+) -> Result<(), Stop>
+    ensures { Steps (plain_of p.now) result works.new.items (now_of m.now) (outcome (plain_of p.now) works.old.items (run_at (plain_of p.now) (at_in at.now) (stmt_code s.now End) (now_of m.now))) }
+{
+    match &s.node {
+        PlainNode::If { test, yes, no } => {
+            branch(p, at, test, yes.as_slice(), no.as_slice(), works, m)
+        }
+        PlainNode::Block(body) => Ok(begin_block(m, at, body.as_slice(), works)?),
+        PlainNode::Loop { body, .. } => Ok(begin_loop(m, at, s.place, body.as_slice(), works)?),
+        PlainNode::Exit(n) => leave(p, works, m, *n),
+        _ => Err(Stop::from(lost())),
+    }
+}
+
+fn statement<'t>(
+    p: &Plain,
+    at: &At<'t>,
+    s: &'t PlainStmt,
+    works: &mut Vec<Work<'t>>,
+    m: &mut Moment,
+) -> Result<(), Stop>
+    ensures { Steps (plain_of p.now) result works.new.items (now_of m.new) (outcome (plain_of p.now) works.old.items (run_at (plain_of p.now) (at_in at.now) (stmt_code s.now End) (now_of m.old))) }
+{
+    if is_nested(s) {
+        nested(p, at, s, works, m)
+    } else {
+        simple_at(p, at, m, s, MOST_TURNS)
+    }
+}
+
+// Whether the first of some statements is run.
+fn takes(how: How, list: &[PlainStmt]) -> Result<bool, NoMemory>
+    ensures { IfOk result (λ b. b ≡ takes_first how (code_of list.now)) }
+{
+    match how {
+        How::All => Ok(true),
+        How::Of(_) => Err(lost()),
+        How::Without(_) => Err(lost()),
+    }
+}
+
+fn next_statement<'t>(
+    p: &Plain,
+    r: &RunOf<'t>,
+    works: &mut Vec<Work<'t>>,
+    m: &mut Moment,
+) -> Result<(), Stop>
+    ensures { Steps (plain_of p.now) result works.new.items (now_of m.new) (outcome (plain_of p.now) works.old.items (run_at (plain_of p.now) (at_in r.now.at) (chosen_of r.now.how (code_of r.now.list.now)) (now_of m.old))) }
+{
+    match r.list {
+        [] => Ok(()),
+        [s, rest @ ..] => {
+            let taken = takes(r.how, r.list)?;
+            put_rest(m, &r.at, r.how, rest, works)?;
+            if taken {
+                statement(p, &r.at, s, works, m)
+            } else {
+                Ok(())
+            }
+        }
+    }
+}
+
+// What is next to be done.
+fn step<'t>(
+    p: &Plain,
+    work: &Work<'t>,
+    works: &mut Vec<Work<'t>>,
+    m: &mut Moment,
+) -> Result<(), Stop>
+    ensures { Steps (plain_of p.now) result works.new.items (now_of m.new) (outcome (plain_of p.now) works.old.items (through (plain_of p.now) work.now (Fell (now_of m.old)))) }
+{
+    match work {
+        Work::Run(r) => next_statement(p, r, works, m),
+        Work::Shut => Ok(()),
+        Work::Again(l) => again(p, l, works, m),
+        Work::Turn(l) => turn(p, l, works, m),
+        Work::Lead(_) => Err(Stop::from(lost())),
+        Work::Members(_) => Err(Stop::from(lost())),
+        Work::Elements(_) => Err(Stop::from(lost())),
+        Work::Vector(_) => Err(Stop::from(lost())),
+        Work::Made => Err(Stop::from(lost())),
+    }
+}
+
+/// Does all that is to be done.
+pub fn run<'t>(p: &Plain, works: &mut Vec<Work<'t>>, m: &mut Moment) -> Result<(), Stop>
+    ensures { Leaves result (grown_of m.new.grown) (outcome (plain_of p.now) works.old.items (Fell (now_of m.old))) }
+{
+    for _ in 0..usize::MAX {
+        let Some(work) = works.pop() else {
+            return Ok(());
+        };
+        if let Err(stop) = step(p, &work, works, m) {
+            return Err(stop);
         }
     }
     Err(Stop::from(lost()))
