@@ -6,3 +6,4 @@ pub mod Leading
 pub mod Picking
 pub mod Stepping
 pub mod Standing
+pub mod Params

@@ -3,3 +3,4 @@ pub mod Runs
 pub mod Works
 pub mod Firsts
 pub mod Passings
+pub mod Given

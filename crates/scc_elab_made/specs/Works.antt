@@ -73,13 +73,17 @@ turns_of p l = looped l.left l.place (run_at p (at_in l.at) (code_of l.test.now)
 abbrev pub turn_of : Plain → LoopOf → Now → Ran
 turn_of p l n = turned l.place n (λ n. then_run (run_at p (at_in l.at) (code_of l.body.now) n) (turns_of p l))
 
+-- a pointer leads to what was made at its path
+abbrev pub led : Grown → List Part → Option ℕ → Now
+led g path last = record { grown = with_target g (at_path path) (Some (at_path path)); last = last }
+
 -- what each makes of a run
 abbrev pub through : Plain → Work → Ran → Ran
 through p (work.Run r) x = then_run x (run_at p (at_in r.at) (chosen_of r.how (code_of r.list.now)))
 through p work.Shut x = shut x Fell
 through p (work.Again l) x = then_run x (turns_of p l)
 through p (work.Turn l) x = then_run x (turn_of p l)
-through p (work.Lead l) x = from_tried (grown_by x) (λ g. Fell (record { grown = with_target g (at_path (map part_of l.path.items)) (Some (at_path (map part_of l.path.items))); last = l.last }))
+through p (work.Lead l) x = from_tried (grown_by x) (λ g. Fell (led g (map part_of l.path.items) l.last))
 through p (work.Members m) x = anew (and_made (grown_by x) (made_members (built p m.at.levels) (site_at p (at_in m.at)) m.next (map member_of m.members.now) (code_of m.inits.now)))
 through p (work.Elements e) x = anew (and_made (grown_by x) (over_elements (each_made p e.form e.args) (drop e.next (paths_of e.paths.items))))
 through p (work.Vector v) x = anew (and_made (grown_by x) (over_elements (λ g i. made_one (built p v.levels) g (map part_of v.path.items ++ Element i ∷ []) v.place (base_of v.base) none_given) (range_with_len v.next v.count)))

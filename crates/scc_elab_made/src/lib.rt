@@ -10,6 +10,7 @@ mod moment;
 mod places;
 mod running;
 mod single;
+mod things;
 mod works;
 
 pub use binds::bind;

@@ -1,10 +1,11 @@
 //! Statements of constructors, one after another.
-ghost use Rattle.std.specs.Prelude.{◌≡◌, ◌≤◌, IfOk, length, Option, take};
+ghost use Rattle.std.specs.Prelude.{◌≡◌, ◌≤◌, IfOk, length, map, OnOk, Option, take};
+ghost use Rattle.scc_elab_store.specs.Locations.{part_of};
 ghost use Rattle.scc_elab_grown.specs.Grown.{grown_of};
 ghost use Rattle.scc_elab_made.specs.Firsts.{IsParts, takes_first};
 ghost use Rattle.scc_elab_made.specs.Passings.{passing_of};
 ghost use Rattle.scc_elab_made.specs.Runs.{now_of};
-ghost use Rattle.scc_elab_made.specs.Works.{at_in, chosen_of, Leaves, making_at, outcome, Puts, run_at, site_at, Steps, tested_in, through, turns_of, turn_of};
+ghost use Rattle.scc_elab_made.specs.Works.{at_in, chosen_of, Leaves, led, making_at, outcome, Puts, run_at, site_at, Steps, tested_in, through, turns_of, turn_of};
 ghost use Rattle.scc_elab_made.specs.declared.works.Work.TheVariants as work;
 ghost use Rattle.scc_elab_spec.specs.Construct.{Fell, Left_out, ran_in, shut, then_run};
 ghost use Rattle.scc_elab_spec.specs.Program.{Count, End, Loop};
@@ -15,8 +16,9 @@ ghost use Rattle.scc_plain_view.specs.Terms.{term_of};
 use crate::inits::is_if;
 use crate::moment::Moment;
 use crate::places::{simple_at, value_at};
-use crate::works::{At, How, LoopOf, RunOf, Work};
+use crate::works::{At, How, LeadOf, LoopOf, RunOf, Work};
 use scc_base::{Code, NoMemory, Place, Stop, lost, push};
+use scc_elab_store::Location;
 use scc_plain_tree::{Plain, PlainExpr, PlainNode, PlainStmt};
 
 // One more than there may be in all.
@@ -327,6 +329,17 @@ fn next_statement<'t>(
     }
 }
 
+// A pointer leads to what was made at its path.
+fn lead(l: &LeadOf, m: &mut Moment) -> Result<(), NoMemory>
+    ensures { OnOk result (now_of m.new ≡ led (grown_of m.old.grown) (map part_of l.now.path.items) l.now.last) }
+{
+    let at = Location::below(m.grown.alloc, l.path.as_slice())?;
+    let to = Location::below(m.grown.alloc, l.path.as_slice())?;
+    m.grown.put_target(at, Some(to))?;
+    m.last = l.last;
+    Ok(())
+}
+
 // What is next to be done.
 fn step<'t>(
     p: &Plain,
@@ -341,11 +354,14 @@ fn step<'t>(
         Work::Shut => Ok(()),
         Work::Again(l) => again(p, l, works, m),
         Work::Turn(l) => turn(p, l, works, m),
-        Work::Lead(_) => Err(Stop::from(lost())),
+        Work::Lead(l) => Ok(lead(l, m)?),
         Work::Members(_) => Err(Stop::from(lost())),
         Work::Elements(_) => Err(Stop::from(lost())),
         Work::Vector(_) => Err(Stop::from(lost())),
-        Work::Made => Err(Stop::from(lost())),
+        Work::Made => {
+            m.last = None;
+            Ok(())
+        }
     }
 }
 
