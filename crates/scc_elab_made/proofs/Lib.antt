@@ -7,3 +7,4 @@ pub mod Picking
 pub mod Stepping
 pub mod Standing
 pub mod Params
+pub mod Vectoring

@@ -11,6 +11,7 @@ mod places;
 mod running;
 mod single;
 mod things;
+mod vectors;
 mod works;
 
 pub use binds::bind;

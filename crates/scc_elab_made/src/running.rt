@@ -16,6 +16,7 @@ ghost use Rattle.scc_plain_view.specs.Terms.{term_of};
 use crate::inits::is_if;
 use crate::moment::Moment;
 use crate::places::{simple_at, value_at};
+use crate::vectors::next_of_vector;
 use crate::works::{At, How, LeadOf, LoopOf, RunOf, Work};
 use scc_base::{Code, NoMemory, Place, Stop, lost, push};
 use scc_elab_store::Location;
@@ -357,7 +358,7 @@ fn step<'t>(
         Work::Lead(l) => Ok(lead(l, m)?),
         Work::Members(_) => Err(Stop::from(lost())),
         Work::Elements(_) => Err(Stop::from(lost())),
-        Work::Vector(_) => Err(Stop::from(lost())),
+        Work::Vector(v) => next_of_vector(p, v, works, m),
         Work::Made => {
             m.last = None;
             Ok(())

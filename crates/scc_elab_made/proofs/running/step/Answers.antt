@@ -18,3 +18,6 @@ returns-in-Again c = subst (λ (w : Work). Steps (plain_of c.args.p.now) c.again
 
 pub returns-in-Turn : goal.returns-in-Turn
 returns-in-Turn c = subst (λ (w : Work). Steps (plain_of c.args.p.now) c.turn.result c.turn.new.works.items (now_of c.turn.new.m) (outcome (plain_of c.args.p.now) c.args.works.now.items (through (plain_of c.args.p.now) w (Fell (now_of c.args.m.now))))) (sym c.in-Turn.is) c.turn.ensures
+
+pub returns-in-Vector : goal.returns-in-Vector
+returns-in-Vector c = subst (λ (w : Work). Steps (plain_of c.args.p.now) c.next_of_vector.result c.next_of_vector.new.works.items (now_of c.next_of_vector.new.m) (outcome (plain_of c.args.p.now) c.args.works.now.items (through (plain_of c.args.p.now) w (Fell (now_of c.args.m.now))))) (sym c.in-Vector.is) c.next_of_vector.ensures
