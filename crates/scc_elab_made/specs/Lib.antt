@@ -1,0 +1,6 @@
+pub mod Paths
+pub mod Runs
+pub mod Works
+pub mod Firsts
+pub mod Passings
+pub mod Given

@@ -1,0 +1,382 @@
+//! Statements of constructors, one after another.
+ghost use Rattle.std.specs.Prelude.{◌≡◌, ◌≤◌, IfOk, length, map, OnOk, Option, take};
+ghost use Rattle.scc_elab_store.specs.Locations.{part_of};
+ghost use Rattle.scc_elab_grown.specs.Grown.{grown_of};
+ghost use Rattle.scc_elab_made.specs.Firsts.{IsParts, takes_first};
+ghost use Rattle.scc_elab_made.specs.Passings.{passing_of};
+ghost use Rattle.scc_elab_made.specs.Runs.{now_of};
+ghost use Rattle.scc_elab_made.specs.Works.{at_in, chosen_of, Leaves, led, making_at, outcome, Puts, run_at, site_at, Steps, tested_in, through, turns_of, turn_of};
+ghost use Rattle.scc_elab_made.specs.declared.works.Work.TheVariants as work;
+ghost use Rattle.scc_elab_spec.specs.Construct.{Fell, Left_out, ran_in, shut, then_run};
+ghost use Rattle.scc_elab_spec.specs.Program.{Count, End, Loop};
+ghost use Rattle.scc_plain_view.specs.Codes.{code_of, stmt_code};
+ghost use Rattle.scc_plain_view.specs.Plains.{plain_of};
+ghost use Rattle.scc_plain_view.specs.Terms.{term_of};
+
+use crate::inits::is_if;
+use crate::moment::Moment;
+use crate::places::{simple_at, value_at};
+use crate::vectors::next_of_vector;
+use crate::works::{At, How, LeadOf, LoopOf, RunOf, Work};
+use scc_base::{Code, NoMemory, Place, Stop, lost, push};
+use scc_elab_store::Location;
+use scc_plain_tree::{Plain, PlainExpr, PlainNode, PlainStmt};
+
+// One more than there may be in all.
+const MOST_TURNS: u32 = 65_537;
+
+// All of some statements are to be run.
+fn put_run<'t>(
+    m: &Moment,
+    at: &At<'t>,
+    list: &'t [PlainStmt],
+    works: &mut Vec<Work<'t>>,
+) -> Result<(), NoMemory>
+    ensures { Puts result works.old.items works.new.items (λ p x. then_run x (run_at p (at_in at.now) (code_of list.now))) }
+{
+    let at = at.copied(m.grown.alloc)?;
+    push(
+        works,
+        Work::Run(RunOf {
+            at,
+            how: How::All,
+            list,
+        }),
+    )
+}
+
+// One of two branches.
+#[tactic(auto, using(crate::proofs::Stepping::worth_stops))]
+fn branch<'t>(
+    p: &Plain,
+    at: &At<'t>,
+    test: &PlainExpr,
+    yes: &'t [PlainStmt],
+    no: &'t [PlainStmt],
+    works: &mut Vec<Work<'t>>,
+    m: &Moment,
+) -> Result<(), Stop>
+    ensures { Steps (plain_of p.now) result works.new.items (now_of m.now) (outcome (plain_of p.now) works.old.items (tested_in (plain_of p.now) (at_in at.now) (term_of test.now) (code_of yes.now) (code_of no.now) (now_of m.now))) }
+{
+    match value_at(p, at, &m.grown, test) {
+        Ok(v) => {
+            let taken = if v.is_true() { yes } else { no };
+            Ok(put_run(m, at, taken, works)?)
+        }
+        Err(stop) => Err(stop),
+    }
+}
+
+fn begin_block<'t>(
+    m: &Moment,
+    at: &At<'t>,
+    body: &'t [PlainStmt],
+    works: &mut Vec<Work<'t>>,
+) -> Result<(), NoMemory>
+    ensures { Puts result works.old.items works.new.items (λ p x. shut (then_run x (run_at p (at_in at.now) (code_of body.now))) Fell) }
+{
+    push(works, Work::Shut)?;
+    put_run(m, at, body, works)
+}
+
+/// A loop's own test, and what a turn runs.
+#[derive(Clone, Copy)]
+pub struct LoopParts<'t> {
+    pub test: &'t [PlainStmt],
+    pub turn: &'t [PlainStmt],
+}
+
+fn first_alone(list: &[PlainStmt]) -> &[PlainStmt]
+    requires { 1 ≤ length list.now }
+    ensures { result.now ≡ take 1 list.now }
+{
+    &list[..1]
+}
+
+// A loop whose body begins with an `if` tests by it.
+fn parts_of(list: &[PlainStmt]) -> LoopParts<'_>
+    ensures { IsParts result.test.now result.turn.now list.now }
+{
+    match list {
+        [] => LoopParts {
+            test: list,
+            turn: list,
+        },
+        [first, rest @ ..] => {
+            if is_if(first) {
+                LoopParts {
+                    test: first_alone(list),
+                    turn: rest,
+                }
+            } else {
+                LoopParts {
+                    test: &[],
+                    turn: list,
+                }
+            }
+        }
+    }
+}
+
+fn begin_loop<'t>(
+    m: &Moment,
+    at: &At<'t>,
+    place: Place,
+    body: &'t [PlainStmt],
+    works: &mut Vec<Work<'t>>,
+) -> Result<(), NoMemory>
+    ensures { (c : Option Count) → Puts result works.old.items works.new.items (λ p x. then_run x (run_at p (at_in at.now) (Loop place c (code_of body.now) End))) }
+{
+    let parts = parts_of(body);
+    let at = at.copied(m.grown.alloc)?;
+    push(
+        works,
+        Work::Again(LoopOf {
+            at,
+            left: MOST_TURNS,
+            place,
+            test: parts.test,
+            body: parts.turn,
+        }),
+    )
+}
+
+// A loop tests, if it may have one more turn. Refused as E412.
+fn again<'t>(p: &Plain, l: &LoopOf<'t>, works: &mut Vec<Work<'t>>, m: &Moment) -> Result<(), Stop>
+    ensures { Steps (plain_of p.now) result works.new.items (now_of m.now) (outcome (plain_of p.now) works.old.items (turns_of (plain_of p.now) l.now (now_of m.now))) }
+{
+    if l.left == 0 {
+        return Err(Stop::refused(Code::ConstructionTurns, l.place));
+    }
+    let at = l.at.copied(m.grown.alloc)?;
+    push(
+        works,
+        Work::Turn(LoopOf {
+            at,
+            left: l.left - 1,
+            place: l.place,
+            test: l.test,
+            body: l.body,
+        }),
+    )?;
+    Ok(put_run(m, &l.at, l.test, works)?)
+}
+
+// A turn begins that the test let in. Refused as E412.
+fn turn<'t>(
+    p: &Plain,
+    l: &LoopOf<'t>,
+    works: &mut Vec<Work<'t>>,
+    m: &mut Moment,
+) -> Result<(), Stop>
+    ensures { Steps (plain_of p.now) result works.new.items (now_of m.new) (outcome (plain_of p.now) works.old.items (turn_of (plain_of p.now) l.now (now_of m.old))) }
+{
+    if !m.grown.turn() {
+        return Err(Stop::refused(Code::ConstructionTurns, l.place));
+    }
+    let at = l.at.copied(m.grown.alloc)?;
+    push(
+        works,
+        Work::Again(LoopOf {
+            at,
+            left: l.left,
+            place: l.place,
+            test: l.test,
+            body: l.body,
+        }),
+    )?;
+    Ok(put_run(m, &l.at, l.body, works)?)
+}
+
+/// What leaving a block does to what is still to be done: it is left, too, or is the block's end, or stays.
+#[derive(Clone, Copy)]
+pub enum Passing {
+    Left,
+    Shut,
+    Stays,
+}
+
+fn kind_of(w: &Work) -> Passing
+    ensures { result ≡ passing_of w.now }
+{
+    match w {
+        Work::Run(_) => Passing::Left,
+        Work::Again(_) => Passing::Left,
+        Work::Turn(_) => Passing::Left,
+        Work::Shut => Passing::Shut,
+        Work::Lead(_) => Passing::Stays,
+        Work::Members(_) => Passing::Stays,
+        Work::Elements(_) => Passing::Stays,
+        Work::Vector(_) => Passing::Stays,
+        Work::Made => Passing::Stays,
+    }
+}
+
+// A block is left, by its number counted outward from 0; past the constructor's own statements there is none to be left.
+fn leave<'t>(p: &Plain, works: &mut Vec<Work<'t>>, m: &Moment, depth: u32) -> Result<(), Stop>
+    ensures { Steps (plain_of p.now) result works.new.items (now_of m.now) (outcome (plain_of p.now) works.old.items (Left_out depth (now_of m.now))) }
+{
+    let mut left = depth;
+    for _ in 0..usize::MAX {
+        let Some(work) = works.pop() else {
+            return Ok(());
+        };
+        match kind_of(&work) {
+            Passing::Left => {}
+            Passing::Shut => {
+                if left == 0 {
+                    return Ok(());
+                }
+                left -= 1;
+            }
+            Passing::Stays => return Ok(push(works, work)?),
+        }
+    }
+    Err(Stop::from(lost()))
+}
+
+// The rest of some statements is to be run.
+fn put_rest<'t>(
+    m: &Moment,
+    at: &At<'t>,
+    how: How,
+    list: &'t [PlainStmt],
+    works: &mut Vec<Work<'t>>,
+) -> Result<(), NoMemory>
+    ensures { Puts result works.old.items works.new.items (λ p x. then_run x (run_at p (at_in at.now) (chosen_of how (code_of list.now)))) }
+{
+    let at = at.copied(m.grown.alloc)?;
+    push(works, Work::Run(RunOf { at, how, list }))
+}
+
+// Whether a statement holds others or makes objects.
+fn is_nested(s: &PlainStmt) -> bool {
+    matches!(
+        &s.node,
+        PlainNode::If { .. }
+            | PlainNode::Block(_)
+            | PlainNode::Loop { .. }
+            | PlainNode::Exit(_)
+            | PlainNode::Make { .. }
+    )
+}
+
+fn nested<'t>(
+    p: &Plain,
+    at: &At<'t>,
+    s: &'t PlainStmt,
+    works: &mut Vec<Work<'t>>,
+    m: &Moment,
+) -> Result<(), Stop>
+    ensures { Steps (plain_of p.now) result works.new.items (now_of m.now) (outcome (plain_of p.now) works.old.items (run_at (plain_of p.now) (at_in at.now) (stmt_code s.now End) (now_of m.now))) }
+{
+    match &s.node {
+        PlainNode::If { test, yes, no } => {
+            branch(p, at, test, yes.as_slice(), no.as_slice(), works, m)
+        }
+        PlainNode::Block(body) => Ok(begin_block(m, at, body.as_slice(), works)?),
+        PlainNode::Loop { body, .. } => Ok(begin_loop(m, at, s.place, body.as_slice(), works)?),
+        PlainNode::Exit(n) => leave(p, works, m, *n),
+        _ => Err(Stop::from(lost())),
+    }
+}
+
+fn statement<'t>(
+    p: &Plain,
+    at: &At<'t>,
+    s: &'t PlainStmt,
+    works: &mut Vec<Work<'t>>,
+    m: &mut Moment,
+) -> Result<(), Stop>
+    ensures { Steps (plain_of p.now) result works.new.items (now_of m.new) (outcome (plain_of p.now) works.old.items (run_at (plain_of p.now) (at_in at.now) (stmt_code s.now End) (now_of m.old))) }
+{
+    if is_nested(s) {
+        nested(p, at, s, works, m)
+    } else {
+        simple_at(p, at, m, s, MOST_TURNS)
+    }
+}
+
+// Whether the first of some statements is run.
+fn takes(how: How, list: &[PlainStmt]) -> Result<bool, NoMemory>
+    ensures { IfOk result (λ b. b ≡ takes_first how (code_of list.now)) }
+{
+    match how {
+        How::All => Ok(true),
+        How::Of(_) => Err(lost()),
+        How::Without(_) => Err(lost()),
+    }
+}
+
+fn next_statement<'t>(
+    p: &Plain,
+    r: &RunOf<'t>,
+    works: &mut Vec<Work<'t>>,
+    m: &mut Moment,
+) -> Result<(), Stop>
+    ensures { Steps (plain_of p.now) result works.new.items (now_of m.new) (outcome (plain_of p.now) works.old.items (run_at (plain_of p.now) (at_in r.now.at) (chosen_of r.now.how (code_of r.now.list.now)) (now_of m.old))) }
+{
+    match r.list {
+        [] => Ok(()),
+        [s, rest @ ..] => {
+            let taken = takes(r.how, r.list)?;
+            put_rest(m, &r.at, r.how, rest, works)?;
+            if taken {
+                statement(p, &r.at, s, works, m)
+            } else {
+                Ok(())
+            }
+        }
+    }
+}
+
+// A pointer leads to what was made at its path.
+fn lead(l: &LeadOf, m: &mut Moment) -> Result<(), NoMemory>
+    ensures { OnOk result (now_of m.new ≡ led (grown_of m.old.grown) (map part_of l.now.path.items) l.now.last) }
+{
+    let at = Location::below(m.grown.alloc, l.path.as_slice())?;
+    let to = Location::below(m.grown.alloc, l.path.as_slice())?;
+    m.grown.put_target(at, Some(to))?;
+    m.last = l.last;
+    Ok(())
+}
+
+// What is next to be done.
+fn step<'t>(
+    p: &Plain,
+    work: &Work<'t>,
+    works: &mut Vec<Work<'t>>,
+    m: &mut Moment,
+) -> Result<(), Stop>
+    ensures { Steps (plain_of p.now) result works.new.items (now_of m.new) (outcome (plain_of p.now) works.old.items (through (plain_of p.now) work.now (Fell (now_of m.old)))) }
+{
+    match work {
+        Work::Run(r) => next_statement(p, r, works, m),
+        Work::Shut => Ok(()),
+        Work::Again(l) => again(p, l, works, m),
+        Work::Turn(l) => turn(p, l, works, m),
+        Work::Lead(l) => Ok(lead(l, m)?),
+        Work::Members(_) => Err(Stop::from(lost())),
+        Work::Elements(_) => Err(Stop::from(lost())),
+        Work::Vector(v) => next_of_vector(p, v, works, m),
+        Work::Made => {
+            m.last = None;
+            Ok(())
+        }
+    }
+}
+
+/// Does all that is to be done.
+pub fn run<'t>(p: &Plain, works: &mut Vec<Work<'t>>, m: &mut Moment) -> Result<(), Stop>
+    ensures { Leaves result (grown_of m.new.grown) (outcome (plain_of p.now) works.old.items (Fell (now_of m.old))) }
+{
+    for _ in 0..usize::MAX {
+        let Some(work) = works.pop() else {
+            return Ok(());
+        };
+        if let Err(stop) = step(p, &work, works, m) {
+            return Err(stop);
+        }
+    }
+    Err(Stop::from(lost()))
+}

@@ -1,0 +1,208 @@
+//! What construction has still to do. Constructors nest as deep as there are objects, blocks as deep as a `switch` has labels, so what is
+//! still to be done is kept in a list.
+ghost use Rattle.std.specs.Prelude.{◌≡◌, IfOk};
+ghost use Rattle.scc_elab_made.specs.Works.{at_in};
+
+use crate::elements::ElementPath;
+use scc_base::{NoMemory, Place};
+use scc_elab_store::Part;
+use scc_plain_tree::{Base, PlainArg, PlainFunction, PlainMember, PlainStmt};
+use std::alloc::Global;
+
+/// The constructor of an object that stands at a path, and how many constructors may run inside it. A class without a constructor has
+/// no function.
+pub struct At<'t> {
+    pub function: Option<&'t PlainFunction>,
+    pub object: u32,
+    pub path: Vec<Part>,
+    pub levels: u32,
+}
+
+impl<'t> Drop for At<'t> {
+    fn drop(self) {
+        let At {
+            function: _function,
+            object: _object,
+            path: _path,
+            levels: _levels,
+        } = self;
+    }
+}
+
+impl<'t> At<'t> {
+    /// The same.
+    pub fn copied(&self, alloc: Global) -> Result<At<'t>, NoMemory>
+        ensures { IfOk result (λ a. at_in a ≡ at_in self.now) }
+    {
+        Ok(At {
+            function: self.function,
+            object: self.object,
+            path: Vec::from_slice(alloc, self.path.as_slice())?,
+            levels: self.levels,
+        })
+    }
+}
+
+/// Which of some statements run: all, the initialisers of a member or of none, or those of a member that make nothing.
+#[derive(Clone, Copy)]
+pub enum How {
+    All,
+    Of(Option<u32>),
+    Without(u32),
+}
+
+/// Statements of a constructor.
+pub struct RunOf<'t> {
+    pub at: At<'t>,
+    pub how: How,
+    pub list: &'t [PlainStmt],
+}
+
+impl<'t> Drop for RunOf<'t> {
+    fn drop(self) {
+        let RunOf {
+            at: _at,
+            how: _how,
+            list: _list,
+        } = self;
+    }
+}
+
+/// A loop, which may have so many turns more. Its test is a list of one `if`, or empty.
+pub struct LoopOf<'t> {
+    pub at: At<'t>,
+    pub left: u32,
+    pub place: Place,
+    pub test: &'t [PlainStmt],
+    pub body: &'t [PlainStmt],
+}
+
+impl<'t> Drop for LoopOf<'t> {
+    fn drop(self) {
+        let LoopOf {
+            at: _at,
+            left: _left,
+            place: _place,
+            test: _test,
+            body: _body,
+        } = self;
+    }
+}
+
+/// A pointer at a path is given the object that was made there; the last process of the constructor in which `new` stands.
+pub struct LeadOf {
+    pub path: Vec<Part>,
+    pub last: Option<u32>,
+}
+
+impl Drop for LeadOf {
+    fn drop(self) {
+        let LeadOf {
+            path: _path,
+            last: _last,
+        } = self;
+    }
+}
+
+/// The members of an object's class from one on.
+pub struct MembersOf<'t> {
+    pub at: At<'t>,
+    pub next: u32,
+    pub members: &'t [PlainMember],
+    pub inits: &'t [PlainStmt],
+}
+
+impl<'t> Drop for MembersOf<'t> {
+    fn drop(self) {
+        let MembersOf {
+            at: _at,
+            next: _next,
+            members: _members,
+            inits: _inits,
+        } = self;
+    }
+}
+
+/// Arguments, evaluated in a constructor that runs.
+pub struct Args<'t> {
+    pub at: At<'t>,
+    pub list: &'t [PlainArg],
+}
+
+impl<'t> Drop for Args<'t> {
+    fn drop(self) {
+        let Args {
+            at: _at,
+            list: _list,
+        } = self;
+    }
+}
+
+/// What each element of an array is: a pointer or reference, or a thing or vector of a base.
+#[derive(Clone, Copy)]
+pub struct Form {
+    pub is_pointer: bool,
+    pub is_vector: bool,
+    pub base: Base,
+    pub place: Place,
+}
+
+/// The elements of an array from one on.
+pub struct ElementsOf<'t> {
+    pub form: Form,
+    pub args: Args<'t>,
+    pub paths: Vec<ElementPath>,
+    pub next: usize,
+}
+
+impl<'t> Drop for ElementsOf<'t> {
+    fn drop(self) {
+        let ElementsOf {
+            form: _form,
+            args: _args,
+            paths: _paths,
+            next: _next,
+        } = self;
+    }
+}
+
+/// So many elements of a vector from one on.
+pub struct VectorOf {
+    pub levels: u32,
+    pub path: Vec<Part>,
+    pub next: u32,
+    pub count: u32,
+    pub base: Base,
+    pub place: Place,
+}
+
+impl Drop for VectorOf {
+    fn drop(self) {
+        let VectorOf {
+            levels: _levels,
+            path: _path,
+            next: _next,
+            count: _count,
+            base: _base,
+            place: _place,
+        } = self;
+    }
+}
+
+/// What is still to be done.
+#[derive(Drop)]
+pub enum Work<'t> {
+    Run(RunOf<'t>),
+    /// A block's end.
+    Shut,
+    /// A loop's own test.
+    Again(LoopOf<'t>),
+    /// The test let a turn in.
+    Turn(LoopOf<'t>),
+    Lead(LeadOf),
+    Members(MembersOf<'t>),
+    Elements(ElementsOf<'t>),
+    Vector(VectorOf),
+    /// An object is made.
+    Made,
+}
