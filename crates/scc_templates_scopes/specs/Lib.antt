@@ -1,1 +1,4 @@
 pub mod Refusals
+pub mod Walks
+pub mod Applied
+pub mod Joins

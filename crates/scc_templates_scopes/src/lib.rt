@@ -6,6 +6,7 @@
 #![tactic(auto)]
 
 pub mod chain;
+pub mod constant;
 pub mod entry;
 pub mod index;
 pub mod join;
