@@ -1,2 +1,4 @@
 pub mod Known
 pub mod Terms
+pub mod Joining
+pub mod Joined
