@@ -2,3 +2,4 @@ pub mod Refusals
 pub mod Walks
 pub mod Applied
 pub mod Joins
+pub mod Chains

@@ -11,6 +11,7 @@ pub mod entry;
 pub mod index;
 pub mod join;
 pub mod kinds;
+pub mod laws;
 pub mod layers;
 pub mod operator;
 pub mod refuse;
