@@ -2,3 +2,4 @@ pub mod Known
 pub mod Terms
 pub mod Joining
 pub mod Joined
+pub mod Standing

@@ -1,3 +1,4 @@
 pub mod Refusals
 pub mod Views
 pub mod Joins
+pub mod Forms

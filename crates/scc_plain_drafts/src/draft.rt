@@ -1,13 +1,13 @@
 //! Expressions with what is known of them. Each conversion is written out.
-ghost use Rattle.std.specs.Prelude.{◌≡◌, IfErr, IfOk, IfSome, None, Some, option_map, true};
+ghost use Rattle.std.specs.Prelude.{◌≡◌, IfErr, IfOk, IfSome, None, Some, option_map, true, unwrap_or};
 ghost use Rattle.scc_bits.specs.Values.{kind_of};
 ghost use Rattle.scc_plain_drafts.specs.Refusals.{MayStop};
 ghost use Rattle.scc_plain_drafts.specs.Views.{Drafts, Is, Sound, choice, draft_of, known_choice, operation, operation_alone};
 ghost use Rattle.scc_plain_spec.specs.Drafts as spec;
 ghost use Rattle.scc_plain_spec.specs.Numbers.{answered, divides, is_shift, stored_in};
 ghost use Rattle.scc_templates_spec.specs.Walk.{same_kind};
-ghost use Rattle.scc_elab_spec.specs.Term.{Binary, Unary};
-ghost use Rattle.scc_plain_view.specs.Terms.{term_of};
+ghost use Rattle.scc_elab_spec.specs.Term.{Binary, Load, Read, Unary};
+ghost use Rattle.scc_plain_view.specs.Terms.{picked, taken_of, term_of};
 
 use crate::refusal::refuse;
 use scc_base::{Boxed, Code, NoMemory, Place, Stop, lost};
@@ -59,12 +59,20 @@ pub fn literal(alloc: Global, place: Place, v: Value) -> Result<Draft, NoMemory>
 }
 
 /// What a variable holds.
-pub fn load(alloc: Global, place: Place, kind: Kind, left: PlainLeft) -> Result<Draft, NoMemory> {
+pub fn load(alloc: Global, place: Place, kind: Kind, left: PlainLeft) -> Result<Draft, NoMemory>
+    ensures is { IfOk result (λ x. draft_of x ≡ spec.drafted place (picked place kind (Load place (unwrap_or (taken_of left).of kind) (taken_of left).left) (taken_of left).pick)) }
+    ensures kind { IfOk result (λ x. x.expr.kind ≡ kind) }
+    ensures place { IfOk result (λ x. x.expr.place ≡ place) }
+{
     made(alloc, place, kind, PlainExprNode::Load(left), None)
 }
 
 /// What a port or signal shows.
-pub fn read(alloc: Global, place: Place, kind: Kind, left: PlainLeft) -> Result<Draft, NoMemory> {
+pub fn read(alloc: Global, place: Place, kind: Kind, left: PlainLeft) -> Result<Draft, NoMemory>
+    ensures is { IfOk result (λ x. draft_of x ≡ spec.drafted place (picked place kind (Read place (unwrap_or (taken_of left).of kind) (taken_of left).left) (taken_of left).pick)) }
+    ensures kind { IfOk result (λ x. x.expr.kind ≡ kind) }
+    ensures place { IfOk result (λ x. x.expr.place ≡ place) }
+{
     made(alloc, place, kind, PlainExprNode::Read(left), None)
 }
 

@@ -1,4 +1,8 @@
 //! What variables hold, and locations.
+ghost use Rattle.std.specs.Prelude.{◌≡◌};
+ghost use Rattle.scc_plain_drafts.specs.Forms.{Classes, base_in, form_in};
+ghost use Rattle.scc_plain_spec.specs.Forms as spec;
+
 use scc_base::{NoMemory, lost};
 use scc_bits::Kind;
 use scc_plain_tree::{Base, PlainLeft, Reach, Shape};
@@ -57,7 +61,9 @@ pub fn number_kind(t: TypeOf) -> Option<Kind> {
 
 impl Form {
     /// That of one thing by itself.
-    pub fn direct(base: Base) -> Form {
+    pub fn direct(base: Base) -> Form
+        ensures { (n : Classes) → form_in n result ≡ spec.direct (base_in n base) }
+    {
         Form {
             base,
             reach: Reach::Direct,
@@ -77,13 +83,23 @@ impl Form {
     }
 
     /// Whether it is a pointer, or arrays of them.
-    pub fn is_pointer(self) -> bool {
+    pub fn is_pointer(self) -> bool
+        ensures { (n : Classes) → result ≡ spec.is_pointer (form_in n self) }
+    {
         self.reach == Reach::Pointer
     }
 
     /// Whether nothing of an array, vector or pointer is left to take.
-    pub fn is_whole(self) -> bool {
-        self.dims == 0 && !self.vector && !self.is_pointer()
+    pub fn is_whole(self) -> bool
+        ensures { (n : Classes) → result ≡ spec.is_whole (form_in n self) }
+    {
+        if self.dims != 0 {
+            return false;
+        }
+        if self.vector {
+            return false;
+        }
+        !self.is_pointer()
     }
 
     /// Whether two hold things of one type.
@@ -92,7 +108,9 @@ impl Form {
     }
 
     /// The kind of a port's or signal's value.
-    pub fn port_kind(self) -> Option<Kind> {
+    pub fn port_kind(self) -> Option<Kind>
+        ensures { (n : Classes) → result ≡ spec.port_kind (base_in n self.base) }
+    {
         match self.base {
             Base::Input(kind) | Base::Output(kind) | Base::Signal(kind) => Some(kind),
             _ => None,
@@ -100,7 +118,9 @@ impl Form {
     }
 
     /// The kind of a number's, port's or signal's value.
-    pub fn value_kind(self) -> Option<Kind> {
+    pub fn value_kind(self) -> Option<Kind>
+        ensures { (n : Classes) → result ≡ spec.value_kind (base_in n self.base) }
+    {
         match self.base {
             Base::Number(kind) => Some(kind),
             _ => self.port_kind(),
@@ -108,8 +128,13 @@ impl Form {
     }
 
     /// Whether it is one port or signal.
-    pub fn is_port(self) -> bool {
-        self.is_whole() && self.port_kind().is_some()
+    pub fn is_port(self) -> bool
+        ensures { (n : Classes) → result ≡ spec.is_port (form_in n self) }
+    {
+        if !self.is_whole() {
+            return false;
+        }
+        self.port_kind().is_some()
     }
 }
 

@@ -1,5 +1,8 @@
 //! What expressions name before they are taken as values.
-ghost use Rattle.std.specs.Prelude.{IfErr};
+ghost use Rattle.std.specs.Prelude.{◌≡◌, IfErr, None, true};
+ghost use Rattle.scc_plain_drafts.specs.Forms.{Classes, SoundLoc, SoundSubject, form_in, loc_in, number_in, subject_in};
+ghost use Rattle.scc_plain_drafts.specs.Views.{Drafts};
+ghost use Rattle.scc_plain_spec.specs.Forms as spec;
 ghost use Rattle.scc_plain_drafts.specs.Refusals.{MayStop};
 
 use crate::call::{Call, of_method, of_subject};
@@ -8,6 +11,7 @@ use crate::form::{Form, Loc};
 use crate::refusal::{gone, refuse};
 use crate::target::{at_location, behind};
 use scc_base::{Code, Name, Place, Stop};
+use scc_bits::Kind;
 use scc_plain_tree::{Base, PlainBase, PlainExprNode, PlainLeft, PlainTarget, Reach};
 use scc_templates::InstanceId;
 use std::alloc::Global;
@@ -114,6 +118,7 @@ impl Subject {
     /// It as a value; E304 at the place where it is none.
     pub fn value(self, alloc: Global, place: Place) -> Result<Draft, Stop>
         ensures stop { IfErr result MayStop }
+        ensures is { (n : Classes) → SoundSubject self → Drafts result (spec.subject_value place (subject_in n self)) }
     {
         match self {
             Subject::Value(x) => Ok(x),
@@ -283,15 +288,33 @@ impl Meant {
 // What a variable, port or signal holds.
 fn value_at(alloc: Global, l: Loc, place: Place) -> Result<Draft, Stop>
     ensures stop { IfErr result MayStop }
+    ensures is { (n : Classes) → SoundLoc l → Drafts result (spec.value_at place (loc_in n l)) }
 {
     if !l.form.is_whole() {
         return refuse(Code::Mismatch, place);
     }
-    match l.form.base {
-        Base::Number(kind) => Ok(load(alloc, place, l.pick.unwrap_or(kind), l.left)?),
-        Base::Input(kind) | Base::Output(kind) | Base::Signal(kind) => {
-            Ok(read(alloc, place, kind, l.left)?)
-        }
-        Base::Class(_) | Base::ModuleName => refuse(Code::Mismatch, place),
+    match number_in(l.form.base) {
+        Some(kind) => Ok(load(alloc, place, l.pick.unwrap_or(kind), l.left)?),
+        None => shown_at(alloc, l, place),
+    }
+}
+
+// What a port or signal shows.
+fn shown_at(alloc: Global, l: Loc, place: Place) -> Result<Draft, Stop>
+    ensures stop { IfErr result MayStop }
+    ensures is { (n : Classes) → spec.is_whole (form_in n l.form) ≡ true → number_in l.form.base ≡ None → SoundLoc l → Drafts result (spec.value_at place (loc_in n l)) }
+{
+    match l.form.port_kind() {
+        Some(kind) => Ok(read(alloc, place, kind, l.left)?),
+        None => refuse(Code::Mismatch, place),
+    }
+}
+
+fn number_in(base: Base) -> Option<Kind>
+    ensures { result ≡ number_in base }
+{
+    match base {
+        Base::Number(kind) => Some(kind),
+        _ => None,
     }
 }
