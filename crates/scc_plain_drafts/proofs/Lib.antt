@@ -3,3 +3,4 @@ pub mod Terms
 pub mod Joining
 pub mod Joined
 pub mod Standing
+pub mod Leading

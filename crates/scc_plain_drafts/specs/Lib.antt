@@ -2,3 +2,4 @@ pub mod Refusals
 pub mod Views
 pub mod Joins
 pub mod Forms
+pub mod Meaning

@@ -1,5 +1,5 @@
 //! What variables hold, and locations.
-ghost use Rattle.std.specs.Prelude.{◌≡◌};
+ghost use Rattle.std.specs.Prelude.{◌≡◌, None};
 ghost use Rattle.scc_plain_drafts.specs.Forms.{Classes, base_in, form_in};
 ghost use Rattle.scc_plain_spec.specs.Forms as spec;
 
@@ -140,7 +140,9 @@ impl Form {
 
 impl Loc {
     /// A location of which no bits are picked.
-    pub fn new(left: PlainLeft, form: Form) -> Loc {
+    pub fn new(left: PlainLeft, form: Form) -> Loc
+        ensures { result ≡ record { left = left; form = form; pick = None } }
+    {
         Loc {
             left,
             form,

@@ -1,15 +1,19 @@
 //! What expressions name before they are taken as values.
-ghost use Rattle.std.specs.Prelude.{◌≡◌, IfErr, None, true};
+ghost use Rattle.std.specs.Prelude.{◌≡◌, IfErr, None, option_map, true};
 ghost use Rattle.scc_plain_drafts.specs.Forms.{Classes, SoundLoc, SoundSubject, form_in, loc_in, number_in, subject_in};
 ghost use Rattle.scc_plain_drafts.specs.Views.{Drafts};
 ghost use Rattle.scc_plain_spec.specs.Forms as spec;
+ghost use Rattle.scc_plain_spec.specs.Meant.{followed, location, own_object, taken};
+ghost use Rattle.scc_plain_spec.specs.Methods.{brackets};
+ghost use Rattle.scc_plain_view.specs.Terms.{left_of};
+ghost use Rattle.scc_plain_drafts.specs.Meaning.{Locates, SoundMeant, call_in, meant_in, owner_in};
 ghost use Rattle.scc_plain_drafts.specs.Refusals.{MayStop};
 
 use crate::call::{Call, of_method, of_subject};
 use crate::draft::{Draft, load, read};
 use crate::form::{Form, Loc};
 use crate::refusal::{gone, refuse};
-use crate::target::{at_location, behind};
+use crate::target::{at_location, behind, own_object};
 use scc_base::{Code, Name, Place, Stop};
 use scc_bits::Kind;
 use scc_plain_tree::{Base, PlainBase, PlainExprNode, PlainLeft, PlainTarget, Reach};
@@ -103,7 +107,9 @@ impl Drop for Meant {
 
 impl Subject {
     /// The location, where it is one without picked bits.
-    pub fn location(self) -> Option<PlainLeft> {
+    pub fn location(self) -> Option<PlainLeft>
+        ensures { (n : Classes) → option_map left_of result ≡ spec.location_in (subject_in n self) }
+    {
         match self {
             Subject::Loc(l) => {
                 if l.pick.is_some() {
@@ -153,17 +159,24 @@ impl Meant {
     }
 
     /// The location, where it is one without picked bits.
-    pub fn location(self) -> Option<PlainLeft> {
-        self.subject()?.location()
+    pub fn location(self) -> Option<PlainLeft>
+        ensures { (n : Classes) → option_map left_of result ≡ location (meant_in n self) }
+    {
+        match self {
+            Meant::Loc(l) => Subject::Loc(l).location(),
+            _ => None,
+        }
     }
 
     /// It as a value; E304 at the place where it is none.
     pub fn value(self, alloc: Global, place: Place) -> Result<Draft, Stop>
         ensures stop { IfErr result MayStop }
+        ensures is { (n : Classes) → SoundMeant self → Drafts result (taken place (meant_in n self)) }
     {
-        match self.subject() {
-            Some(of) => of.value(alloc, place),
-            None => refuse(Code::Mismatch, place), // E304
+        match self {
+            Meant::Value(x) => Ok(x),
+            Meant::Loc(l) => value_at(alloc, l, place),
+            _ => refuse(Code::Mismatch, place), // E304
         }
     }
 
@@ -176,7 +189,9 @@ impl Meant {
     }
 
     /// What brackets with so many arguments are after it.
-    pub fn call(self, count: usize) -> Call {
+    pub fn call(self, count: usize) -> Call
+        ensures { (n : Classes) → call_in n result ≡ brackets count (meant_in n self) }
+    {
         match self {
             Meant::Function {
                 scope,
@@ -252,15 +267,10 @@ impl Meant {
     /// What it leads to as a pointer; `own` is the instance whose body it is. E304 where it is none.
     pub fn followed(self, alloc: Global, own: Option<InstanceId>, place: Place) -> Result<Loc, Stop>
         ensures stop { IfErr result MayStop }
+        ensures is { (n : Classes) → SoundMeant self → Locates n result (followed place (owner_in n own) (meant_in n self)) }
     {
         match self {
-            Meant::This => match own {
-                Some(i) => {
-                    let left = PlainLeft::new(alloc, place, PlainBase::This);
-                    Ok(Loc::new(left, Form::direct(Base::Class(i.0))))
-                }
-                None => gone(),
-            },
+            Meant::This => this_object(alloc, own, place),
             Meant::Address(l) => Ok(l),
             Meant::Loc(l) => behind(alloc, l, place),
             _ => refuse(Code::Mismatch, place),
@@ -283,6 +293,17 @@ impl Meant {
             _ => false,
         }
     }
+}
+
+// The object whose function this is, in a body of a class.
+fn this_object(alloc: Global, own: Option<InstanceId>, place: Place) -> Result<Loc, Stop>
+    ensures stop { IfErr result MayStop }
+    ensures is { (n : Classes) → Locates n result (own_object place (owner_in n own)) }
+{
+    let Some(i) = own else {
+        return gone();
+    };
+    Ok(Loc::new(own_object(alloc, place), Form::direct(Base::Class(i.0))))
 }
 
 // What a variable, port or signal holds.
