@@ -1,7 +1,8 @@
 -- What variables hold and where they stand, as the definitions have it: a class by its number in a table of classes with arguments. This project's own.
-use Rattle.std.specs.Prelude.{◌≡◌, ℕ, Option, Some, None, option_map}
+use Rattle.std.specs.Prelude.{◌≡◌, ℕ, nat_eq, ◌&&◌, Option, Some, None, option_map}
 use Rattle.scc_bits_kinds.specs.declared.kind.Kind.{Kind}
 use Rattle.scc_bits_kinds.specs.declared.kind.Kind.TheVariants as kind
+use Rattle.scc_templates_spec.specs.Walk.{same_args}
 use Rattle.scc_plain_tree.specs.declared.program.Base.{Base as Held}
 use Rattle.scc_plain_tree.specs.declared.program.Base.TheVariants as held
 use Rattle.scc_elab_spec.specs.Term.{Pick, Whole, OneBit, Bits}
@@ -29,6 +30,11 @@ base_in n (held.Input k) = InPort k
 base_in n (held.Output k) = OutPort k
 base_in n (held.Signal k) = OfSignal k
 base_in n held.ModuleName = OfName
+
+-- Two classes are told apart by their numbers.
+abbrev pub AreTold : Classes → Held → Held → Type 0
+AreTold n (held.Class i) (held.Class j) = (nat_eq (n i).class (n j).class && same_args (n i).args (n j).args) ≡ nat_eq i j
+AreTold n b c = Unit {0}
 
 abbrev pub number_in : Held → Option Kind
 number_in (held.Number k) = Some k

@@ -88,7 +88,7 @@ pub fn bits(
     made(alloc, place, kind, node, None)
 }
 
-fn is_kind(a: Kind, b: Kind) -> bool
+pub(crate) fn is_kind(a: Kind, b: Kind) -> bool
     ensures is { result ≡ same_kind a b }
     ensures same { result ≡ true → a ≡ b }
 {

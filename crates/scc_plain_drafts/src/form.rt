@@ -1,8 +1,10 @@
 //! What variables hold, and locations.
 ghost use Rattle.std.specs.Prelude.{◌≡◌, None};
-ghost use Rattle.scc_plain_drafts.specs.Forms.{Classes, base_in, form_in};
+ghost use Rattle.scc_plain_drafts.specs.Forms.{AreTold, Classes, base_in, form_in};
 ghost use Rattle.scc_plain_spec.specs.Forms as spec;
+ghost use Rattle.scc_plain_spec.specs.Types.{same_base};
 
+use crate::draft::is_kind;
 use scc_base::{NoMemory, lost};
 use scc_bits::Kind;
 use scc_plain_tree::{Base, PlainLeft, Reach, Shape};
@@ -39,6 +41,20 @@ pub fn base_of(base: templates::Base) -> Base {
         templates::Base::Output(kind) => Base::Output(kind),
         templates::Base::Signal(kind) => Base::Signal(kind),
         templates::Base::ModuleName => Base::ModuleName,
+    }
+}
+
+fn is_same(a: Base, b: Base) -> bool
+    ensures { (n : Classes) → AreTold n a b → result ≡ same_base (base_in n a) (base_in n b) }
+{
+    match (a, b) {
+        (Base::Number(j), Base::Number(k)) => is_kind(j, k),
+        (Base::Class(i), Base::Class(j)) => i == j,
+        (Base::Input(j), Base::Input(k)) => is_kind(j, k),
+        (Base::Output(j), Base::Output(k)) => is_kind(j, k),
+        (Base::Signal(j), Base::Signal(k)) => is_kind(j, k),
+        (Base::ModuleName, Base::ModuleName) => true,
+        _ => false,
     }
 }
 
@@ -103,8 +119,13 @@ impl Form {
     }
 
     /// Whether two hold things of one type.
-    pub fn is_like(self, other: Form) -> bool {
-        self.base == other.base && self.vector == other.vector
+    pub fn is_like(self, other: Form) -> bool
+        ensures { (n : Classes) → AreTold n self.base other.base → result ≡ spec.is_like (form_in n self) (form_in n other) }
+    {
+        if !is_same(self.base, other.base) {
+            return false;
+        }
+        self.vector == other.vector
     }
 
     /// The kind of a port's or signal's value.

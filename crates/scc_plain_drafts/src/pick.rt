@@ -1,7 +1,8 @@
 //! Elements of arrays and vectors, bits, ranges of bits, and calls of the language on numbers (IEEE 1666-2011, 7.2 and 8.5).
 ghost use Rattle.std.specs.Prelude.{◌≡◌, ◌<◌, ◌≤◌, IfErr, IfSome, is_some, nat_eq};
-ghost use Rattle.scc_plain_drafts.specs.Forms.{Classes, SoundSubject, method_number, subject_in};
+ghost use Rattle.scc_plain_drafts.specs.Forms.{Classes, SoundSubject, form_in, method_number, subject_in};
 ghost use Rattle.scc_plain_drafts.specs.Views.{Drafts, Sound, draft_of};
+ghost use Rattle.scc_plain_spec.specs.Meant.{inner_form};
 ghost use Rattle.scc_plain_spec.specs.Methods as spec;
 ghost use Rattle.scc_plain_spec.specs.Methods.{subject_is_port};
 ghost use Rattle.scc_plain_spec.specs.Parts.{is_call};
@@ -105,7 +106,9 @@ fn bit(alloc: Global, of: Subject, i: Draft, place: Place) -> Result<Meant, Stop
 }
 
 // What an element of an array or a vector holds.
-fn inner_form(form: Form) -> Form {
+fn inner_form(form: Form) -> Form
+    ensures { (n : Classes) → form_in n result ≡ inner_form (form_in n form) }
+{
     if form.dims == 0 {
         return Form::direct(form.base);
     }
