@@ -1,5 +1,5 @@
 -- What is written of parts, and their number.
-use Rattle.std.specs.Prelude.{◌≡◌, ℕ, ◌+◌, ◌<◌, ◌≤◌, Bool, true, false, ◌&&◌, nat_le, List, [], ◌∷◌, ◌++◌, length, map, Option, Some, None, unwrap_or, option_map, option_and_then, IfSome, Result, Ok, Err, IfOk, OnOk}
+use Rattle.std.specs.Prelude.{◌≡◌, ℕ, ◌+◌, ◌≤◌, true, List, [], ◌∷◌, ◌++◌, length, map, Option, Some, None, unwrap_or, option_map, option_and_then, IfSome, Result, Ok, Err, IfOk, OnOk}
 use Rattle.std.specs.List.{list_all}
 use Rattle.std.proofs.Common.{refl, sym, ◌∙◌, ap, subst, arith}
 use Rattle.std.proofs.lemmas.Result.{IfOk-weaker}
@@ -29,7 +29,7 @@ use Rattle.scc_plain_drafts.specs.declared.join.Sum.TheVariants as sum
 use Rattle.scc_plain_drafts.specs.Views.{Is, Sound, draft_of}
 use Rattle.scc_plain_drafts.specs.Joins.{Together, SumStands, NumberStands, Kinded, StandsFor, joined_draft}
 use Rattle.scc_plain_drafts.proofs.Terms.{join_term}
-use Rattle.scc_plain_drafts.proofs.Joining.{parts_more, widths_more, kind_more, both_parts, width_of_all}
+use Rattle.scc_plain_drafts.proofs.Joining.{widths_more, kind_more, both_parts, width_of_all}
 
 -- ---- the kind
 

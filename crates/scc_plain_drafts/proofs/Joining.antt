@@ -1,18 +1,15 @@
 -- A concatenation with a further part, by kinds, numbers and terms.
-use Rattle.std.specs.Prelude.{◌≡◌, ℕ, ◌+◌, ◌<◌, ◌≤◌, Bool, true, false, not, ◌&&◌, ◌||◌, nat_le, List, [], ◌∷◌, ◌++◌, map, Option, Some, None, unwrap_or, option_map, option_and_then, IfSome}
+use Rattle.std.specs.Prelude.{◌≡◌, ℕ, ◌+◌, ◌<◌, ◌≤◌, Bool, true, false, not, ◌&&◌, ◌||◌, nat_le, List, [], ◌∷◌, ◌++◌, Some, None, unwrap_or}
 use Rattle.std.specs.List.{list_all}
 use Rattle.std.proofs.Common.{refl, sym, ◌∙◌, ap, subst, arith}
-use Rattle.scc_base.specs.declared.refusal.Place.{Place}
 use Rattle.scc_bits_kinds.specs.declared.kind.Kind.{Kind}
 use Rattle.scc_bits_kinds.specs.Kinds.{width_of}
 use Rattle.scc_bits_kinds.specs.Groups.{group_of, is_bits, is_large}
-use Rattle.scc_bits_kinds.specs.Bits.{is_part, concat_of, joined_kind, joined}
-use Rattle.scc_bits.specs.Value.{Number}
-use Rattle.scc_plain_spec.specs.Numbers.{number, widths, joined_kinds, joined_words}
-use Rattle.scc_plain_spec.specs.Drafts.{Draft, kind_in, kinds_of, all_known, both_known}
+use Rattle.scc_bits_kinds.specs.Bits.{is_part, concat_of, joined_kind}
+use Rattle.scc_plain_spec.specs.Numbers.{widths, joined_kinds}
 use Rattle.scc_plain_drafts.specs.declared.join.Sum.{Sum}
 use Rattle.scc_plain_drafts.specs.declared.join.Sum.TheVariants as sum
-use Rattle.scc_plain_drafts.specs.Joins.{Together, SumStands, NumberStands, Kinded}
+use Rattle.scc_plain_drafts.specs.Joins.{Together, SumStands}
 
 -- ---- kinds
 

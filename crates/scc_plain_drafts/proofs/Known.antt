@@ -1,13 +1,12 @@
 -- Numbers that are known of operations.
-use Rattle.std.specs.Prelude.{◌≡◌, Option, Some, None, IfSome, option_map, Result, IfOk}
-use Rattle.std.proofs.Common.{refl, sym, ◌∙◌, ap, subst}
+use Rattle.std.specs.Prelude.{◌≡◌, Option, Some, None, option_map, Result, IfOk}
+use Rattle.std.proofs.Common.{refl, subst}
 use Rattle.scc_base.specs.declared.no_memory.NoMemory.{NoMemory}
 use Rattle.scc_base.specs.declared.refusal.Place.{Place}
 use Rattle.scc_bits_kinds.specs.declared.kind.Kind.{Kind}
 use Rattle.scc_bits_kinds.specs.declared.op.Op.{Op}
 use Rattle.scc_bits.specs.Value.{Number}
-use Rattle.scc_elab_spec.specs.Term.{Term, Unary, Binary}
-use Rattle.scc_plain_view.specs.Terms.{term_of}
+use Rattle.scc_elab_spec.specs.Term.{Term}
 use Rattle.scc_plain_spec.specs.Drafts as spec
 use Rattle.scc_plain_spec.specs.Numbers.{answered}
 use Rattle.scc_plain_drafts.specs.declared.draft.Draft.{Draft}

@@ -1,6 +1,6 @@
 -- What a pointer leads to.
-use Rattle.std.specs.Prelude.{◌≡◌, Bool, true, false, None}
-use Rattle.std.proofs.Common.{refl, sym, ◌∙◌, ap}
+use Rattle.std.specs.Prelude.{◌≡◌, true, false, None}
+use Rattle.std.proofs.Common.{refl, sym, ap}
 use Rattle.scc_base.specs.declared.refusal.Place.{Place}
 use Rattle.scc_base.specs.declared.code.Code.TheVariants as reason
 use Rattle.scc_templates_spec.specs.Walked.{pure, fault}

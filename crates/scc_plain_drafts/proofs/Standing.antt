@@ -19,7 +19,7 @@ use Rattle.scc_plain_drafts.specs.declared.draft.Draft.{Draft}
 use Rattle.scc_plain_drafts.specs.declared.form.Loc.{Loc}
 use Rattle.scc_plain_drafts.specs.declared.form.Form.{Form}
 use Rattle.scc_plain_drafts.specs.Views.{Sound, draft_of}
-use Rattle.scc_plain_drafts.specs.Forms.{Classes, base_in, number_in, form_in, taken_by, loc_in, ArePicked, PickedOf, StandsBy, SoundLoc}
+use Rattle.scc_plain_drafts.specs.Forms.{Classes, base_in, number_in, form_in, taken_by, loc_in, ArePicked, StandsBy, SoundLoc}
 
 abbrev Stands : Option Kind → Pick → Option Kind → Kind → Type 0
 Stands None q f k = (q ≡ Whole) × (f ≡ None)

@@ -1,6 +1,6 @@
 -- The terms of an operator between two operands, and of a concatenation.
 use Rattle.std.specs.Prelude.{◌≡◌, Some, List, map}
-use Rattle.std.proofs.Common.{refl, ◌∙◌, ap}
+use Rattle.std.proofs.Common.{◌∙◌, ap}
 use Rattle.scc_base.specs.declared.refusal.Place.{Place}
 use Rattle.scc_bits_kinds.specs.declared.kind.Kind.{Kind}
 use Rattle.scc_bits_kinds.specs.declared.op.Op.{Op}

@@ -1,5 +1,5 @@
 -- What variables hold and where they stand, as the definitions have it: a class by its number in a table of classes with arguments. This project's own.
-use Rattle.std.specs.Prelude.{◌≡◌, ℕ, nat_eq, ◌&&◌, Option, Some, None, option_map}
+use Rattle.std.specs.Prelude.{◌≡◌, ℕ, nat_eq, ◌&&◌, Option, Some, None}
 use Rattle.scc_bits_kinds.specs.declared.kind.Kind.{Kind}
 use Rattle.scc_bits_kinds.specs.declared.kind.Kind.TheVariants as kind
 use Rattle.scc_templates_spec.specs.Walk.{same_args}

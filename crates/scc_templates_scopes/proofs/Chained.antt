@@ -1,8 +1,8 @@
 -- Reaches that add no less, and chains as the definitions count them.
-use Rattle.std.specs.Prelude.{◌≡◌, ℕ, ◌+◌, ◌-◌, ◌≤◌, Bool, true, false, List, [], ◌∷◌, map, Option, Some, None, if◌then◌else◌}
-use Rattle.std.proofs.Common.{refl, sym, ◌∙◌, ap, arith}
+use Rattle.std.specs.Prelude.{◌≡◌, ℕ, ◌+◌, ◌≤◌, Bool, true, false, List, [], ◌∷◌, map, Option, if◌then◌else◌}
+use Rattle.std.proofs.Common.{refl, arith}
 use Rattle.scc_templates_spec.specs.Walk.{Args}
-use Rattle.scc_templates_spec.specs.World.{Member, count, same_member}
+use Rattle.scc_templates_spec.specs.World.{Member, count}
 use Rattle.scc_templates_scopes.specs.declared.chain.Reach.{Reach}
 use Rattle.scc_templates_scopes.specs.Chains.{same_held, counted, last_of, held, adds, Within, number_of, Apart}
 

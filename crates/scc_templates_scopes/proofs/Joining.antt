@@ -1,6 +1,5 @@
 -- A concatenation with a further part.
-use Rattle.std.specs.Prelude.{◌≡◌, ℕ, ◌+◌, ◌<◌, ◌≤◌, Bool, true, false, not, ◌&&◌, ◌||◌, nat_le, List, [], ◌∷◌, ◌++◌, Option, Some, None, unwrap_or}
-use Rattle.std.specs.List.{list_all}
+use Rattle.std.specs.Prelude.{◌≡◌, ℕ, ◌+◌, ◌<◌, ◌≤◌, Bool, true, false, not, ◌&&◌, ◌||◌, nat_le, List, [], ◌∷◌, ◌++◌, Some, None, unwrap_or}
 use Rattle.std.proofs.Common.{refl, sym, ◌∙◌, ap, subst, arith}
 use Rattle.scc_bits_kinds.specs.declared.kind.Kind.{Kind}
 use Rattle.scc_bits_kinds.specs.declared.kind.Kind.TheVariants as kind
@@ -9,10 +8,8 @@ use Rattle.scc_bits_kinds.specs.Groups.{group_of, is_bits, is_large}
 use Rattle.scc_bits_kinds.specs.Bits.{is_part, concat_of, joined_kind, joined}
 use Rattle.scc_bits.specs.Value.{Number}
 use Rattle.scc_plain_spec.specs.Numbers.{kinds_of, widths, joined_kinds, joined_words}
-use Rattle.scc_templates_scopes.specs.declared.join.Parts.{Parts}
 use Rattle.scc_templates_scopes.specs.declared.join.Parts.TheVariants as parts
-use Rattle.scc_templates_scopes.specs.declared.join.Joined.{Joined}
-use Rattle.scc_templates_scopes.specs.Joins.{are_parts, kind_of_all, Together, Stands, StandsBy}
+use Rattle.scc_templates_scopes.specs.Joins.{are_parts, Together, StandsBy}
 
 and_last : (b c d : Bool) → c ≡ d → (b && c) ≡ (b && d)
 and_last b c d e = ap (λ x. b && x) e

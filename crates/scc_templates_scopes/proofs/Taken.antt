@@ -1,6 +1,6 @@
 -- What the operator table refuses comes in the order of the definition: no row, then too many bits, then the divisor.
-use Rattle.std.specs.Prelude.{◌≡◌, ℕ, zero, suc, ◌<◌, nat_eq, not, Bool, true, false, Option, Some, None, IsSome, if◌then◌else◌}
-use Rattle.std.proofs.Common.{refl, sym, ◌∙◌, ap, subst, arith}
+use Rattle.std.specs.Prelude.{◌≡◌, ℕ, zero, suc, ◌<◌, nat_eq, not, true, false, Option, Some, None, IsSome}
+use Rattle.std.proofs.Common.{refl, subst, arith}
 use Rattle.scc_base.specs.declared.refusal.Place.{Place}
 use Rattle.scc_base.specs.declared.code.Code.TheVariants as reason
 use Rattle.scc_bits_kinds.specs.declared.kind.Kind.{Kind}

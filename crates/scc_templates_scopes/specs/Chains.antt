@@ -1,10 +1,10 @@
 -- Chains of instances, by the list of their members, newest first: an instance by its number, a template whose defaults are worked out by none. This project's own.
-use Rattle.std.specs.Prelude.{◌≡◌, ℕ, ◌+◌, ◌-◌, ◌<◌, ◌≤◌, nat_eq, Bool, true, false, List, [], ◌∷◌, ◌++◌, Option, Some, None, option_map, Result, Ok, Err, if◌then◌else◌}
+use Rattle.std.specs.Prelude.{◌≡◌, ℕ, ◌+◌, ◌-◌, ◌<◌, ◌≤◌, nat_eq, Bool, false, List, [], ◌∷◌, ◌++◌, Option, Some, None, option_map, Result, Ok, Err, if◌then◌else◌}
 use Rattle.scc_base.specs.declared.refusal.Place.{Place}
 use Rattle.scc_base.specs.declared.refusal.Stop.{Stop}
 use Rattle.scc_base.specs.declared.refusal.Stop.TheVariants as stop
 use Rattle.scc_base.specs.declared.code.Code.TheVariants as reason
-use Rattle.scc_templates_spec.specs.Walk.{Args, same_args}
+use Rattle.scc_templates_spec.specs.Walk.{Args}
 use Rattle.scc_templates_spec.specs.World.{Member, Owned, Filled, same_member}
 use Rattle.scc_templates_scopes.specs.declared.ty.InstanceId.{InstanceId}
 use Rattle.scc_templates_scopes.specs.declared.chain.Chain.{Chain}

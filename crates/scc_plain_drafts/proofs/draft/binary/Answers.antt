@@ -1,7 +1,6 @@
 use Rattle.std.proofs.Common.{ap}
 use Rattle.std.proofs.lemmas.Result.{IfOk-weaker}
 use Rattle.scc_elab_spec.specs.Term.{kind_of, place_of}
-use Rattle.scc_plain_spec.specs.Drafts.{Draft}
 use Rattle.scc_plain_drafts.proofs.Terms.{binary_term}
 use Rattle.scc_plain_drafts.proofs.draft.binary.Goals as goal
 

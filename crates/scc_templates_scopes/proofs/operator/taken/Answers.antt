@@ -1,4 +1,4 @@
-use Rattle.std.proofs.Common.{◌≡◌, Err, ap}
+use Rattle.std.proofs.Common.{Err, ap}
 use Rattle.scc_templates_scopes.proofs.Taken.{too_wide, by_zero}
 use Rattle.scc_templates_scopes.proofs.operator.taken.Goals as goal
 

@@ -1,4 +1,4 @@
-use Rattle.std.proofs.Common.{◌≡◌, sym, ◌∙◌, ap}
+use Rattle.std.proofs.Common.{sym, ◌∙◌}
 use Rattle.scc_plain_drafts.proofs.Standing.{port_by, no_port}
 use Rattle.scc_plain_drafts.proofs.form.Form.is_port.Goals as goal
 
