@@ -1,1 +1,5 @@
 pub mod Refusals
+pub mod Views
+pub mod Joins
+pub mod Forms
+pub mod Meaning

@@ -1,4 +1,9 @@
 //! Calls (C++, [expr.call]; IEEE 1666-2011, 6 and 7.2).
+ghost use Rattle.std.specs.Prelude.{◌≡◌};
+ghost use Rattle.scc_plain_drafts.specs.Forms.{Classes, method_number, subject_in};
+ghost use Rattle.scc_plain_drafts.specs.Meaning.{call_in};
+ghost use Rattle.scc_plain_spec.specs.Methods as spec;
+
 use crate::meant::{Method, PortCall, Subject};
 use scc_base::{Name, Place};
 use scc_plain_tree::PlainLeft;
@@ -30,7 +35,9 @@ pub enum Call {
     Wrong,
 }
 
-pub(crate) fn of_method(method: Method, of: Subject, count: usize) -> Call {
+pub(crate) fn of_method(method: Method, of: Subject, count: usize) -> Call
+    ensures { (n : Classes) → call_in n result ≡ spec.of_method count (method_number method) (subject_in n of) }
+{
     match method {
         Method::Port(call) => Call::Done { call, of },
         Method::Range => {
@@ -49,10 +56,14 @@ pub(crate) fn of_method(method: Method, of: Subject, count: usize) -> Call {
 }
 
 // Brackets after what is no function: a binding, or a range of bits.
-pub(crate) fn of_subject(of: Subject, is_port: bool, count: usize) -> Call {
-    if is_port && count == 1 {
-        let call = PortCall::Bind;
-        return Call::Done { call, of };
+pub(crate) fn of_subject(of: Subject, is_port: bool, count: usize) -> Call
+    ensures { (n : Classes) → is_port ≡ spec.subject_is_port (subject_in n of) → call_in n result ≡ spec.of_subject count (subject_in n of) }
+{
+    if is_port {
+        if count == 1 {
+            let call = PortCall::Bind;
+            return Call::Done { call, of };
+        }
     }
     if count == 2 {
         return Call::Range(of);

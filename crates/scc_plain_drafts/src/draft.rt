@@ -1,11 +1,19 @@
 //! Expressions with what is known of them. Each conversion is written out.
-ghost use Rattle.std.specs.Prelude.{IfErr};
+ghost use Rattle.std.specs.Prelude.{◌≡◌, IfErr, IfOk, IfSome, None, Some, option_map, true, unwrap_or};
+ghost use Rattle.scc_bits.specs.Values.{kind_of};
 ghost use Rattle.scc_plain_drafts.specs.Refusals.{MayStop};
+ghost use Rattle.scc_plain_drafts.specs.Views.{Drafts, Is, Sound, choice, draft_of, known_choice, operation, operation_alone};
+ghost use Rattle.scc_plain_spec.specs.Drafts as spec;
+ghost use Rattle.scc_plain_spec.specs.Numbers.{answered, divides, is_shift, stored_in};
+ghost use Rattle.scc_templates_spec.specs.Walk.{same_kind};
+ghost use Rattle.scc_elab_spec.specs.Term.{Binary, Load, Read, Unary};
+ghost use Rattle.scc_plain_view.specs.Terms.{picked, taken_of, term_of};
 
 use crate::refusal::refuse;
-use scc_base::{Code, NoMemory, Place, Stop, lost};
-use scc_bits::{Kind, Op, Value, choice_kind, converts, result_kind, too_wide};
+use scc_base::{Boxed, Code, NoMemory, Place, Stop, lost};
+use scc_bits::{Kind, Op, Value, converts, result_kind, too_wide};
 use scc_plain_tree::{PlainExpr, PlainExprNode, PlainLeft, PlainPick};
+use scc_templates_scopes::constant::{choice_kind, kind_beside as value_beside};
 use std::alloc::Global;
 
 /// An expression, with its number where it is a constant.
@@ -34,24 +42,37 @@ pub fn made(
     kind: Kind,
     node: PlainExprNode,
     known: Option<Value>,
-) -> Result<Draft, NoMemory> {
-    let expr = PlainExpr::new(alloc, place, kind, node)?;
+) -> Result<Draft, NoMemory>
+    ensures { IfOk result (λ x. x ≡ record { expr = record { place = place; kind = kind; node = node }; known = known; place = place }) }
+{
+    let node = Boxed::new(alloc, node)?;
+    let expr = PlainExpr { place, kind, node };
     Ok(Draft { expr, known, place })
 }
 
 /// A constant.
-pub fn literal(alloc: Global, place: Place, v: Value) -> Result<Draft, NoMemory> {
+pub fn literal(alloc: Global, place: Place, v: Value) -> Result<Draft, NoMemory>
+    ensures { IfOk result (λ x. Is x (spec.literal place v)) }
+{
     let node = PlainExprNode::Lit(v.word());
     made(alloc, place, v.kind(), node, Some(v))
 }
 
 /// What a variable holds.
-pub fn load(alloc: Global, place: Place, kind: Kind, left: PlainLeft) -> Result<Draft, NoMemory> {
+pub fn load(alloc: Global, place: Place, kind: Kind, left: PlainLeft) -> Result<Draft, NoMemory>
+    ensures is { IfOk result (λ x. draft_of x ≡ spec.drafted place (picked place kind (Load place (unwrap_or (taken_of left).of kind) (taken_of left).left) (taken_of left).pick)) }
+    ensures kind { IfOk result (λ x. x.expr.kind ≡ kind) }
+    ensures place { IfOk result (λ x. x.expr.place ≡ place) }
+{
     made(alloc, place, kind, PlainExprNode::Load(left), None)
 }
 
 /// What a port or signal shows.
-pub fn read(alloc: Global, place: Place, kind: Kind, left: PlainLeft) -> Result<Draft, NoMemory> {
+pub fn read(alloc: Global, place: Place, kind: Kind, left: PlainLeft) -> Result<Draft, NoMemory>
+    ensures is { IfOk result (λ x. draft_of x ≡ spec.drafted place (picked place kind (Read place (unwrap_or (taken_of left).of kind) (taken_of left).left) (taken_of left).pick)) }
+    ensures kind { IfOk result (λ x. x.expr.kind ≡ kind) }
+    ensures place { IfOk result (λ x. x.expr.place ≡ place) }
+{
     made(alloc, place, kind, PlainExprNode::Read(left), None)
 }
 
@@ -67,19 +88,41 @@ pub fn bits(
     made(alloc, place, kind, node, None)
 }
 
-fn wrapped(alloc: Global, x: Draft, to: Kind, place: Place) -> Result<Draft, NoMemory> {
-    let known = match x.known {
-        Some(v) => Some(v.stored(to).ok_or(lost())?),
-        None => None,
+pub(crate) fn is_kind(a: Kind, b: Kind) -> bool
+    ensures is { result ≡ same_kind a b }
+    ensures same { result ≡ true → a ≡ b }
+{
+    a == b
+}
+
+// A known number in another kind.
+fn stored(known: Option<Value>, to: Kind) -> Result<Option<Value>, NoMemory>
+    ensures { IfOk result (λ n. n ≡ option_map (stored_in to) known) }
+{
+    let Some(v) = known else {
+        return Ok(None);
     };
+    match v.stored(to) {
+        Some(v) => Ok(Some(v)),
+        None => Err(lost()),
+    }
+}
+
+fn wrapped(alloc: Global, x: Draft, to: Kind, place: Place) -> Result<Draft, NoMemory>
+    ensures is { IfOk result (λ y. Is y (spec.wrapped place to (draft_of x))) }
+    ensures kind { IfOk result (λ y. y.expr.kind ≡ to) }
+{
+    let known = stored(x.known, to)?;
     made(alloc, place, to, PlainExprNode::Convert(x.expr), known)
 }
 
 /// The expression in another kind; E304 where there is no conversion (C++, [conv]; IEEE 1666-2011, 7.2.1).
 pub fn convert(alloc: Global, x: Draft, to: Kind) -> Result<Draft, Stop>
     ensures stop { IfErr result MayStop }
+    ensures is { Sound x → Drafts result (spec.converted to (draft_of x)) }
+    ensures kind { IfOk result (λ y. y.expr.kind ≡ to) }
 {
-    if x.expr.kind == to {
+    if is_kind(x.expr.kind, to) {
         return Ok(x);
     }
     if !converts(x.expr.kind, to) {
@@ -92,9 +135,10 @@ pub fn convert(alloc: Global, x: Draft, to: Kind) -> Result<Draft, Stop>
 /// The same for a cast at a place (C++, [expr.cast]). Where the kinds are equal it makes no expression of its own.
 pub fn cast(alloc: Global, x: Draft, to: Kind, place: Place) -> Result<Draft, Stop>
     ensures stop { IfErr result MayStop }
+    ensures is { Sound x → Drafts result (spec.cast place to (draft_of x)) }
 {
     let from = x.expr.kind;
-    if from == to {
+    if is_kind(from, to) {
         return Ok(Draft {
             expr: x.expr,
             known: x.known,
@@ -108,23 +152,45 @@ pub fn cast(alloc: Global, x: Draft, to: Kind, place: Place) -> Result<Draft, St
 }
 
 // The kind by which an operand counts beside one of another kind.
-fn kind_beside(x: &Draft, other: Kind) -> Kind {
+fn kind_beside(x: &Draft, other: Kind) -> Kind
+    ensures { Sound x.now → result ≡ spec.draft_beside (draft_of x.now) other }
+{
     match x.known {
-        Some(v) => v.kind_beside(other),
+        Some(v) => value_beside(v, other),
         None => x.expr.kind,
     }
 }
 
-// The kinds by which the operands of an operator count. The amount of a shift, and what is shifted, count by their own.
-fn counted(op: Op, a: &Draft, b: &Draft) -> (Kind, Kind) {
-    match op {
-        Op::Shl | Op::Shr => (a.expr.kind, b.expr.kind),
-        _ => (kind_beside(a, b.expr.kind), kind_beside(b, a.expr.kind)),
+fn is_shift(op: Op) -> bool
+    ensures { result ≡ is_shift op }
+{
+    matches!(op, Op::Shl | Op::Shr)
+}
+
+// The kind by which the left operand of an operator counts. What is shifted counts by its own.
+fn left_kind(op: Op, a: &Draft, b: &Draft) -> Kind
+    ensures { Sound a.now → Sound b.now → result ≡ spec.left_beside op (draft_of a.now) (draft_of b.now) }
+{
+    if is_shift(op) {
+        return a.expr.kind;
     }
+    kind_beside(a, b.expr.kind)
+}
+
+// That of the right one. The amount of a shift counts by its own.
+fn right_kind(op: Op, a: &Draft, b: &Draft) -> Kind
+    ensures { Sound a.now → Sound b.now → result ≡ spec.right_beside op (draft_of a.now) (draft_of b.now) }
+{
+    if is_shift(op) {
+        return b.expr.kind;
+    }
+    kind_beside(b, a.expr.kind)
 }
 
 // A divisor is a constant that isn't 0.
-fn divides(op: Op, divisor: Option<Value>) -> bool {
+fn divides(op: Op, divisor: Option<Value>) -> bool
+    ensures { result ≡ divides op divisor }
+{
     match (op, divisor) {
         (Op::Div | Op::Rem, Some(v)) => v.is_true(),
         (Op::Div | Op::Rem, None) => false,
@@ -132,13 +198,19 @@ fn divides(op: Op, divisor: Option<Value>) -> bool {
     }
 }
 
-fn applied(op: Op, a: Option<Value>, b: Option<Value>) -> Result<Option<Value>, NoMemory> {
-    match (a, b) {
-        (Some(a), Some(b)) => match a.applied(op, b) {
-            Ok(v) => Ok(Some(v)),
-            Err(_) => Err(lost()),
-        },
-        _ => Ok(None),
+// An operator on what is known of its operands.
+fn applied(op: Op, a: Option<Value>, b: Option<Value>) -> Result<Option<Value>, NoMemory>
+    ensures is { IfOk result (λ n. (j k answer : Kind) → IfSome a (λ x. x.kind ≡ j) → IfSome b (λ y. y.kind ≡ k) → kind_of op j k ≡ Some answer → (n ≡ spec.both_known a b (answered op answer)) × IfSome n (λ v. v.kind ≡ answer)) }
+{
+    let Some(a) = a else {
+        return Ok(None);
+    };
+    let Some(b) = b else {
+        return Ok(None);
+    };
+    match a.applied(op, b) {
+        Ok(v) => Ok(Some(v)),
+        Err(_) => Err(lost()),
     }
 }
 
@@ -153,19 +225,21 @@ pub fn operate(
     b: Draft,
 ) -> Result<Draft, Stop>
     ensures stop { IfErr result MayStop }
+    ensures is { Sound a → Sound b → Drafts result (spec.operate place at op (draft_of a) (draft_of b)) }
 {
-    let (left_kind, right_kind) = counted(op, &a, &b);
-    let Some(kind) = result_kind(op, left_kind, right_kind) else {
+    let left = left_kind(op, &a, &b);
+    let right = right_kind(op, &a, &b);
+    let Some(kind) = result_kind(op, left, right) else {
         return refuse(Code::Mismatch, at);
     };
-    if too_wide(op, left_kind, right_kind) {
+    if too_wide(op, left, right) {
         return refuse(Code::WideLoss, at); // E310
     }
     if !divides(op, b.known) {
         return refuse(Code::Divisor, at); // E311
     }
-    let a = convert(alloc, a, left_kind)?;
-    let b = convert(alloc, b, right_kind)?;
+    let a = convert(alloc, a, left)?;
+    let b = convert(alloc, b, right)?;
     Ok(operated(alloc, place, kind, op, a, b)?)
 }
 
@@ -176,19 +250,42 @@ fn operated(
     op: Op,
     a: Draft,
     b: Draft,
-) -> Result<Draft, NoMemory> {
+) -> Result<Draft, NoMemory>
+    ensures { Sound a → Sound b → kind_of op a.expr.kind b.expr.kind ≡ Some kind → IfOk result (λ x. Is x (operation place kind op (draft_of a) (draft_of b))) }
+{
     let known = applied(op, a.known, b.known)?;
+    binary(alloc, place, Known { kind, known }, op, a.expr, b.expr)
+}
+
+// The kind of an expression, and its number where it is known.
+#[derive(Clone, Copy)]
+struct Known {
+    kind: Kind,
+    known: Option<Value>,
+}
+
+fn binary(
+    alloc: Global,
+    place: Place,
+    of: Known,
+    op: Op,
+    a: PlainExpr,
+    b: PlainExpr,
+) -> Result<Draft, NoMemory>
+    ensures { IfSome of.known (λ v. v.kind ≡ of.kind) → IfOk result (λ x. Is x (record { term = Binary place of.kind op (term_of a) (term_of b); known = of.known; place = place })) }
+{
     let node = PlainExprNode::Operate {
         op,
-        left: a.expr,
-        right: Some(b.expr),
+        left: a,
+        right: Some(b),
     };
-    made(alloc, place, kind, node, known)
+    made(alloc, place, of.kind, node, of.known)
 }
 
 /// An operator before its one operand. Refuses by E304 and E310 at the expression.
 pub fn operate_one(alloc: Global, place: Place, op: Op, a: Draft) -> Result<Draft, Stop>
     ensures stop { IfErr result MayStop }
+    ensures is { Sound a → Drafts result (spec.operate_one place op (draft_of a)) }
 {
     let of = a.expr.kind;
     let Some(kind) = result_kind(op, of, of) else {
@@ -197,13 +294,31 @@ pub fn operate_one(alloc: Global, place: Place, op: Op, a: Draft) -> Result<Draf
     if too_wide(op, of, of) {
         return refuse(Code::WideLoss, place);
     }
+    Ok(operated_one(alloc, place, kind, op, a)?)
+}
+
+fn operated_one(
+    alloc: Global,
+    place: Place,
+    kind: Kind,
+    op: Op,
+    a: Draft,
+) -> Result<Draft, NoMemory>
+    ensures { Sound a → kind_of op a.expr.kind a.expr.kind ≡ Some kind → IfOk result (λ x. Is x (operation_alone place kind op (draft_of a))) }
+{
     let known = applied(op, a.known, a.known)?;
+    unary(alloc, place, Known { kind, known }, op, a.expr)
+}
+
+fn unary(alloc: Global, place: Place, of: Known, op: Op, a: PlainExpr) -> Result<Draft, NoMemory>
+    ensures { IfSome of.known (λ v. v.kind ≡ of.kind) → IfOk result (λ x. Is x (record { term = Unary place of.kind op (term_of a); known = of.known; place = place })) }
+{
     let node = PlainExprNode::Operate {
         op,
-        left: a.expr,
+        left: a,
         right: None,
     };
-    Ok(made(alloc, place, kind, node, known)?)
+    made(alloc, place, of.kind, node, of.known)
 }
 
 fn chosen(
@@ -211,12 +326,19 @@ fn chosen(
     yes: Option<Value>,
     no: Option<Value>,
     kind: Kind,
-) -> Result<Option<Value>, NoMemory> {
-    let (Some(test), Some(yes), Some(no)) = (test, yes, no) else {
+) -> Result<Option<Value>, NoMemory>
+    ensures { IfOk result (λ n. (n ≡ known_choice kind test yes no) × IfSome n (λ v. v.kind ≡ kind)) }
+{
+    let Some(test) = test else {
         return Ok(None);
     };
-    let v = if test.is_true() { yes } else { no };
-    Ok(Some(v.stored(kind).ok_or(lost())?))
+    let Some(yes) = yes else {
+        return Ok(None);
+    };
+    let Some(no) = no else {
+        return Ok(None);
+    };
+    stored(Some(if test.is_true() { yes } else { no }), kind)
 }
 
 /// `test ? yes : no` (C++, [expr.cond]); E304 at the expression where the two have no common kind.
@@ -228,6 +350,7 @@ pub fn choose(
     no: Draft,
 ) -> Result<Draft, Stop>
     ensures stop { IfErr result MayStop }
+    ensures is { Sound yes → Sound no → Drafts result (spec.choose place (draft_of test) (draft_of yes) (draft_of no)) }
 {
     let yes_kind = kind_beside(&yes, no.expr.kind);
     let no_kind = kind_beside(&no, yes.expr.kind);
@@ -246,7 +369,9 @@ fn choice(
     test: Draft,
     yes: Draft,
     no: Draft,
-) -> Result<Draft, NoMemory> {
+) -> Result<Draft, NoMemory>
+    ensures { IfOk result (λ x. Is x (choice place kind (draft_of test) (draft_of yes) (draft_of no))) }
+{
     let known = chosen(test.known, yes.known, no.known, kind)?;
     let node = PlainExprNode::Choose {
         test: test.expr,

@@ -1,4 +1,10 @@
 //! What variables hold, and locations.
+ghost use Rattle.std.specs.Prelude.{◌≡◌, None};
+ghost use Rattle.scc_plain_drafts.specs.Forms.{AreTold, Classes, base_in, form_in};
+ghost use Rattle.scc_plain_spec.specs.Forms as spec;
+ghost use Rattle.scc_plain_spec.specs.Types.{same_base};
+
+use crate::draft::is_kind;
 use scc_base::{NoMemory, lost};
 use scc_bits::Kind;
 use scc_plain_tree::{Base, PlainLeft, Reach, Shape};
@@ -38,6 +44,20 @@ pub fn base_of(base: templates::Base) -> Base {
     }
 }
 
+fn is_same(a: Base, b: Base) -> bool
+    ensures { (n : Classes) → AreTold n a b → result ≡ same_base (base_in n a) (base_in n b) }
+{
+    match (a, b) {
+        (Base::Number(j), Base::Number(k)) => is_kind(j, k),
+        (Base::Class(i), Base::Class(j)) => i == j,
+        (Base::Input(j), Base::Input(k)) => is_kind(j, k),
+        (Base::Output(j), Base::Output(k)) => is_kind(j, k),
+        (Base::Signal(j), Base::Signal(k)) => is_kind(j, k),
+        (Base::ModuleName, Base::ModuleName) => true,
+        _ => false,
+    }
+}
+
 /// What `*` and `&` say of a declared name.
 pub fn reach_of(hold: Hold) -> Reach {
     match hold {
@@ -57,7 +77,9 @@ pub fn number_kind(t: TypeOf) -> Option<Kind> {
 
 impl Form {
     /// That of one thing by itself.
-    pub fn direct(base: Base) -> Form {
+    pub fn direct(base: Base) -> Form
+        ensures { (n : Classes) → form_in n result ≡ spec.direct (base_in n base) }
+    {
         Form {
             base,
             reach: Reach::Direct,
@@ -77,22 +99,39 @@ impl Form {
     }
 
     /// Whether it is a pointer, or arrays of them.
-    pub fn is_pointer(self) -> bool {
+    pub fn is_pointer(self) -> bool
+        ensures { (n : Classes) → result ≡ spec.is_pointer (form_in n self) }
+    {
         self.reach == Reach::Pointer
     }
 
     /// Whether nothing of an array, vector or pointer is left to take.
-    pub fn is_whole(self) -> bool {
-        self.dims == 0 && !self.vector && !self.is_pointer()
+    pub fn is_whole(self) -> bool
+        ensures { (n : Classes) → result ≡ spec.is_whole (form_in n self) }
+    {
+        if self.dims != 0 {
+            return false;
+        }
+        if self.vector {
+            return false;
+        }
+        !self.is_pointer()
     }
 
     /// Whether two hold things of one type.
-    pub fn is_like(self, other: Form) -> bool {
-        self.base == other.base && self.vector == other.vector
+    pub fn is_like(self, other: Form) -> bool
+        ensures { (n : Classes) → AreTold n self.base other.base → result ≡ spec.is_like (form_in n self) (form_in n other) }
+    {
+        if !is_same(self.base, other.base) {
+            return false;
+        }
+        self.vector == other.vector
     }
 
     /// The kind of a port's or signal's value.
-    pub fn port_kind(self) -> Option<Kind> {
+    pub fn port_kind(self) -> Option<Kind>
+        ensures { (n : Classes) → result ≡ spec.port_kind (base_in n self.base) }
+    {
         match self.base {
             Base::Input(kind) | Base::Output(kind) | Base::Signal(kind) => Some(kind),
             _ => None,
@@ -100,7 +139,9 @@ impl Form {
     }
 
     /// The kind of a number's, port's or signal's value.
-    pub fn value_kind(self) -> Option<Kind> {
+    pub fn value_kind(self) -> Option<Kind>
+        ensures { (n : Classes) → result ≡ spec.value_kind (base_in n self.base) }
+    {
         match self.base {
             Base::Number(kind) => Some(kind),
             _ => self.port_kind(),
@@ -108,14 +149,21 @@ impl Form {
     }
 
     /// Whether it is one port or signal.
-    pub fn is_port(self) -> bool {
-        self.is_whole() && self.port_kind().is_some()
+    pub fn is_port(self) -> bool
+        ensures { (n : Classes) → result ≡ spec.is_port (form_in n self) }
+    {
+        if !self.is_whole() {
+            return false;
+        }
+        self.port_kind().is_some()
     }
 }
 
 impl Loc {
     /// A location of which no bits are picked.
-    pub fn new(left: PlainLeft, form: Form) -> Loc {
+    pub fn new(left: PlainLeft, form: Form) -> Loc
+        ensures { result ≡ record { left = left; form = form; pick = None } }
+    {
         Loc {
             left,
             form,

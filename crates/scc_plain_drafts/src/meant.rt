@@ -1,13 +1,21 @@
 //! What expressions name before they are taken as values.
-ghost use Rattle.std.specs.Prelude.{IfErr};
+ghost use Rattle.std.specs.Prelude.{◌≡◌, IfErr, None, option_map, true};
+ghost use Rattle.scc_plain_drafts.specs.Forms.{Classes, SoundLoc, SoundSubject, form_in, loc_in, number_in, subject_in};
+ghost use Rattle.scc_plain_drafts.specs.Views.{Drafts};
+ghost use Rattle.scc_plain_spec.specs.Forms as spec;
+ghost use Rattle.scc_plain_spec.specs.Meant.{followed, location, own_object, taken};
+ghost use Rattle.scc_plain_spec.specs.Methods.{brackets};
+ghost use Rattle.scc_plain_view.specs.Terms.{left_of};
+ghost use Rattle.scc_plain_drafts.specs.Meaning.{Locates, SoundMeant, call_in, meant_in, owner_in};
 ghost use Rattle.scc_plain_drafts.specs.Refusals.{MayStop};
 
 use crate::call::{Call, of_method, of_subject};
 use crate::draft::{Draft, load, read};
 use crate::form::{Form, Loc};
 use crate::refusal::{gone, refuse};
-use crate::target::{at_location, behind};
+use crate::target::{at_location, behind, own_object};
 use scc_base::{Code, Name, Place, Stop};
+use scc_bits::Kind;
 use scc_plain_tree::{Base, PlainBase, PlainExprNode, PlainLeft, PlainTarget, Reach};
 use scc_templates::InstanceId;
 use std::alloc::Global;
@@ -99,7 +107,9 @@ impl Drop for Meant {
 
 impl Subject {
     /// The location, where it is one without picked bits.
-    pub fn location(self) -> Option<PlainLeft> {
+    pub fn location(self) -> Option<PlainLeft>
+        ensures { (n : Classes) → option_map left_of result ≡ spec.location_in (subject_in n self) }
+    {
         match self {
             Subject::Loc(l) => {
                 if l.pick.is_some() {
@@ -114,6 +124,7 @@ impl Subject {
     /// It as a value; E304 at the place where it is none.
     pub fn value(self, alloc: Global, place: Place) -> Result<Draft, Stop>
         ensures stop { IfErr result MayStop }
+        ensures is { (n : Classes) → SoundSubject self → Drafts result (spec.subject_value place (subject_in n self)) }
     {
         match self {
             Subject::Value(x) => Ok(x),
@@ -148,17 +159,24 @@ impl Meant {
     }
 
     /// The location, where it is one without picked bits.
-    pub fn location(self) -> Option<PlainLeft> {
-        self.subject()?.location()
+    pub fn location(self) -> Option<PlainLeft>
+        ensures { (n : Classes) → option_map left_of result ≡ location (meant_in n self) }
+    {
+        match self {
+            Meant::Loc(l) => Subject::Loc(l).location(),
+            _ => None,
+        }
     }
 
     /// It as a value; E304 at the place where it is none.
     pub fn value(self, alloc: Global, place: Place) -> Result<Draft, Stop>
         ensures stop { IfErr result MayStop }
+        ensures is { (n : Classes) → SoundMeant self → Drafts result (taken place (meant_in n self)) }
     {
-        match self.subject() {
-            Some(of) => of.value(alloc, place),
-            None => refuse(Code::Mismatch, place), // E304
+        match self {
+            Meant::Value(x) => Ok(x),
+            Meant::Loc(l) => value_at(alloc, l, place),
+            _ => refuse(Code::Mismatch, place), // E304
         }
     }
 
@@ -171,7 +189,9 @@ impl Meant {
     }
 
     /// What brackets with so many arguments are after it.
-    pub fn call(self, count: usize) -> Call {
+    pub fn call(self, count: usize) -> Call
+        ensures { (n : Classes) → call_in n result ≡ brackets count (meant_in n self) }
+    {
         match self {
             Meant::Function {
                 scope,
@@ -247,15 +267,10 @@ impl Meant {
     /// What it leads to as a pointer; `own` is the instance whose body it is. E304 where it is none.
     pub fn followed(self, alloc: Global, own: Option<InstanceId>, place: Place) -> Result<Loc, Stop>
         ensures stop { IfErr result MayStop }
+        ensures is { (n : Classes) → SoundMeant self → Locates n result (followed place (owner_in n own) (meant_in n self)) }
     {
         match self {
-            Meant::This => match own {
-                Some(i) => {
-                    let left = PlainLeft::new(alloc, place, PlainBase::This);
-                    Ok(Loc::new(left, Form::direct(Base::Class(i.0))))
-                }
-                None => gone(),
-            },
+            Meant::This => this_object(alloc, own, place),
             Meant::Address(l) => Ok(l),
             Meant::Loc(l) => behind(alloc, l, place),
             _ => refuse(Code::Mismatch, place),
@@ -280,18 +295,47 @@ impl Meant {
     }
 }
 
+// The object whose function this is, in a body of a class.
+fn this_object(alloc: Global, own: Option<InstanceId>, place: Place) -> Result<Loc, Stop>
+    ensures stop { IfErr result MayStop }
+    ensures is { (n : Classes) → Locates n result (own_object place (owner_in n own)) }
+{
+    let Some(i) = own else {
+        return gone();
+    };
+    Ok(Loc::new(own_object(alloc, place), Form::direct(Base::Class(i.0))))
+}
+
 // What a variable, port or signal holds.
 fn value_at(alloc: Global, l: Loc, place: Place) -> Result<Draft, Stop>
     ensures stop { IfErr result MayStop }
+    ensures is { (n : Classes) → SoundLoc l → Drafts result (spec.value_at place (loc_in n l)) }
 {
     if !l.form.is_whole() {
         return refuse(Code::Mismatch, place);
     }
-    match l.form.base {
-        Base::Number(kind) => Ok(load(alloc, place, l.pick.unwrap_or(kind), l.left)?),
-        Base::Input(kind) | Base::Output(kind) | Base::Signal(kind) => {
-            Ok(read(alloc, place, kind, l.left)?)
-        }
-        Base::Class(_) | Base::ModuleName => refuse(Code::Mismatch, place),
+    match number_in(l.form.base) {
+        Some(kind) => Ok(load(alloc, place, l.pick.unwrap_or(kind), l.left)?),
+        None => shown_at(alloc, l, place),
+    }
+}
+
+// What a port or signal shows.
+fn shown_at(alloc: Global, l: Loc, place: Place) -> Result<Draft, Stop>
+    ensures stop { IfErr result MayStop }
+    ensures is { (n : Classes) → spec.is_whole (form_in n l.form) ≡ true → number_in l.form.base ≡ None → SoundLoc l → Drafts result (spec.value_at place (loc_in n l)) }
+{
+    match l.form.port_kind() {
+        Some(kind) => Ok(read(alloc, place, kind, l.left)?),
+        None => refuse(Code::Mismatch, place),
+    }
+}
+
+fn number_in(base: Base) -> Option<Kind>
+    ensures { result ≡ number_in base }
+{
+    match base {
+        Base::Number(kind) => Some(kind),
+        _ => None,
     }
 }

@@ -1,6 +1,13 @@
 //! Elements of arrays and vectors, bits, ranges of bits, and calls of the language on numbers (IEEE 1666-2011, 7.2 and 8.5).
-ghost use Rattle.std.specs.Prelude.{◌<◌, ◌≤◌, IfErr, IfSome};
+ghost use Rattle.std.specs.Prelude.{◌≡◌, ◌<◌, ◌≤◌, IfErr, IfSome, is_some, nat_eq};
+ghost use Rattle.scc_plain_drafts.specs.Forms.{Classes, SoundSubject, form_in, method_number, subject_in};
+ghost use Rattle.scc_plain_drafts.specs.Views.{Drafts, Sound, draft_of};
+ghost use Rattle.scc_plain_spec.specs.Meant.{inner_form};
+ghost use Rattle.scc_plain_spec.specs.Methods as spec;
+ghost use Rattle.scc_plain_spec.specs.Methods.{subject_is_port};
+ghost use Rattle.scc_plain_spec.specs.Parts.{is_call};
 ghost use Rattle.scc_bits_kinds.specs.Kinds.{width_of};
+ghost use Rattle.scc_bits_kinds.specs.declared.kind.Kind.TheVariants as kind;
 ghost use Rattle.scc_plain_drafts.specs.Refusals.{MayStop};
 
 use crate::draft::{Draft, bits, convert, operate_one};
@@ -13,7 +20,10 @@ use scc_plain_tree::{Base, PlainExprNode, PlainPart, PlainPick};
 use std::alloc::Global;
 
 /// The call of the language that a name is, None where it is none: the names of these calls have the first numbers.
-pub fn method_of(name: Name) -> Option<Method> {
+pub fn method_of(name: Name) -> Option<Method>
+    ensures number { IfSome result (λ m. method_number m ≡ name.0) }
+    ensures is { is_some result ≡ is_call name.0 }
+{
     use crate::meant::PortCall;
     Some(match name.0 {
         0 => Method::Read,
@@ -96,7 +106,9 @@ fn bit(alloc: Global, of: Subject, i: Draft, place: Place) -> Result<Meant, Stop
 }
 
 // What an element of an array or a vector holds.
-fn inner_form(form: Form) -> Form {
+fn inner_form(form: Form) -> Form
+    ensures { (n : Classes) → form_in n result ≡ inner_form (form_in n form) }
+{
     if form.dims == 0 {
         return Form::direct(form.base);
     }
@@ -182,13 +194,17 @@ pub fn ranged(
     }
 }
 
-fn native(bits: u8, signed: bool) -> Kind {
+fn native(bits: u8, signed: bool) -> Kind
+    ensures { result ≡ kind.Native bits signed }
+{
     Kind::Native { bits, signed }
 }
 
-fn is_port(of: &Subject) -> bool {
+fn is_port(of: &Subject) -> bool
+    ensures { (n : Classes) → result ≡ subject_is_port (subject_in n of.now) }
+{
     match of {
-        Subject::Loc(l) => l.form.port_kind().is_some(),
+        Subject::Loc(l) => l.form.is_port(),
         Subject::Value(_) => false,
     }
 }
@@ -196,10 +212,11 @@ fn is_port(of: &Subject) -> bool {
 /// A call of the language without arguments that gives a value. Refuses by E304.
 pub fn answered(alloc: Global, method: Method, of: Subject, place: Place) -> Result<Draft, Stop>
     ensures stop { IfErr result MayStop }
+    ensures is { (n : Classes) → SoundSubject of → Drafts result (spec.method place (method_number method) (subject_in n of)) }
 {
     let is_port = is_port(&of);
     let x = of.value(alloc, place)?;
-    if method == Method::Read {
+    if is_read_call(method) {
         if is_port {
             return Ok(x);
         }
@@ -208,6 +225,20 @@ pub fn answered(alloc: Global, method: Method, of: Subject, place: Place) -> Res
     if !has_bits(x.expr.kind) {
         return refuse(Code::Mismatch, place);
     }
+    converted(alloc, place, method, x)
+}
+
+fn is_read_call(method: Method) -> bool
+    ensures { result ≡ nat_eq (method_number method) 0 }
+{
+    matches!(method, Method::Read)
+}
+
+// A reduction or a conversion.
+fn converted(alloc: Global, place: Place, method: Method, x: Draft) -> Result<Draft, Stop>
+    ensures stop { IfErr result MayStop }
+    ensures is { Sound x → Drafts result (spec.converting place (method_number method) (draft_of x)) }
+{
     match method {
         Method::AndReduce => operate_one(alloc, place, Op::AndReduce, x),
         Method::OrReduce => operate_one(alloc, place, Op::OrReduce, x),

@@ -1,5 +1,6 @@
 //! Refusals.
-ghost use Rattle.std.specs.Prelude.{◌≡◌, IfErr, true};
+ghost use Rattle.std.specs.Prelude.{◌≡◌, Err, IfErr, None, true};
+ghost use Rattle.scc_base.specs.declared.refusal.Stop.TheVariants as stop;
 ghost use Rattle.scc_plain_drafts.specs.Refusals.{MayStop, is_static};
 
 use scc_base::{Code, Place, Stop, lost};
@@ -8,6 +9,7 @@ use scc_base::{Code, Place, Stop, lost};
 pub fn refuse<T>(code: Code, place: Place) -> Result<T, Stop>
     requires { is_static code ≡ true }
     ensures stop { IfErr result MayStop }
+    ensures is { result ≡ Err (stop.Refused (record { code = code; place = place; other = None })) }
 {
     Err(Stop::refused(code, place))
 }
@@ -15,6 +17,7 @@ pub fn refuse<T>(code: Code, place: Place) -> Result<T, Stop>
 /// The answer of what should not happen.
 pub fn gone<T>() -> Result<T, Stop>
     ensures stop { IfErr result MayStop }
+    ensures is { result ≡ Err stop.NoMemory }
 {
     Err(Stop::from(lost()))
 }

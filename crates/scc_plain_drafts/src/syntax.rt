@@ -1,10 +1,15 @@
 //! What the tree of an expression shows.
+ghost use Rattle.std.specs.Prelude.{◌≡◌};
+ghost use Rattle.scc_plain_spec.specs.Parts.{operator_of};
+
 use crate::draft::Draft;
 use scc_bits::Op;
 use scc_tree::{Expr, ExprNode, PartNode, UnaryOp};
 
 /// The operator that stands before one operand, None where it is one on pointers.
-pub fn operator_of(op: UnaryOp) -> Option<Op> {
+pub fn operator_of(op: UnaryOp) -> Option<Op>
+    ensures { result ≡ operator_of op }
+{
     match op {
         UnaryOp::Plus => Some(Op::Plus),
         UnaryOp::Neg => Some(Op::Neg),

@@ -1,10 +1,15 @@
 //! What pointers and references are given (C++, [conv.ptr], [dcl.init.ref]).
-ghost use Rattle.std.specs.Prelude.{IfErr};
+ghost use Rattle.std.specs.Prelude.{◌≡◌, [], IfErr, IfOk, None};
+ghost use Rattle.scc_elab_spec.specs.Term.{Follow, This, Whole};
+ghost use Rattle.scc_plain_drafts.specs.Forms.{Classes, loc_in};
+ghost use Rattle.scc_plain_drafts.specs.Meaning.{Locates};
 ghost use Rattle.scc_plain_drafts.specs.Refusals.{MayStop};
+ghost use Rattle.scc_plain_spec.specs.Meant as spec;
+ghost use Rattle.scc_plain_view.specs.Terms.{left_of, taken_of};
 
 use crate::form::{Form, Loc};
 use crate::refusal::refuse;
-use scc_base::{Boxed, Code, Place, Stop};
+use scc_base::{Boxed, Code, List, NoMemory, Place, Stop};
 use scc_bits::Kind;
 use scc_plain_tree::{PlainBase, PlainLeft, PlainTarget, Reach};
 use scc_tree::{Expr, ExprNode};
@@ -23,12 +28,42 @@ pub fn is_zero(e: &Expr) -> bool {
     }
 }
 
+fn at_base(alloc: Global, place: Place, base: PlainBase) -> PlainLeft
+    ensures { result ≡ record { place = place; base = base; parts = []; pick = None } }
+{
+    PlainLeft {
+        place,
+        base,
+        parts: List::new(alloc),
+        pick: None,
+    }
+}
+
+// What a pointer at a location leads to.
+fn follow(alloc: Global, place: Place, left: PlainLeft) -> Result<PlainLeft, NoMemory>
+    ensures { IfOk result (λ x. taken_of x ≡ record { left = Follow place (left_of left); pick = Whole; of = None }) }
+{
+    let left = Boxed::new(alloc, left)?;
+    Ok(at_base(alloc, place, PlainBase::Follow(left)))
+}
+
+/// The object whose function this is.
+pub(crate) fn own_object(alloc: Global, place: Place) -> PlainLeft
+    ensures { taken_of result ≡ record { left = This place; pick = Whole; of = None } }
+{
+    at_base(alloc, place, PlainBase::This)
+}
+
 /// What a variable leads to. Refuses by E304.
 pub(crate) fn behind(alloc: Global, l: Loc, place: Place) -> Result<Loc, Stop>
     ensures stop { IfErr result MayStop }
+    ensures is { (n : Classes) → Locates n result (spec.behind place (loc_in n l)) }
 {
-    if !l.form.is_pointer() || l.form.dims > 0 {
+    if !l.form.is_pointer() {
         return refuse(Code::Mismatch, place); // E304
+    }
+    if l.form.dims != 0 {
+        return refuse(Code::Mismatch, place);
     }
     let form = Form {
         base: l.form.base,
@@ -36,8 +71,7 @@ pub(crate) fn behind(alloc: Global, l: Loc, place: Place) -> Result<Loc, Stop>
         vector: l.form.vector,
         dims: 0,
     };
-    let base = PlainBase::Follow(Boxed::new(alloc, l.left)?);
-    Ok(Loc::new(PlainLeft::new(alloc, place, base), form))
+    Ok(Loc::new(follow(alloc, place, l.left)?, form))
 }
 
 /// A reference leads to the thing itself, a pointer where another one leads. Refuses by E304.

@@ -1,1 +1,5 @@
 pub mod Refusals
+pub mod Walks
+pub mod Applied
+pub mod Joins
+pub mod Chains

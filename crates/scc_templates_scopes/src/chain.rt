@@ -1,5 +1,6 @@
 //! The chain of instances under evaluation, which has a most (this project's profile).
-ghost use Rattle.std.specs.Prelude.{IfErr};
+ghost use Rattle.std.specs.Prelude.{◌≡◌, ◌≤◌, ◌∷◌, ◌++◌, ℕ, List, [], IfErr, None, Option, Some, false, true};
+ghost use Rattle.scc_templates_scopes.specs.Chains.{IsChain, Lengthens, Within, adds, counted, held, same_held};
 ghost use Rattle.scc_templates_scopes.specs.Refusals.{MayStop};
 
 use crate::refuse::refuse;
@@ -25,8 +26,19 @@ pub struct Reach {
     first: Option<InstanceId>,
 }
 
+fn is_same(a: Option<InstanceId>, b: Option<InstanceId>) -> bool
+    ensures { result ≡ same_held (held a) (held b) }
+{
+    match (a, b) {
+        (Some(a), Some(b)) => a.0 == b.0,
+        _ => false,
+    }
+}
+
 impl Chain {
-    pub fn new() -> Chain {
+    pub fn new() -> Chain
+        ensures { IsChain result [] }
+    {
         Chain {
             length: 0,
             last: None,
@@ -35,6 +47,7 @@ impl Chain {
 
     fn longer(self, last: Option<InstanceId>, at: Place) -> Result<Chain, Stop>
         ensures stop { IfErr result MayStop }
+        ensures is { (ms : List (Option ℕ)) → IsChain self ms → same_held (held last) (held self.last) ≡ false → Lengthens result (held last ∷ ms) at }
     {
         if self.length >= CHAIN {
             return refuse(Code::TemplateDepth, at); // E308
@@ -46,8 +59,9 @@ impl Chain {
     /// The chain after which an instance stands.
     pub fn with(self, i: InstanceId, at: Place) -> Result<Chain, Stop>
         ensures stop { IfErr result MayStop }
+        ensures is { (ms : List (Option ℕ)) → IsChain self ms → Lengthens result (Some i.0 ∷ ms) at }
     {
-        if self.last == Some(i) {
+        if is_same(Some(i), self.last) {
             return Ok(self);
         }
         self.longer(Some(i), at)
@@ -56,12 +70,15 @@ impl Chain {
     /// The chain after which a template stands whose defaults are worked out.
     pub fn filling(self, at: Place) -> Result<Chain, Stop>
         ensures stop { IfErr result MayStop }
+        ensures is { (ms : List (Option ℕ)) → IsChain self ms → Lengthens result (None ∷ ms) at }
     {
         self.longer(None, at)
     }
 
     /// Whether there is room for what an evaluation adds.
-    pub fn holds(self, reach: Reach) -> bool {
+    pub fn holds(self, reach: Reach) -> bool
+        ensures { (ms xs : List (Option ℕ)) → IsChain self ms → Within reach xs → result ≡ true → counted (xs ++ ms) ≤ 64 }
+    {
         match self.length.checked_add(reach.behind(self.last)) {
             Some(length) => length <= CHAIN,
             None => false,
@@ -70,7 +87,9 @@ impl Chain {
 }
 
 impl Reach {
-    pub fn new() -> Reach {
+    pub fn new() -> Reach
+        ensures { Within result [] }
+    {
         Reach {
             most: 0,
             first: None,
@@ -78,8 +97,10 @@ impl Reach {
     }
 
     // What it adds after a member.
-    fn behind(self, last: Option<InstanceId>) -> u32 {
-        if self.first.is_some() && self.first == last {
+    fn behind(self, last: Option<InstanceId>) -> u32
+        ensures { result ≡ adds self (held last) }
+    {
+        if is_same(self.first, last) {
             self.most.saturating_sub(1)
         } else {
             self.most
@@ -87,7 +108,9 @@ impl Reach {
     }
 
     /// What a member adds in which this is evaluated; a template has no number.
-    pub fn of(self, member: Option<InstanceId>) -> Reach {
+    pub fn of(self, member: Option<InstanceId>) -> Reach
+        ensures { (xs : List (Option ℕ)) → Within self xs → Within result (xs ++ held member ∷ []) }
+    {
         Reach {
             most: self.behind(member).saturating_add(1),
             first: member,
@@ -95,14 +118,17 @@ impl Reach {
     }
 
     /// What both add.
-    pub fn or(self, other: Reach) -> Reach {
+    pub fn or(self, other: Reach) -> Reach
+        ensures first { (xs : List (Option ℕ)) → Within self xs → Within result xs }
+        ensures second { (xs : List (Option ℕ)) → Within other xs → Within result xs }
+    {
         if other.most < self.most {
             return self;
         }
         if self.most < other.most {
             return other;
         }
-        let first = if self.first == other.first {
+        let first = if is_same(self.first, other.first) {
             self.first
         } else {
             None

@@ -1,6 +1,11 @@
 //! Concatenations of constants.
-ghost use Rattle.std.specs.Prelude.{IfErr};
+ghost use Rattle.std.specs.Prelude.{◌∷◌, ◌++◌, ◌≡◌, List, [], IfErr};
+ghost use Rattle.scc_bits.specs.Value.{Number};
+ghost use Rattle.scc_plain_spec.specs.Numbers.{concatenated};
+ghost use Rattle.scc_templates_scopes.specs.Joins.{Stands};
+ghost use Rattle.scc_templates_scopes.specs.declared.join.Parts.TheVariants as parts;
 ghost use Rattle.scc_templates_scopes.specs.Refusals.{MayStop};
+ghost use Rattle.scc_templates_scopes.specs.Walks.{Gives};
 
 use crate::refuse::refuse;
 use scc_base::{Code, Place, Stop};
@@ -27,21 +32,27 @@ pub struct Joined {
 
 impl Joined {
     /// No part.
-    pub fn new() -> Joined {
+    pub fn new() -> Joined
+        ensures { Stands result [] }
+    {
         Joined {
             parts: Parts::Nothing,
             number: Value::zero(),
         }
     }
 
-    fn of(number: Value) -> Joined {
+    fn of(number: Value) -> Joined
+        ensures { result ≡ record { parts = parts.Number; number = number } }
+    {
         Joined {
             parts: Parts::Number,
             number,
         }
     }
 
-    fn spoilt(self, parts: Parts) -> Joined {
+    fn spoilt(self, parts: Parts) -> Joined
+        ensures { result ≡ record { parts = parts; number = self.number } }
+    {
         Joined {
             parts,
             number: self.number,
@@ -49,7 +60,9 @@ impl Joined {
     }
 
     /// With a further part.
-    pub fn with(self, low: Value) -> Joined {
+    pub fn with(self, low: Value) -> Joined
+        ensures { (ns : List Number) → Stands self ns → Stands result (ns ++ low ∷ []) }
+    {
         if !is_part(low.kind()) {
             return self.spoilt(Parts::NoPart);
         }
@@ -67,6 +80,7 @@ impl Joined {
     /// The number of all parts.
     pub fn value(self, at: Place) -> Result<Value, Stop>
         ensures stop { IfErr result MayStop }
+        ensures is { (ns : List Number) → Stands self ns → Gives (λ v. v) result (concatenated at ns) }
     {
         match self.parts {
             Parts::Number => Ok(self.number),

@@ -1,4 +1,7 @@
 //! Kinds that the stages name.
+ghost use Rattle.std.specs.Prelude.{◌≡◌};
+ghost use Rattle.scc_plain_spec.specs.Types.{family_kind, sort_kind};
+
 use scc_bits::Kind;
 use scc_tree::{Family, ParamSort};
 
@@ -15,7 +18,9 @@ const UNSIGNED: Kind = Kind::Native {
 
 /// The kind of a number of a family with so many bits, None where it may not have them (IEEE 1666-2011, sections 7.5,
 /// 7.6 and 7.9; large numbers end at 128 bits by this project's profile).
-pub fn family_kind(family: Family, bits: u32) -> Option<Kind> {
+pub fn family_kind(family: Family, bits: u32) -> Option<Kind>
+    ensures { result ≡ family_kind family bits }
+{
     let most = match family {
         Family::Int | Family::Uint => 64,
         Family::Big | Family::BigInt | Family::Bv => 128,
@@ -34,7 +39,9 @@ pub fn family_kind(family: Family, bits: u32) -> Option<Kind> {
 }
 
 /// The kind of a parameter that stands for a number, None where it stands for a type.
-pub fn sort_kind(sort: ParamSort) -> Option<Kind> {
+pub fn sort_kind(sort: ParamSort) -> Option<Kind>
+    ensures { result ≡ sort_kind sort }
+{
     match sort {
         ParamSort::Int => Some(INT),
         ParamSort::Unsigned => Some(UNSIGNED),

@@ -1,4 +1,5 @@
-ghost use Rattle.std.specs.Prelude.{◌≡◌, IfErr, true};
+ghost use Rattle.std.specs.Prelude.{◌≡◌, Err, IfErr, None, true};
+ghost use Rattle.scc_base.specs.declared.refusal.Stop.TheVariants as stop;
 ghost use Rattle.scc_templates_scopes.specs.Refusals.{MayStop, is_refusal};
 
 use scc_base::{Code, NoMemory, Place, Stop, lost};
@@ -12,6 +13,7 @@ pub fn refused(code: Code, place: Place) -> Stop {
 pub fn refuse<T>(code: Code, place: Place) -> Result<T, Stop>
     requires { is_refusal code ≡ true }
     ensures stop { IfErr result MayStop }
+    ensures is { result ≡ Err (stop.Refused (record { code = code; place = place; other = None })) }
 {
     Err(Stop::refused(code, place))
 }
@@ -19,6 +21,7 @@ pub fn refuse<T>(code: Code, place: Place) -> Result<T, Stop>
 /// The answer of what should not happen.
 pub fn gone<T>() -> Result<T, Stop>
     ensures stop { IfErr result MayStop }
+    ensures is { result ≡ Err stop.NoMemory }
 {
     Err(Stop::from(lost()))
 }

@@ -1,0 +1,6 @@
+pub mod Known
+pub mod Terms
+pub mod Joining
+pub mod Joined
+pub mod Standing
+pub mod Leading

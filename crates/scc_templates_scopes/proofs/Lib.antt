@@ -1,0 +1,4 @@
+pub mod Counted
+pub mod Chained
+pub mod Taken
+pub mod Joining
