@@ -42,7 +42,7 @@ PASSES = [
     ("construction", "scc_elab", "elaborate", "scc_elab_spec", "Elaborated", "elaborated", ["scc_elab_growth_laws", "scc_elab_laws"], ["construction"]),
     ("copied calls", "scc_inline", "inline", "scc_inline_spec", "Static", "inlined", ["scc_inline_process_laws", "scc_inline_laws"], ["processes-values"]),
     ("unrolled loops", "scc_unroll", "Unroll", "scc_core_spec", "Unrolled", "unrolled_program", ["scc_core_unroll_laws"], ["processes-loops"]),
-    ("resolved pointers", "scc_pointers", "Resolve", "scc_core_spec", "Renumbered", "resolved_program", ["scc_core_pass_laws", "scc_core_resolved_laws"], ["processes-pointers"]),
+    ("resolved pointers", "scc_pointers", "Resolve", "scc_pointers_spec", "Freed", "freed_program", ["scc_pointers_spec", "scc_core_pass_laws", "scc_core_resolved_laws"], ["processes-pointers"]),
     ("rules", "scc_rules", "check", "scc_core_spec", "Rules", "first_rule", ["scc_core_effect_laws", "scc_core_laws", "scc_core_order_laws"], ["processes-rules", "processes-order"]),
     ("states", "scc_states", "split", "scc_core_spec", "Split", "first_split", ["scc_states_path_laws", "scc_states_laws"], ["states", "processes-sizes"]),
     ("lowering", "scc_lower", "lower_expr", "scc_blocks_spec", "Lowered", "IsLoweredTerm", ["scc_lower_spec", "scc_lower_laws"], ["text-numbers"]),

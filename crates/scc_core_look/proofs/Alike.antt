@@ -1,5 +1,7 @@
 -- Paths that are the same part by part.
 use Rattle.std.proofs.Common.{◌≡◌, refl, arith, ℕ, zero, suc, ◌+◌, ◌<◌, ◌≤◌, Bool, true, false, ◌&&◌, List, [], ◌∷◌, ◌++◌, map, take, get_or, length, add-one, ap, ◌∙◌, sym}
+use Rattle.std.proofs.Common.{Result, Ok, Err}
+use Rattle.std.specs.Prelude.{IfOk}
 use Rattle.std.specs.List.{list_all}
 use Rattle.std.proofs.Math.Seq.{take-suc}
 use Rattle.scc_base.specs.declared.path.PathPart.{PathPart}
@@ -51,3 +53,21 @@ taken-whole [] zero h = refl
 taken-whole [] (suc i) h = refl
 taken-whole (x ∷ xs) zero h = absurd (let z = h in omega (arith, z))
 taken-whole (x ∷ xs) (suc i) h = ap (λ ys. x ∷ ys) (taken-whole xs i (omega (arith, h)))
+
+itself-more : {A : Type 0} (f : A → Bool) (xs : List A) (x : A) → list_all f xs ≡ true → f x ≡ true → list_all f (xs ++ x ∷ []) ≡ true
+itself-more f [] x e h = both (f x) true h refl
+itself-more f (y ∷ xs) x e h = both (f y) (list_all f (xs ++ x ∷ [])) (first (f y) (list_all f xs) e) (itself-more f xs x (second (f y) (list_all f xs) e) h)
+
+pub all-one : {A : Type 0} (f : A → Bool) (xs : List A) (i : ℕ) (x : A) → i < length xs → x ≡ get_or xs i x → (all one now : Bool) → (all ≡ true → list_all f (take i xs) ≡ true) → (one ≡ true → f x ≡ true)
+    → now ≡ (all && one) → now ≡ true → list_all f (take (i + 1) xs) ≡ true
+all-one f xs i x h is all one now k l m t =
+    let w : (all && one) ≡ true = sym m ∙ t in
+    ap (λ n. list_all f (take n xs)) (add-one i)
+    ∙ ap (λ ys. list_all f ys) (take-suc xs i x h)
+    ∙ ap (λ x. list_all f (take i xs ++ x ∷ [])) (sym is)
+    ∙ itself-more f (take i xs) x (k (first all one w)) (l (second all one w))
+
+-- what holds of each answer
+pub each-ok : {A E : Type 0} (P Q : A → Type 0) (r : Result A E) → IfOk r P → ((a : A) → P a → Q a) → IfOk r Q
+each-ok P Q (Ok a) p f = f a p
+each-ok P Q (Err e) p f = p

@@ -36,7 +36,7 @@ both a b e f = λ z. e z && f z
 
 -- ---- a name leads where its steps do
 
-walk_on : (p : Places) (at : Spot) (xs ys : List (Option NameStep)) → walk p at (xs ++ ys) ≡ option_and_then (λ to. walk p to ys) (walk p at xs)
+pub walk_on : (p : Places) (at : Spot) (xs ys : List (Option NameStep)) → walk p at (xs ++ ys) ≡ option_and_then (λ to. walk p to ys) (walk p at xs)
 walk_on p at [] ys = refl
 walk_on p at (x ∷ xs) ys = by (option_and_then (leads p at) x) (λ to. walk_on p to xs ys)
   where
@@ -53,11 +53,11 @@ known_indices : (is : List ℕ) → known (map step.Index is) ≡ of_indices is
 known_indices [] = refl
 known_indices (i ∷ is) = ap (λ l. Some (step.Index i) ∷ l) (known_indices is)
 
-known_on : (xs ys : List NameStep) → known (xs ++ ys) ≡ known xs ++ known ys
+pub known_on : (xs ys : List NameStep) → known (xs ++ ys) ≡ known xs ++ known ys
 known_on [] ys = refl
 known_on (x ∷ xs) ys = ap (λ l. Some x ∷ l) (known_on xs ys)
 
-nil-is : (is : List ℕ) (n : CellName) → n.local ≡ None → n.indices ≡ is → is_name n ≡ true → is ≡ []
+pub nil-is : (is : List ℕ) (n : CellName) → n.local ≡ None → n.indices ≡ is → is_name n ≡ true → is ≡ []
 nil-is [] n e f h = refl
 nil-is (i ∷ is) n e f h = absurd (let z = rw e at h in let y = rw f at z in cc)
 
@@ -66,7 +66,7 @@ own_spot : (p : Places) (local : Option (ℕ × Name)) (is : List ℕ) → (loca
 own_spot p None is h at = ap (λ is. walk p at (of_indices is)) (sym (h refl))
 own_spot p (Some l) is h at = ap (λ ss. option_and_then (λ to. walk p to ss) (leads p at (step.Local l.0))) (known_indices is)
 
-name_walk : (p : Places) (name : CellName) → (name.local ≡ None → name.indices ≡ []) → walk p top (known (steps_of name)) ≡ name_spot p name
+pub name_walk : (p : Places) (name : CellName) → (name.local ≡ None → name.indices ≡ []) → walk p top (known (steps_of name)) ≡ name_spot p name
 name_walk p name h =
     ap (walk p top) (known_on (map step_of name.path) (own_steps name.local name.indices))
     ∙ walk_on p top (known (map step_of name.path)) (known (own_steps name.local name.indices))
@@ -79,7 +79,7 @@ name_walk p name h =
 
 -- ---- steps of names, as the definitions have them
 
-fits_same : (xs ys : List NameStep) → fits (map step_in xs) (map step_in ys) ≡ same_list xs ys
+pub fits_same : (xs ys : List NameStep) → fits (map step_in xs) (map step_in ys) ≡ same_list xs ys
 fits_same [] [] = refl
 fits_same [] (step.Member y ∷ ys) = refl
 fits_same [] (step.Index y ∷ ys) = refl
@@ -97,7 +97,7 @@ fits_same (step.Index x ∷ xs) (step.Local y ∷ ys) = refl
 fits_same (step.Local x ∷ xs) (step.Member y ∷ ys) = refl
 fits_same (step.Local x ∷ xs) (step.Index y ∷ ys) = refl
 
-append_map : (xs ys : List NameStep) → map step_in (xs ++ ys) ≡ map step_in xs ++ map step_in ys
+pub append_map : (xs ys : List NameStep) → map step_in (xs ++ ys) ≡ map step_in xs ++ map step_in ys
 append_map [] ys = refl
 append_map (x ∷ xs) ys = ap (λ l. step_in x ∷ l) (append_map xs ys)
 
@@ -114,12 +114,12 @@ own_same : (local : Option (ℕ × Name)) (is : List ℕ) → named.own_steps (o
 own_same None is = refl
 own_same (Some l) is = ap (λ x. Ours l.0 ∷ x) (indices_same is)
 
-steps_same : (n : CellName) → named.steps_of (name_of n) ≡ map step_in (steps_of n)
+pub steps_same : (n : CellName) → named.steps_of (name_of n) ≡ map step_in (steps_of n)
 steps_same n = (λ i. path_same n.path i ++ own_same n.local n.indices i) ∙ sym (append_map (map step_of n.path) (own_steps n.local n.indices))
 
 -- ---- the first of a name
 
-turned : (a b : ℕ) → nat_eq a b ≡ nat_eq b a
+pub turned : (a b : ℕ) → nat_eq a b ≡ nat_eq b a
 turned a b = by (nat_eq a b) (nat_eq b a) refl refl
   where
     by : (x y : Bool) → nat_eq a b ≡ x → nat_eq b a ≡ y → nat_eq a b ≡ nat_eq b a
@@ -139,7 +139,7 @@ step_turned (step.Index x) (step.Local y) = refl
 step_turned (step.Local x) (step.Member y) = refl
 step_turned (step.Local x) (step.Index y) = refl
 
-list_turned : (xs ys : List NameStep) → same_list xs ys ≡ same_list ys xs
+pub list_turned : (xs ys : List NameStep) → same_list xs ys ≡ same_list ys xs
 list_turned [] [] = refl
 list_turned [] (y ∷ ys) = refl
 list_turned (x ∷ xs) [] = refl

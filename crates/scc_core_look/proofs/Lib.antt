@@ -3,3 +3,10 @@ pub mod Apart
 pub mod Alike
 pub mod Sorts
 pub mod Noted
+pub mod Agreeing
+pub mod Lefts
+pub mod Trees
+pub mod Good
+pub mod Dry
+pub mod Holding
+pub mod Itself

@@ -28,7 +28,7 @@ pointer-is (sort.Pointer t) = refl
 pointer-is (sort.Port r) = refl
 
 module _ (p : Places) (cells : List Cell) (vectors : List VectorSize2) (table : IsTable p cells vectors) where
-  at-path : (path : List PathPart) → option_and_then (cell_at p) (walk p (record { 0 = 0 }) (of_path path)) ≡ named.cell_at false 0 (named.path_steps (path_of path)) (map cell_of cells)
+  pub at-path : (path : List PathPart) → option_and_then (cell_at p) (walk p (record { 0 = 0 }) (of_path path)) ≡ named.cell_at false 0 (named.path_steps (path_of path)) (map cell_of cells)
   at-path path =
       ap (λ ss. option_and_then (cell_at p) (walk p (record { 0 = 0 }) ss)) (sym (known_path path))
       ∙ table.cells_by (map step_of path)

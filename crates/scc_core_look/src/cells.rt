@@ -17,7 +17,7 @@ pub fn is_pointer(cell: &Cell) -> bool
 }
 
 // Whether indices stand behind a local alone.
-fn is_name(name: &CellName) -> bool
+pub fn is_name(name: &CellName) -> bool
     ensures { result ≡ is_name name.now }
 {
     match name.local {

@@ -33,7 +33,7 @@ fn same_part(a: PathPart, b: PathPart) -> bool
     }
 }
 
-fn same_path(a: &[PathPart], b: &[PathPart]) -> bool
+pub fn same_path(a: &[PathPart], b: &[PathPart]) -> bool
     ensures { result ≡ true → same_path (path_of a.now) (path_of b.now) ≡ true }
 {
     if a.len() != b.len() {
@@ -46,13 +46,13 @@ fn same_path(a: &[PathPart], b: &[PathPart]) -> bool
     same
 }
 
-fn same_sign(a: bool, b: bool) -> bool
+pub fn same_sign(a: bool, b: bool) -> bool
     ensures { result ≡ same_bool a b }
 {
     if a { b } else { !b }
 }
 
-fn same_kind(a: Kind, b: Kind) -> bool
+pub fn same_kind(a: Kind, b: Kind) -> bool
     ensures { result ≡ same_kind a b }
 {
     match a {
@@ -114,7 +114,7 @@ fn name_fits(processes: &List<CoreProcess>, sort: &CellSort, name: &CellName) ->
 }
 
 // The cell of that path that is no pointer, by the table of names.
-fn at_path(places: &Places, path: &[PathPart]) -> Option<u32>
+pub fn at_path(places: &Places, path: &[PathPart]) -> Option<u32>
     ensures { result ≡ option_and_then (cell_at places.now) (walk places.now (record { 0 = 0 }) (of_path path.now)) }
 {
     let at = places.path(path)?;
@@ -134,7 +134,7 @@ fn root_fits(cells: &List<Cell>, kind: Kind, number: Option<u32>) -> bool
     }
 }
 
-fn word_fits(kind: Kind, word: Word) -> bool
+pub fn word_fits(kind: Kind, word: Word) -> bool
     ensures { result ≡ true → nat_lt word.bits (2 ^ width_of kind) ≡ true }
 {
     valid(kind) && fits(kind, word)

@@ -1,11 +1,15 @@
 //! The stages up to the segments of threads.
-ghost use Rattle.std.specs.Prelude.{◌≡◌, true, IfErr};
+ghost use Rattle.std.specs.Prelude.{◌≡◌, true, IfErr, IfOk};
+ghost use Rattle.scc_core_spec.specs.IsResolved.{IsResolved};
+ghost use Rattle.scc_core_view.specs.Programs.{program_of};
+ghost use Rattle.scc_core_view.specs.Whole.{AreWholeCells};
 ghost use Rattle.scc_drive_stages.specs.Refusals.{may_stop};
 
 use crate::processes::{Ordered, check_processes};
 use crate::refusals::allowed;
-use scc_base::{List, Name, Stop};
+use scc_base::{List, Name, NoMemory, Stop, lost};
 use scc_core::{Chain, Core, Pass};
+use scc_core_look::is_resolved;
 use scc_elab::{elaborate, elaborate_many};
 use scc_elab_design::Design;
 use scc_inline::inline;
@@ -24,7 +28,7 @@ pub struct Front {
     pub plain: Plain,
     /// Its objects and processes, after the top's constructor.
     pub design: Design,
-    /// What the processes do, without calls, counted loops and pointers.
+    /// What the processes do, without calls, counted loops and pointers. It is resolved.
     pub core: Core,
     /// The combinational methods, each after those that write what it reads.
     pub order: Order,
@@ -49,6 +53,8 @@ impl Drop for Front {
 /// stage that refuses decides.
 pub fn front_of(alloc: Global, tree: &FileTree, top: Name, many: bool) -> Result<Front, Stop>
     ensures refused { IfErr result (λ e. may_stop many e ≡ true) }
+    ensures resolved { IfOk result (λ f. IsResolved (program_of f.core)) }
+    ensures cells { IfOk result (λ f. AreWholeCells f.core.cells) }
 {
     match built(alloc, tree, top, many) {
         Ok(front) => Ok(front),
@@ -56,7 +62,10 @@ pub fn front_of(alloc: Global, tree: &FileTree, top: Name, many: bool) -> Result
     }
 }
 
-fn built(alloc: Global, tree: &FileTree, top: Name, many: bool) -> Result<Front, Stop> {
+fn built(alloc: Global, tree: &FileTree, top: Name, many: bool) -> Result<Front, Stop>
+    ensures resolved { IfOk result (λ f. IsResolved (program_of f.core)) }
+    ensures cells { IfOk result (λ f. AreWholeCells f.core.cells) }
+{
     let plain = plain(alloc, tree, top)?;
     let design = if many {
         elaborate_many(alloc, &plain)?
@@ -74,11 +83,27 @@ fn built(alloc: Global, tree: &FileTree, top: Name, many: bool) -> Result<Front,
     })
 }
 
-fn core_of(alloc: Global, plain: &Plain, design: &Design) -> Result<Core, Stop> {
+fn core_of(alloc: Global, plain: &Plain, design: &Design) -> Result<Core, Stop>
+    ensures resolved { IfOk result (λ c. IsResolved (program_of c)) }
+    ensures cells { IfOk result (λ c. AreWholeCells c.cells) }
+{
     let passes = Chain {
         first: Unroll,
         second: Resolve,
     };
     let copied = inline(alloc, plain, design)?;
-    passes.run(alloc, copied)
+    let core = passes.run(alloc, copied)?;
+    Ok(resolved(alloc, core)?)
+}
+
+// A core that the look doesn't find resolved is none that the passes leave.
+fn resolved(alloc: Global, core: Core) -> Result<Core, NoMemory>
+    ensures resolved { IfOk result (λ c. IsResolved (program_of c)) }
+    ensures cells { IfOk result (λ c. AreWholeCells c.cells) }
+{
+    if is_resolved(alloc, &core)? {
+        Ok(core)
+    } else {
+        Err(lost())
+    }
 }

@@ -16,7 +16,6 @@ use Rattle.scc_elab_spec.specs.Construct.{Making, Now, Ran, Fell, Left_out, Halt
 use Rattle.scc_plain_view.specs.Codes.{Node, stmt_node, stmt_step, stmt_code, code_of, before, count_of, sense_of}
 use Rattle.scc_plain_view.specs.Terms.{term_of}
 use Rattle.scc_elab_spec.specs.Binding.{declare}
-use Rattle.scc_elab_made.specs.Firsts.{begins_if, begins_make}
 
 -- what a run that may not fall is, whatever follows
 then_stays : (q : Ran) (f k : Now → Ran) → ((m : Now) → f m ≡ then_run (f m) k) → then_run q f ≡ then_run (then_run q f) k

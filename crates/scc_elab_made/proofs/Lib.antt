@@ -8,3 +8,6 @@ pub mod Stepping
 pub mod Standing
 pub mod Params
 pub mod Vectoring
+pub mod Anywhere
+pub mod Making
+pub mod Leadings

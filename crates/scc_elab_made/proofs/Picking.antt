@@ -14,7 +14,8 @@ use Rattle.scc_plain_view.specs.Codes.{Node, stmt_node, stmt_step, stmt_code, co
 use Rattle.scc_plain_view.specs.Terms.{term_of}
 use Rattle.scc_elab_made.specs.declared.works.How.{How}
 use Rattle.scc_elab_made.specs.declared.works.How.TheVariants as how
-use Rattle.scc_elab_made.specs.Firsts.{begins_if, begins_make, takes_first, IsParts}
+use Rattle.scc_elab_inits.specs.Makes.{begins_make}
+use Rattle.scc_elab_made.specs.Firsts.{begins_if, takes_first, IsParts}
 use Rattle.scc_elab_made.specs.Works.{Stand, making_at, site_at, run_at, chosen_of}
 use Rattle.scc_elab_made.proofs.Leading.{stmt_leads, same_fell}
 

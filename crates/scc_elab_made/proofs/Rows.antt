@@ -5,36 +5,33 @@ use Rattle.std.specs.List.{range_with_len}
 use Rattle.scc_semantics.specs.Location.{Part, Element}
 use Rattle.scc_elab_spec.specs.Bodies.{elements}
 use Rattle.scc_elab_spec.specs.Made.{elements_at}
+use Rattle.scc_elab_made.specs.Paths.{rows}
 
 map_append : {A B : Type 0} (f : A → B) (xs ys : List A) → map f (xs ++ ys) ≡ map f xs ++ map f ys
 map_append f [] ys = refl
 map_append f (x ∷ xs) ys = ap (λ zs. f x ∷ zs) (map_append f xs ys)
 
 module _ (path : List Part) (ns : List ℕ) where
-  -- the elements of which the first index is one of some
-  abbrev pub rows : ℕ → ℕ → List (List Part)
-  rows k n = flat_map (λ i. elements_at (path ++ Element i ∷ []) ns) (range_with_len k n)
-
   one_row : (i : ℕ) (all : List (List ℕ)) → map (λ is. path ++ map Element is) (map (λ is. i ∷ is) all) ≡ map (λ is. (path ++ Element i ∷ []) ++ map Element is) all
   one_row i [] = refl
   one_row i (is ∷ all) = λ j. sym (append_assoc path (Element i ∷ []) (map Element is)) j ∷ one_row i all j
 
-  all_rows : (k n : ℕ) → map (λ is. path ++ map Element is) (flat_map (λ i. map (λ is. i ∷ is) (elements ns)) (range_with_len k n)) ≡ rows k n
+  all_rows : (k n : ℕ) → map (λ is. path ++ map Element is) (flat_map (λ i. map (λ is. i ∷ is) (elements ns)) (range_with_len k n)) ≡ rows path ns k n
   all_rows k zero = refl
   all_rows k (suc n) = map_append (λ is. path ++ map Element is) (map (λ is. k ∷ is) (elements ns)) (flat_map (λ i. map (λ is. i ∷ is) (elements ns)) (range_with_len (k + 1) n))
       ∙ (λ j. one_row k (elements ns) j ++ all_rows (k + 1) n j)
 
-  pub rows_are : (n : ℕ) → elements_at path (n ∷ ns) ≡ rows 0 n
+  pub rows_are : (n : ℕ) → elements_at path (n ∷ ns) ≡ rows path ns 0 n
   rows_are n = all_rows 0 n
 
   left_is : (k n : ℕ) → k < n → n - k ≡ suc (n - (k + 1))
   left_is k n h = omega (arith, h)
 
-  pub next_row : (k n : ℕ) → k < n → rows k (n - k) ≡ elements_at (path ++ Element k ∷ []) ns ++ rows (k + 1) (n - (k + 1))
-  next_row k n h = ap (rows k) (left_is k n h)
+  pub next_row : (k n : ℕ) → k < n → rows path ns k (n - k) ≡ elements_at (path ++ Element k ∷ []) ns ++ rows path ns (k + 1) (n - (k + 1))
+  next_row k n h = ap (rows path ns k) (left_is k n h)
 
-  pub no_row : (n : ℕ) → rows n (n - n) ≡ []
-  no_row n = ap (rows n) (none n)
+  pub no_row : (n : ℕ) → rows path ns n (n - n) ≡ []
+  no_row n = ap (rows path ns n) (none n)
     where
       none : (n : ℕ) → n - n ≡ zero
       none n = omega arith
@@ -71,3 +68,10 @@ slice_is (x ∷ xs) s a e = λ i. e i ∷ (ap (λ n. take n xs) (less (length xs
 pub empty_is : {A : Type 0} (xs : List A) → length xs < 1 → xs ≡ []
 empty_is [] a = refl
 empty_is (x ∷ xs) a = absurd (omega arith)
+
+pub first_is : (xs : List ℕ) → 1 ≤ length xs → slice_index_or xs 0 0 ∷ take (length xs - 1) (drop 1 xs) ≡ xs
+first_is [] a = absurd (omega arith)
+first_is (x ∷ xs) a = λ i. x ∷ (ap (λ n. take n xs) (less (length xs)) ∙ take_all xs) i
+  where
+    less : (n : ℕ) → suc n - 1 ≡ n
+    less n = omega arith

@@ -48,6 +48,7 @@ through_halts p (work.Again l) z = refl
 through_halts p (work.Turn l) z = refl
 through_halts p (work.Lead l) z = refl
 through_halts p (work.Members m) z = refl
+through_halts p (work.Array a) z = refl
 through_halts p (work.Elements e) z = refl
 through_halts p (work.Vector v) z = refl
 through_halts p work.Made z = refl
@@ -79,11 +80,15 @@ pub puts_run : {A E : Type 0} (r : Result A E) (old new : List Work) (a b : At) 
 puts_run (Ok v) old new a b list e h = λ p x. outcome_one p old new (work.Run (record { at = a; how = how.All; list = list })) x e ∙ ap (λ s. outcome p old (then_run x (run_at p s (code_of list.now)))) h
 puts_run (Err v) old new a b list e h = tt
 
+pub puts_one : {A E : Type 0} (r : Result A E) (old new : List Work) (w : Work) → OnOk r (new ≡ old ++ w ∷ []) → Puts r old new (λ p x. through p w x)
+puts_one (Ok v) old new w e = λ p x. outcome_one p old new w x e
+puts_one (Err v) old new w e = tt
+
 pub puts_over : {A E : Type 0} (r : Result A E) (old mid new : List Work) (w : Work) (f : Plain → Ran → Ran) → mid ≡ old ++ w ∷ [] → Puts r mid new f → Puts r old new (λ p x. through p w (f p x))
 puts_over (Ok v) old mid new w f e h = λ p x. h p x ∙ outcome_one p old mid w (f p x) e
 puts_over (Err v) old mid new w f e h = tt
 
-puts_as : {A E : Type 0} (r : Result A E) (old new : List Work) (f g : Plain → Ran → Ran) → ((p : Plain) (x : Ran) → f p x ≡ g p x) → Puts r old new f → Puts r old new g
+pub puts_as : {A E : Type 0} (r : Result A E) (old new : List Work) (f g : Plain → Ran → Ran) → ((p : Plain) (x : Ran) → f p x ≡ g p x) → Puts r old new f → Puts r old new g
 puts_as (Ok v) old new f g e h = λ p x. h p x ∙ ap (outcome p old) (e p x)
 puts_as (Err v) old new f g e h = tt
 
@@ -160,6 +165,7 @@ left_through p (work.Turn l) d n e = refl
 left_through p work.Shut d n e = cc
 left_through p (work.Lead l) d n e = cc
 left_through p (work.Members m) d n e = cc
+left_through p (work.Array a) d n e = cc
 left_through p (work.Elements x) d n e = cc
 left_through p (work.Vector v) d n e = cc
 left_through p work.Made d n e = cc
@@ -171,6 +177,7 @@ shut_through p (work.Turn l) x e = cc
 shut_through p work.Shut x e = refl
 shut_through p (work.Lead l) x e = cc
 shut_through p (work.Members m) x e = cc
+shut_through p (work.Array a) x e = cc
 shut_through p (work.Elements y) x e = cc
 shut_through p (work.Vector v) x e = cc
 shut_through p work.Made x e = cc
@@ -182,6 +189,7 @@ stays_through p (work.Turn l) d n e = cc
 stays_through p work.Shut d n e = cc
 stays_through p (work.Lead l) d n e = refl
 stays_through p (work.Members m) d n e = refl
+stays_through p (work.Array a) d n e = refl
 stays_through p (work.Elements x) d n e = refl
 stays_through p (work.Vector v) d n e = refl
 stays_through p work.Made d n e = refl

@@ -2,7 +2,6 @@
 use Rattle.std.proofs.Common.{◌≡◌, refl, sym, ap, ◌∙◌, subst, ℕ, zero, suc, ◌+◌, ◌-◌, List, [], ◌∷◌, ◌++◌, map, Option, Some, None, Result, Ok, Err}
 use Rattle.std.specs.List.{range_with_len}
 use Rattle.scc_base.specs.declared.refusal.Stop.{Stop}
-use Rattle.scc_base.specs.declared.refusal.Stop.TheVariants as stop
 use Rattle.scc_core_spec.specs.Resolved.{Tried, Made, Stopped, and_made}
 use Rattle.scc_elab_spec.specs.Program.{Plain}
 use Rattle.scc_elab_spec.specs.Grown.{Grown}
@@ -11,13 +10,12 @@ use Rattle.scc_elab_spec.specs.Made.{grown_by, over_elements, built, made_one, n
 use Rattle.scc_semantics.specs.Location.{Element}
 use Rattle.scc_elab_store.specs.Locations.{part_of}
 use Rattle.scc_plain_view.specs.Codes.{base_of}
-use Rattle.scc_elab_grown.specs.Grown.{Grows}
 use Rattle.scc_elab_made.specs.declared.works.Work.{Work}
 use Rattle.scc_elab_made.specs.declared.works.Work.TheVariants as work
 use Rattle.scc_elab_made.specs.declared.works.VectorOf.{VectorOf}
 use Rattle.scc_elab_made.specs.Given.{element_made, vector_left}
 use Rattle.scc_elab_made.specs.Works.{outcome, anew, Steps}
-use Rattle.scc_elab_made.proofs.Stepping.{outcome_one, pass_halts}
+use Rattle.scc_elab_made.proofs.Stepping.{outcome_one, pass_halts, steps_to}
 
 pub vector_done : (p : Plain) (v : VectorOf) (ws : List Work) (n : Now) → v.count ≡ 0 → outcome p ws (vector_left p v n) ≡ outcome p ws (Fell (record { grown = n.grown; last = None }))
 vector_done p v ws n e = ap (λ k. outcome p ws (anew (over_elements (element_made p v) (range_with_len v.next k) n.grown))) e
@@ -33,7 +31,9 @@ module _ (p : Plain) (v k : VectorOf) (ws new : List Work) (n : Now) (left : ℕ
   goes_on : (g : Grown) (last : Option ℕ) → outcome p ws (anew (over_elements (element_made p v) (range_with_len (v.next + 1) left) g)) ≡ outcome p new (Fell (record { grown = g; last = last }))
   goes_on g last = (λ i. outcome p ws (anew (over_elements (sym same i) (range_with_len (sym next i) (sym few i)) g))) ∙ sym (outcome_one p ws new (work.Vector k) (Fell (record { grown = g; last = last })) put)
 
-  pub element_goes : (A : Type 0) (r : Result A Stop) (g : Grown) (last : Option ℕ) → Grows r g (element_made p v n.grown v.next) → Steps p r new (record { grown = g; last = last }) (outcome p ws (vector_left p v n))
-  element_goes A (Ok a) g last e = begins ∙ ap (λ t. outcome p ws (anew (and_made t (over_elements (element_made p v) (range_with_len (v.next + 1) left))))) e ∙ goes_on g last
-  element_goes A (Err (stop.Refused z)) g last e = begins ∙ ap (λ t. outcome p ws (anew (and_made t (over_elements (element_made p v) (range_with_len (v.next + 1) left))))) e ∙ ap grown_by (pass_halts p ws z)
-  element_goes A (Err stop.NoMemory) g last e = tt
+  pub element_goes : (A : Type 0) (r : Result A Stop) (newer : List Work) (m : Now) → Steps p r newer m (outcome p new (anew (element_made p v n.grown v.next))) → Steps p r newer m (outcome p ws (vector_left p v n))
+  element_goes A r newer m e = steps_to p r newer m (outcome p new (anew (element_made p v n.grown v.next))) (outcome p ws (vector_left p v n)) (begins ∙ by (element_made p v n.grown v.next)) e
+    where
+      by : (t : Tried Grown) → outcome p ws (anew (and_made t (over_elements (element_made p v) (range_with_len (v.next + 1) left)))) ≡ outcome p new (anew t)
+      by (Made g) = goes_on g None
+      by (Stopped z) = ap grown_by (pass_halts p ws z) ∙ sym (ap grown_by (pass_halts p new z))

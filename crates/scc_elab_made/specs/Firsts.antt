@@ -7,6 +7,7 @@ use Rattle.scc_plain_tree.specs.declared.stmt.PlainStmt.{PlainStmt}
 use Rattle.scc_plain_view.specs.Codes.{code_of}
 use Rattle.scc_elab_spec.specs.Worth.{Site}
 use Rattle.scc_elab_spec.specs.Construct.{Making, Now, looped, ran_in}
+use Rattle.scc_elab_inits.specs.Makes.{begins_make}
 use Rattle.scc_elab_made.specs.declared.works.How.{How}
 use Rattle.scc_elab_made.specs.declared.works.How.TheVariants as how
 
@@ -29,26 +30,6 @@ begins_if (Process p t f e r) = false
 begins_if (Sensitive p items r) = false
 begins_if (Quiet p r) = false
 begins_if (Reset p s e a r) = false
-
-abbrev pub begins_make : Code → Bool
-begins_make (Make p l base args r) = true
-begins_make End = false
-begins_make (Declare p n r) = false
-begins_make (Assign p l k e r) = false
-begins_make (Point p l t r) = false
-begins_make (Write p l e r) = false
-begins_make (Call p n f o args r) = false
-begins_make (If p t a b r) = false
-begins_make (Loop p c b r) = false
-begins_make (Block p b r) = false
-begins_make (Exit p d r) = false
-begins_make (Return p v r) = false
-begins_make (Wait p n r) = false
-begins_make (Bind p port to r) = false
-begins_make (Process p t f e r) = false
-begins_make (Sensitive p items r) = false
-begins_make (Quiet p r) = false
-begins_make (Reset p s e a r) = false
 
 -- whether the first of some statements is run
 abbrev pub takes_first : How → Code → Bool

@@ -16,10 +16,10 @@ use Rattle.scc_elab_spec.specs.Made.{word_if, built, made_one, none_given, over_
 use Rattle.scc_elab_spec.specs.Worth.{Given, at_now, given}
 use Rattle.scc_plain_view.specs.Terms.{argument_of}
 use Rattle.scc_elab_made.specs.declared.works.Args.{Args}
-use Rattle.scc_elab_made.specs.Works.{at_in, site_at, anew}
+use Rattle.scc_elab_made.specs.Works.{anew, passed_at, passed_in}
 
 abbrev pub args_at : Plain → Args → Grown → Tried (List Given)
-args_at p args g = given (at_now (site_at p (at_in args.at)) g) (map argument_of args.list.now)
+args_at p args = passed_at p (passed_in args)
 
 -- a variable takes the last argument, if any
 abbrev pub variable_made : Grown → List Part → Place → Kind → (Grown → Tried (List Given)) → Tried Grown

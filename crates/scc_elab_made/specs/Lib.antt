@@ -4,3 +4,4 @@ pub mod Works
 pub mod Firsts
 pub mod Passings
 pub mod Given
+pub mod Objects

@@ -11,6 +11,7 @@ passing_of (work.Turn l) = passing.Left
 passing_of work.Shut = passing.Shut
 passing_of (work.Lead l) = passing.Stays
 passing_of (work.Members m) = passing.Stays
+passing_of (work.Array a) = passing.Stays
 passing_of (work.Elements e) = passing.Stays
 passing_of (work.Vector v) = passing.Stays
 passing_of work.Made = passing.Stays

@@ -14,12 +14,12 @@ use Rattle.scc_elab_spec.specs.Design as design
 use Rattle.scc_elab_spec.specs.Inits.{inits_of, without_make}
 use Rattle.scc_elab_spec.specs.Program.{Code, Function, Plain}
 use Rattle.scc_elab_spec.specs.Grown.{Grown, nothing, added, at_path, with_target}
-use Rattle.scc_elab_spec.specs.Worth.{Site, at_now, worth, given}
-use Rattle.scc_elab_spec.specs.Term.{Term}
+use Rattle.scc_elab_spec.specs.Worth.{Site, Given, at_now, worth, given}
+use Rattle.scc_elab_spec.specs.Term.{Argument, Term}
 use Rattle.scc_elab_spec.specs.Construct.{Now, Ran, Fell, Making, then_run, shut, from_tried, turned, looped, choose_of, ran}
-use Rattle.scc_elab_spec.specs.Made.{nowhere, Building, built, making, made_one, made_members, over_elements, none_given, grown_by}
+use Rattle.scc_elab_spec.specs.Made.{nowhere, Building, built, making, made_one, made_members, elements_at, over_elements, none_given, grown_by}
 use Rattle.scc_elab_store.specs.Locations.{part_of}
-use Rattle.scc_elab_made.specs.Paths.{paths_of}
+use Rattle.scc_elab_made.specs.Paths.{rows}
 use Rattle.scc_elab_made.specs.declared.works.At.{At}
 use Rattle.scc_elab_made.specs.declared.works.How.{How}
 use Rattle.scc_elab_made.specs.declared.works.How.TheVariants as how
@@ -62,9 +62,24 @@ chosen_of (how.Without n) c = without_make (inits_of (Some n) c)
 abbrev pub anew : Tried Grown → Ran
 anew t = from_tried t (λ g. Fell (record { grown = g; last = None }))
 
-abbrev pub each_made : Plain → Form → Args → Grown → List Part → Tried Grown
-each_made p f args g q = if f.is_pointer then added g q f.place (design.Pointer None)
-    else making_at p args.at.levels g q f.place (base_of f.base) f.is_vector (λ g. given (at_now (site_at p (at_in args.at)) g) (map argument_of args.list.now))
+-- arguments, and the constructor in which they stand
+pub record Passed : Type 0 where
+  pub at : Stand
+  pub list : List Argument
+
+abbrev pub passed_in : Args → Passed
+passed_in args = record { at = at_in args.at; list = map argument_of args.list.now }
+
+abbrev pub passed_at : Plain → Passed → Grown → Tried (List Given)
+passed_at p q g = given (at_now (site_at p q.at) g) q.list
+
+-- one element of an array
+abbrev pub each_made : Plain → Form → Passed → Grown → List Part → Tried Grown
+each_made p f q g path = if f.is_pointer then added g path f.place (design.Pointer None)
+    else making_at p q.at.levels g path f.place (base_of f.base) f.is_vector (passed_at p q)
+
+abbrev pub array_made : Plain → Form → Passed → List (List Part) → Grown → Tried Grown
+array_made p f q = over_elements (each_made p f q)
 
 abbrev pub turns_of : Plain → LoopOf → Now → Ran
 turns_of p l = looped l.left l.place (run_at p (at_in l.at) (code_of l.test.now)) (run_at p (at_in l.at) (code_of l.body.now))
@@ -85,7 +100,8 @@ through p (work.Again l) x = then_run x (turns_of p l)
 through p (work.Turn l) x = then_run x (turn_of p l)
 through p (work.Lead l) x = from_tried (grown_by x) (λ g. Fell (led g (map part_of l.path.items) l.last))
 through p (work.Members m) x = anew (and_made (grown_by x) (made_members (built p m.at.levels) (site_at p (at_in m.at)) m.next (map member_of m.members.now) (code_of m.inits.now)))
-through p (work.Elements e) x = anew (and_made (grown_by x) (over_elements (each_made p e.form e.args) (drop e.next (paths_of e.paths.items))))
+through p (work.Array a) x = anew (and_made (grown_by x) (array_made p a.form (passed_in a.args) (elements_at (map part_of a.path.items) a.sizes.now)))
+through p (work.Elements e) x = anew (and_made (grown_by x) (array_made p e.form (passed_in e.args) (rows (map part_of e.path.items) e.sizes.now e.next e.count)))
 through p (work.Vector v) x = anew (and_made (grown_by x) (over_elements (λ g i. made_one (built p v.levels) g (map part_of v.path.items ++ Element i ∷ []) v.place (base_of v.base) none_given) (range_with_len v.next v.count)))
 through p work.Made x = anew (grown_by x)
 
@@ -107,6 +123,11 @@ Steps p (Err stop.NoMemory) ws n t = Unit {0}
 abbrev pub Puts : {A E : Type 0} → Result A E → List Work → List Work → (Plain → Ran → Ran) → Type 0
 Puts (Ok a) old new f = (p : Plain) (x : Ran) → outcome p new x ≡ outcome p old (f p x)
 Puts (Err e) old new f = Unit {0}
+
+-- what is still to be done goes on where this is made first, whatever the program
+abbrev pub Begins : {A E : Type 0} → Result A E → List Work → List Work → Now → (Plain → Tried Grown) → Type 0
+Begins (Ok a) old new n t = (p : Plain) → outcome p old (anew (t p)) ≡ outcome p new (Fell n)
+Begins (Err e) old new n t = Unit {0}
 
 -- one of two branches, by a test
 abbrev pub tested_in : Plain → Stand → Term → Code → Code → Now → Ran

@@ -1,9 +1,11 @@
 //! Which of a constructor's initialisers are run.
 ghost use Rattle.std.specs.Prelude.{◌≡◌};
+ghost use Rattle.scc_elab_inits.specs.Makes.{begins_make};
 ghost use Rattle.scc_elab_made.specs.Firsts.{begins_if};
 ghost use Rattle.scc_elab_spec.specs.Program.{End};
-ghost use Rattle.scc_plain_view.specs.Codes.{stmt_code};
+ghost use Rattle.scc_plain_view.specs.Codes.{code_of, stmt_code};
 
+use scc_elab_inits::is_make;
 use scc_plain_tree::{PlainNode, PlainStmt};
 
 /// Whether a statement is an `if`.
@@ -28,5 +30,15 @@ pub fn is_if(s: &PlainStmt) -> bool
         PlainNode::Sense(_) => false,
         PlainNode::Quiet => false,
         PlainNode::Reset { .. } => false,
+    }
+}
+
+/// Whether the first of some statements makes an object.
+pub fn makes_first(list: &[PlainStmt]) -> bool
+    ensures { result ≡ begins_make (code_of list.now) }
+{
+    match list {
+        [] => false,
+        [s, _rest @ ..] => is_make(s),
     }
 }

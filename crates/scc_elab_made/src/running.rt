@@ -13,28 +13,33 @@ ghost use Rattle.scc_plain_view.specs.Codes.{code_of, stmt_code};
 ghost use Rattle.scc_plain_view.specs.Plains.{plain_of};
 ghost use Rattle.scc_plain_view.specs.Terms.{term_of};
 
-use crate::inits::is_if;
+use crate::arrays::{begin_array, next_of_array};
+use crate::inits::{is_if, makes_first};
+use crate::members::next_member;
 use crate::moment::Moment;
+use crate::news::make_new;
 use crate::places::{simple_at, value_at};
 use crate::vectors::next_of_vector;
 use crate::works::{At, How, LeadOf, LoopOf, RunOf, Work};
 use scc_base::{Code, NoMemory, Place, Stop, lost, push};
+use scc_elab_inits::{belongs, is_make, owner_of};
 use scc_elab_store::Location;
 use scc_plain_tree::{Plain, PlainExpr, PlainNode, PlainStmt};
+use std::alloc::Global;
 
 // One more than there may be in all.
 const MOST_TURNS: u32 = 65_537;
 
-// All of some statements are to be run.
-fn put_run<'t>(
-    m: &Moment,
+/// All of some statements are to be run.
+pub fn put_run<'t>(
+    alloc: Global,
     at: &At<'t>,
     list: &'t [PlainStmt],
     works: &mut Vec<Work<'t>>,
 ) -> Result<(), NoMemory>
     ensures { Puts result works.old.items works.new.items (λ p x. then_run x (run_at p (at_in at.now) (code_of list.now))) }
 {
-    let at = at.copied(m.grown.alloc)?;
+    let at = at.copied(alloc)?;
     push(
         works,
         Work::Run(RunOf {
@@ -61,7 +66,7 @@ fn branch<'t>(
     match value_at(p, at, &m.grown, test) {
         Ok(v) => {
             let taken = if v.is_true() { yes } else { no };
-            Ok(put_run(m, at, taken, works)?)
+            Ok(put_run(m.grown.alloc, at, taken, works)?)
         }
         Err(stop) => Err(stop),
     }
@@ -76,7 +81,7 @@ fn begin_block<'t>(
     ensures { Puts result works.old.items works.new.items (λ p x. shut (then_run x (run_at p (at_in at.now) (code_of body.now))) Fell) }
 {
     push(works, Work::Shut)?;
-    put_run(m, at, body, works)
+    put_run(m.grown.alloc, at, body, works)
 }
 
 /// A loop's own test, and what a turn runs.
@@ -159,7 +164,7 @@ fn again<'t>(p: &Plain, l: &LoopOf<'t>, works: &mut Vec<Work<'t>>, m: &Moment) -
             body: l.body,
         }),
     )?;
-    Ok(put_run(m, &l.at, l.test, works)?)
+    Ok(put_run(m.grown.alloc, &l.at, l.test, works)?)
 }
 
 // A turn begins that the test let in. Refused as E412.
@@ -185,7 +190,7 @@ fn turn<'t>(
             body: l.body,
         }),
     )?;
-    Ok(put_run(m, &l.at, l.body, works)?)
+    Ok(put_run(m.grown.alloc, &l.at, l.body, works)?)
 }
 
 /// What leaving a block does to what is still to be done: it is left, too, or is the block's end, or stays.
@@ -206,6 +211,7 @@ fn kind_of(w: &Work) -> Passing
         Work::Shut => Passing::Shut,
         Work::Lead(_) => Passing::Stays,
         Work::Members(_) => Passing::Stays,
+        Work::Array(_) => Passing::Stays,
         Work::Elements(_) => Passing::Stays,
         Work::Vector(_) => Passing::Stays,
         Work::Made => Passing::Stays,
@@ -235,9 +241,9 @@ fn leave<'t>(p: &Plain, works: &mut Vec<Work<'t>>, m: &Moment, depth: u32) -> Re
     Err(Stop::from(lost()))
 }
 
-// The rest of some statements is to be run.
-fn put_rest<'t>(
-    m: &Moment,
+/// Those of some statements are to be run that are meant.
+pub fn put_rest<'t>(
+    alloc: Global,
     at: &At<'t>,
     how: How,
     list: &'t [PlainStmt],
@@ -245,7 +251,7 @@ fn put_rest<'t>(
 ) -> Result<(), NoMemory>
     ensures { Puts result works.old.items works.new.items (λ p x. then_run x (run_at p (at_in at.now) (chosen_of how (code_of list.now)))) }
 {
-    let at = at.copied(m.grown.alloc)?;
+    let at = at.copied(alloc)?;
     push(works, Work::Run(RunOf { at, how, list }))
 }
 
@@ -281,7 +287,8 @@ fn nested<'t>(
     }
 }
 
-fn statement<'t>(
+// A statement that makes no object.
+fn other<'t>(
     p: &Plain,
     at: &At<'t>,
     s: &'t PlainStmt,
@@ -297,19 +304,53 @@ fn statement<'t>(
     }
 }
 
+// A statement that makes an object.
+fn maker<'t>(
+    p: &'t Plain,
+    at: &At<'t>,
+    s: &'t PlainStmt,
+    works: &mut Vec<Work<'t>>,
+    m: &mut Moment,
+) -> Result<(), Stop>
+    ensures { Steps (plain_of p.now) result works.new.items (now_of m.new) (outcome (plain_of p.now) works.old.items (run_at (plain_of p.now) (at_in at.now) (stmt_code s.now End) (now_of m.old))) }
+{
+    match &s.node {
+        PlainNode::Make { left, base, args } => {
+            make_new(p, at, s.place, left, *base, args.as_slice(), works, m)
+        }
+        _ => Err(Stop::from(lost())),
+    }
+}
+
+fn statement<'t>(
+    p: &'t Plain,
+    at: &At<'t>,
+    s: &'t PlainStmt,
+    works: &mut Vec<Work<'t>>,
+    m: &mut Moment,
+) -> Result<(), Stop>
+    ensures { Steps (plain_of p.now) result works.new.items (now_of m.new) (outcome (plain_of p.now) works.old.items (run_at (plain_of p.now) (at_in at.now) (stmt_code s.now End) (now_of m.old))) }
+{
+    if is_make(s) {
+        maker(p, at, s, works, m)
+    } else {
+        other(p, at, s, works, m)
+    }
+}
+
 // Whether the first of some statements is run.
-fn takes(how: How, list: &[PlainStmt]) -> Result<bool, NoMemory>
-    ensures { IfOk result (λ b. b ≡ takes_first how (code_of list.now)) }
+fn takes(how: How, list: &[PlainStmt]) -> bool
+    ensures { result ≡ takes_first how (code_of list.now) }
 {
     match how {
-        How::All => Ok(true),
-        How::Of(_) => Err(lost()),
-        How::Without(_) => Err(lost()),
+        How::All => true,
+        How::Of(member) => belongs(member, owner_of(list)),
+        How::Without(member) => belongs(Some(member), owner_of(list)) && !makes_first(list),
     }
 }
 
 fn next_statement<'t>(
-    p: &Plain,
+    p: &'t Plain,
     r: &RunOf<'t>,
     works: &mut Vec<Work<'t>>,
     m: &mut Moment,
@@ -319,8 +360,8 @@ fn next_statement<'t>(
     match r.list {
         [] => Ok(()),
         [s, rest @ ..] => {
-            let taken = takes(r.how, r.list)?;
-            put_rest(m, &r.at, r.how, rest, works)?;
+            let taken = takes(r.how, r.list);
+            put_rest(m.grown.alloc, &r.at, r.how, rest, works)?;
             if taken {
                 statement(p, &r.at, s, works, m)
             } else {
@@ -343,7 +384,7 @@ fn lead(l: &LeadOf, m: &mut Moment) -> Result<(), NoMemory>
 
 // What is next to be done.
 fn step<'t>(
-    p: &Plain,
+    p: &'t Plain,
     work: &Work<'t>,
     works: &mut Vec<Work<'t>>,
     m: &mut Moment,
@@ -356,8 +397,9 @@ fn step<'t>(
         Work::Again(l) => again(p, l, works, m),
         Work::Turn(l) => turn(p, l, works, m),
         Work::Lead(l) => Ok(lead(l, m)?),
-        Work::Members(_) => Err(Stop::from(lost())),
-        Work::Elements(_) => Err(Stop::from(lost())),
+        Work::Members(ms) => Ok(next_member(ms, works, m)?),
+        Work::Array(a) => begin_array(p, a, works, m),
+        Work::Elements(e) => next_of_array(p, e, works, m),
         Work::Vector(v) => next_of_vector(p, v, works, m),
         Work::Made => {
             m.last = None;
@@ -367,7 +409,7 @@ fn step<'t>(
 }
 
 /// Does all that is to be done.
-pub fn run<'t>(p: &Plain, works: &mut Vec<Work<'t>>, m: &mut Moment) -> Result<(), Stop>
+pub fn run<'t>(p: &'t Plain, works: &mut Vec<Work<'t>>, m: &mut Moment) -> Result<(), Stop>
     ensures { Leaves result (grown_of m.new.grown) (outcome (plain_of p.now) works.old.items (Fell (now_of m.old))) }
 {
     for _ in 0..usize::MAX {

@@ -1,39 +1,44 @@
 //! Vectors, element by element.
 ghost use Rattle.std.specs.Prelude.{◌≡◌};
-ghost use Rattle.scc_elab_grown.specs.Grown.{Grows, grown_of};
+ghost use Rattle.scc_elab_grown.specs.Grown.{grown_of};
 ghost use Rattle.scc_elab_made.specs.Given.{element_made, vector_left};
 ghost use Rattle.scc_elab_made.specs.Runs.{now_of};
-ghost use Rattle.scc_elab_made.specs.Works.{outcome, Steps};
+ghost use Rattle.scc_elab_made.specs.Works.{anew, outcome, Steps};
 ghost use Rattle.scc_plain_view.specs.Plains.{plain_of};
 
 use crate::elements::element_of;
 use crate::moment::Moment;
-use crate::things::{copied, make_thing};
+use crate::objects::make_base;
+use crate::things::copied;
 use crate::works::{Args, At, VectorOf, Work};
 use scc_base::{Stop, lost, push};
-use scc_elab_grown::Grown;
 use scc_plain_tree::Plain;
 
-// An element of a base that is no class, without arguments.
-fn make_element(p: &Plain, g: &mut Grown, v: &VectorOf) -> Result<(), Stop>
-    ensures { Grows result (grown_of g.new) (element_made (plain_of p.now) v.now (grown_of g.old) v.now.next) }
+// An element of a vector, without arguments.
+fn make_element<'t>(
+    p: &'t Plain,
+    v: &VectorOf,
+    works: &mut Vec<Work<'t>>,
+    m: &mut Moment,
+) -> Result<(), Stop>
+    ensures { Steps (plain_of p.now) result works.new.items (now_of m.new) (outcome (plain_of p.now) works.old.items (anew (element_made (plain_of p.now) v.now (grown_of m.old.grown) v.now.next))) }
 {
-    let path = element_of(g.alloc, v.path.as_slice(), u128::from(v.next))?;
+    let path = element_of(m.grown.alloc, v.path.as_slice(), u128::from(v.next))?;
     let args = Args {
         at: At {
             function: None,
             object: 0,
-            path: Vec::new(g.alloc),
+            path: Vec::new(m.grown.alloc),
             levels: v.levels,
         },
         list: &[],
     };
-    make_thing(p, g, path.as_slice(), v.place, v.base, &args)
+    make_base(p, path.as_slice(), v.place, v.base, &args, works, m)
 }
 
-/// The next element of a vector; of a class none is made yet.
+/// The next element of a vector.
 pub fn next_of_vector<'t>(
-    p: &Plain,
+    p: &'t Plain,
     v: &VectorOf,
     works: &mut Vec<Work<'t>>,
     m: &mut Moment,
@@ -59,5 +64,5 @@ pub fn next_of_vector<'t>(
             place: v.place,
         }),
     )?;
-    make_element(p, &mut m.grown, v)
+    make_element(p, v, works, m)
 }

@@ -1,9 +1,8 @@
 //! What construction has still to do. Constructors nest as deep as there are objects, blocks as deep as a `switch` has labels, so what is
 //! still to be done is kept in a list.
 ghost use Rattle.std.specs.Prelude.{◌≡◌, IfOk};
-ghost use Rattle.scc_elab_made.specs.Works.{at_in};
+ghost use Rattle.scc_elab_made.specs.Works.{at_in, passed_in};
 
-use crate::elements::ElementPath;
 use scc_base::{NoMemory, Place};
 use scc_elab_store::Part;
 use scc_plain_tree::{Base, PlainArg, PlainFunction, PlainMember, PlainStmt};
@@ -138,6 +137,18 @@ impl<'t> Drop for Args<'t> {
     }
 }
 
+impl<'t> Args<'t> {
+    /// The same.
+    pub fn copied(&self, alloc: Global) -> Result<Args<'t>, NoMemory>
+        ensures { IfOk result (λ a. passed_in a ≡ passed_in self.now) }
+    {
+        Ok(Args {
+            at: self.at.copied(alloc)?,
+            list: self.list,
+        })
+    }
+}
+
 /// What each element of an array is: a pointer or reference, or a thing or vector of a base.
 #[derive(Clone, Copy)]
 pub struct Form {
@@ -147,12 +158,33 @@ pub struct Form {
     pub place: Place,
 }
 
-/// The elements of an array from one on.
+/// An array of these sizes at a path; without sizes one thing.
+pub struct ArrayOf<'t> {
+    pub form: Form,
+    pub args: Args<'t>,
+    pub path: Vec<Part>,
+    pub sizes: &'t [u32],
+}
+
+impl<'t> Drop for ArrayOf<'t> {
+    fn drop(self) {
+        let ArrayOf {
+            form: _form,
+            args: _args,
+            path: _path,
+            sizes: _sizes,
+        } = self;
+    }
+}
+
+/// So many elements of an array from one on, each an array of these sizes.
 pub struct ElementsOf<'t> {
     pub form: Form,
     pub args: Args<'t>,
-    pub paths: Vec<ElementPath>,
-    pub next: usize,
+    pub path: Vec<Part>,
+    pub sizes: &'t [u32],
+    pub next: u32,
+    pub count: u32,
 }
 
 impl<'t> Drop for ElementsOf<'t> {
@@ -160,8 +192,10 @@ impl<'t> Drop for ElementsOf<'t> {
         let ElementsOf {
             form: _form,
             args: _args,
-            paths: _paths,
+            path: _path,
+            sizes: _sizes,
             next: _next,
+            count: _count,
         } = self;
     }
 }
@@ -201,6 +235,7 @@ pub enum Work<'t> {
     Turn(LoopOf<'t>),
     Lead(LeadOf),
     Members(MembersOf<'t>),
+    Array(ArrayOf<'t>),
     Elements(ElementsOf<'t>),
     Vector(VectorOf),
     /// An object is made.

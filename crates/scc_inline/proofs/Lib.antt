@@ -1,1 +1,3 @@
 pub mod Titled
+pub mod Beginning
+pub mod Spreading

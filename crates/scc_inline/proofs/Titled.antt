@@ -22,7 +22,7 @@ use Rattle.scc_plain_view.specs.Plains.{plain_of, function_of}
 use Rattle.scc_inline_cells.proofs.Views.{path_is}
 use Rattle.scc_inline_spec.specs.Inlined.{process_path}
 
-drop_at : {A : Type 0} (xs : List A) (i : ℕ) (x : A) → slice_get xs i ≡ Some x → drop i xs ≡ x ∷ drop (suc i) xs
+pub drop_at : {A : Type 0} (xs : List A) (i : ℕ) (x : A) → slice_get xs i ≡ Some x → drop i xs ≡ x ∷ drop (suc i) xs
 drop_at [] i x e = cc
 drop_at (y ∷ ys) zero x e = let same : y ≡ x = cc in ap (λ z. z ∷ ys) same
 drop_at (y ∷ ys) (suc i) x e = drop_at ys i x e
@@ -35,7 +35,7 @@ senses_next f made new senses n root x inv there is added =
     ap (λ i. new ++ map f (drop i senses)) k ∙ ap (λ z. z ++ rest) (added ∙ ap (λ z. made ++ z ∷ []) is) ∙ append_assoc made (f root ∷ []) rest
     ∙ ap (λ z. made ++ map f z) (sym (drop_at senses n root there)) ∙ inv
 
-map_both : {A B : Type 0} (f : A → B) (xs ys : List A) → map f (xs ++ ys) ≡ map f xs ++ map f ys
+pub map_both : {A B : Type 0} (f : A → B) (xs ys : List A) → map f (xs ++ ys) ≡ map f xs ++ map f ys
 map_both f [] ys = refl
 map_both f (x ∷ xs) ys = ap (λ zs. f x ∷ zs) (map_both f xs ys)
 

@@ -1,2 +1,4 @@
 pub mod Refusals
 pub mod Headings
+pub mod Begun
+pub mod Locals

@@ -6,6 +6,7 @@
 //! together, at most 1,024 levels, as the limit on nesting allows.
 #![tactic(auto)]
 
+mod elements;
 mod heading;
 mod locate;
 mod process;

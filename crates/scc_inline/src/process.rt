@@ -1,5 +1,10 @@
 //! The core of a design.
-ghost use Rattle.std.specs.Prelude.{IfErr};
+ghost use Rattle.std.specs.Prelude.{◌≡◌, IfErr, IfOk, OnOk};
+ghost use Rattle.scc_core_view.specs.Programs.{program_of};
+ghost use Rattle.scc_inline_cells.specs.Listed.{counted};
+ghost use Rattle.scc_plain_view.specs.Designs.{design_of, process_of};
+ghost use Rattle.scc_plain_view.specs.Plains.{plain_of};
+ghost use Rattle.scc_inline.specs.Begun.{IsBegun, IsHeading, Keeps, are_headings, copied_headings, heading_of, top_in};
 ghost use Rattle.scc_inline.specs.Refusals.{MayStop};
 
 use crate::heading::heading;
@@ -17,8 +22,9 @@ use std::alloc::Global;
 /// object of a call is chosen, under an index that isn't static. The first of the first process that has one.
 pub fn inline(alloc: Global, p: &Plain, d: &Design) -> Result<Core, Stop>
     ensures stop { IfErr result MayStop }
+    ensures begun { IfOk result (λ c. IsBegun (plain_of p.now) (design_of d.now) (program_of c)) }
 {
-    let top = p.classes.get(p.top as usize).ok_or(lost())?.name;
+    let top = top_of(p)?;
     let facts = all_facts(alloc, p)?;
     let vectors = vectors(alloc, d)?;
     let (cells, of) = object_cells(alloc, p, d)?.into_parts();
@@ -36,6 +42,16 @@ pub fn inline(alloc: Global, p: &Plain, d: &Design) -> Result<Core, Stop>
     })
 }
 
+// The name of the top.
+fn top_of(p: &Plain) -> Result<Name, NoMemory>
+    ensures { IfOk result (λ n. n.0 ≡ top_in (plain_of p.now)) }
+{
+    match p.classes.get(p.top as usize) {
+        Some(class) => Ok(class.name),
+        None => Err(lost()),
+    }
+}
+
 impl Growing {
     // The processes of a design in construction order.
     fn processes(
@@ -45,9 +61,14 @@ impl Growing {
         cells: &List<Option<u32>>,
     ) -> Result<List<CoreProcess>, Stop>
         ensures stop { IfErr result MayStop }
+        ensures keeps { OnOk result (Keeps self.old self.new) }
+        ensures headings { cells.now ≡ counted 0 (design_of d.now).objects → IfOk result (λ qs. are_headings qs ≡ copied_headings (plain_of source.entry.plain.now) (design_of d.now)) }
     {
         let mut made = List::new(self.alloc);
-        for (number, process) in d.processes.as_slice().iter().enumerate() {
+        for number in 0..d.processes.len() {
+            let Some(process) = d.processes.get(number) else {
+                return Err(lost().into());
+            };
             self.number = numbered(number)?;
             let copied = self.process(source, d, process, cells)?;
             made.push(copied)?;
@@ -63,6 +84,8 @@ impl Growing {
         cells: &List<Option<u32>>,
     ) -> Result<CoreProcess, Stop>
         ensures stop { IfErr result MayStop }
+        ensures keeps { OnOk result (Keeps self.old self.new) }
+        ensures headings { cells.now ≡ counted 0 (design_of d.now).objects → IfOk result (λ q. IsHeading (plain_of source.entry.plain.now) (design_of d.now) (process_of process.now) q) }
     {
         let function = source
             .plain
@@ -82,13 +105,15 @@ impl Growing {
             facts,
         };
         self.begin(object.path.as_slice(), function.name)?;
-        let mut made = heading(self.alloc, source.plain, d, process, cells)?;
-        made.body = self.block_of(object.path.as_slice(), &here, process.place)?;
-        Ok(made)
+        let made = heading(self.alloc, source.plain, d, process, cells)?;
+        let body = self.block_of(object.path.as_slice(), &here, process.place)?;
+        Ok(with_body(made, body))
     }
 
     // No local of the process has a number yet.
-    fn begin(&mut self, path: &[PathPart], function: Name) -> Result<(), NoMemory> {
+    fn begin(&mut self, path: &[PathPart], function: Name) -> Result<(), NoMemory>
+        ensures keeps { OnOk result (Keeps self.old self.new) }
+    {
         self.process = Path::of(self.alloc, path)?;
         self.process.push(PathPart::Member(function))?;
         self.next = 0;
@@ -103,6 +128,7 @@ impl Growing {
         place: Place,
     ) -> Result<List<CoreStmt>, Stop>
         ensures stop { IfErr result MayStop }
+        ensures keeps { OnOk result (Keeps self.old self.new) }
     {
         let this = This {
             left: CoreLeft::new(
@@ -122,6 +148,15 @@ impl Growing {
         })?;
         Ok(block)
     }
+}
+
+// A process with its body.
+fn with_body(heading: CoreProcess, body: List<CoreStmt>) -> CoreProcess
+    ensures { heading_of result ≡ heading_of heading }
+{
+    let mut made = heading;
+    made.body = body;
+    made
 }
 
 // Whether a body with its calls copied, in its one block, passes a limit.

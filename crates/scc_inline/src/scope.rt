@@ -1,4 +1,14 @@
 //! What a copy of a function works with.
+ghost use Rattle.std.specs.Prelude.{◌≡◌, [], ◌∷◌, ◌++◌, IfOk, OnOk};
+ghost use Rattle.scc_inline_spec.specs.Inlined.{answer_member};
+ghost use Rattle.scc_core_view.specs.Programs.{sort_of as core_sort};
+ghost use Rattle.scc_elab_spec.specs.Bodies.{elements as elements_in, number_kind};
+ghost use Rattle.scc_plain_view.specs.Codes.{base_of};
+ghost use Rattle.scc_plain_view.specs.Plains.{function_of, member_of, reach_of, shape_of};
+ghost use Rattle.scc_inline.specs.Begun.{Keeps};
+ghost use Rattle.scc_inline.specs.Locals.{AreAdded, IsAdded, IsOneMore, own_sort, cell_with, is_named};
+
+use crate::elements::{copied, elements};
 use indexmap::IndexMap;
 use scc_base::{List, Name, NoMemory, Path, Place, lost, push};
 use scc_bits::{Kind, Value, Word};
@@ -155,7 +165,9 @@ impl Growing {
         alloc: Global,
         cells: List<Cell>,
         vectors: &List<VectorSize2>,
-    ) -> Result<Growing, NoMemory> {
+    ) -> Result<Growing, NoMemory>
+        ensures { IfOk result (λ g. g.cells ≡ cells) }
+    {
         let places = Places::of(alloc, &cells, vectors)?;
         Ok(Growing {
             alloc,
@@ -169,7 +181,9 @@ impl Growing {
     }
 
     /// All cells that there are.
-    pub fn into_cells(self) -> List<Cell> {
+    pub fn into_cells(self) -> List<Cell>
+        ensures { result ≡ self.cells }
+    {
         let Growing {
             alloc: _,
             cells,
@@ -198,7 +212,9 @@ impl Growing {
         scope: &mut Scope,
         function: &PlainFunction,
         local: u32,
-    ) -> Result<(), NoMemory> {
+    ) -> Result<(), NoMemory>
+        ensures keeps { OnOk result (Keeps self.old self.new) }
+    {
         let at = local as usize;
         let member = function.locals.get(at).ok_or(lost())?;
         if scope.locals.get(at).copied().flatten().is_some() {
@@ -216,11 +232,9 @@ impl Growing {
     }
 
     /// Gives the locals that no statement declared their numbers.
-    pub fn give_rest(
-        &mut self,
-        scope: &mut Scope,
-        function: &PlainFunction,
-    ) -> Result<(), NoMemory> {
+    pub fn give_rest(&mut self, scope: &mut Scope, function: &PlainFunction) -> Result<(), NoMemory>
+        ensures keeps { OnOk result (Keeps self.old self.new) }
+    {
         for local in 0..function.locals.len() {
             self.give(scope, function, numbered(local)?)?;
         }
@@ -228,30 +242,63 @@ impl Growing {
     }
 
     // The cells of a local, one for each element; the first one's number.
-    fn add_local(&mut self, member: &PlainMember, number: u32) -> Result<u32, NoMemory> {
-        let kind = match member.shape.base {
-            Base::Number(kind) => kind,
-            _ => Kind::Bool,
-        };
-        let sizes = member.shape.sizes.as_slice();
-        let direct = member.shape.reach == Reach::Direct;
+    fn add_local(&mut self, member: &PlainMember, number: u32) -> Result<u32, NoMemory>
+        ensures keeps { OnOk result (Keeps self.old self.new) }
+        ensures cells { number ≡ self.old.next → OnOk result (IsOneMore self.old self.new (member_of member.now) (elements_in (shape_of member.now.shape).sizes)) }
+    {
         let first = numbered(self.cells.len())?;
-        for element in 0..count(sizes) {
-            let sort = if direct {
-                CellSort::Local(self.number)
-            } else {
-                CellSort::Pointer(None)
-            };
-            let indices = indices(self.alloc, sizes, element)?;
-            let name = self.local_name(number, member.name, indices)?;
-            self.add(name, kind, sort, member.place)?;
-        }
+        let all = elements(self.alloc, member.shape.sizes.as_slice())?;
+        self.add_elements(member, number, &all)?;
         self.next = self.next.checked_add(1).ok_or(lost())?;
         Ok(first)
     }
 
+    fn add_elements(
+        &mut self,
+        member: &PlainMember,
+        number: u32,
+        all: &List<List<u32>>,
+    ) -> Result<(), NoMemory>
+        ensures keeps { OnOk result (Keeps self.old self.new) }
+        ensures cells { OnOk result (AreAdded self.old self.new number (member_of member.now) all.now) }
+    {
+        for indices in all.as_slice() {
+            self.add_element(member, number, indices)?;
+        }
+        Ok(())
+    }
+
+    fn add_element(
+        &mut self,
+        member: &PlainMember,
+        number: u32,
+        indices: &List<u32>,
+    ) -> Result<(), NoMemory>
+        ensures keeps { OnOk result (Keeps self.old self.new) }
+        ensures cells { OnOk result (AreAdded self.old self.new number (member_of member.now) (indices.now ∷ [])) }
+    {
+        let kind = kind_of(member.shape.base);
+        let sort = self.sort_of(member.shape.reach);
+        let name = self.local_name(number, member.name, copied(self.alloc, indices)?)?;
+        self.add(name, kind, sort, member.place)
+    }
+
+    // A pointer or reference leads nowhere yet.
+    fn sort_of(&self, reach: Reach) -> CellSort
+        ensures { core_sort result ≡ own_sort self.now (reach_of reach) }
+    {
+        match reach {
+            Reach::Direct => CellSort::Local(self.number),
+            Reach::Pointer => CellSort::Pointer(None),
+            Reach::Reference => CellSort::Pointer(None),
+        }
+    }
+
     /// The cell of the result of a call, with the function's identifier.
-    pub fn add_answer(&mut self, function: &PlainFunction, kind: Kind) -> Result<u32, NoMemory> {
+    pub fn add_answer(&mut self, function: &PlainFunction, kind: Kind) -> Result<u32, NoMemory>
+        ensures keeps { OnOk result (Keeps self.old self.new) }
+        ensures answers { OnOk result (IsOneMore self.old self.new (answer_member (function_of function.now) kind) ([] ∷ [])) }
+    {
         let cell = numbered(self.cells.len())?;
         let name = self.local_name(self.next, function.name, List::new(self.alloc))?;
         self.add(name, kind, CellSort::Local(self.number), function.place)?;
@@ -265,7 +312,9 @@ impl Growing {
         number: u32,
         ident: Name,
         indices: List<u32>,
-    ) -> Result<CellName, NoMemory> {
+    ) -> Result<CellName, NoMemory>
+        ensures { IfOk result (λ n. is_named self.now number ident indices n) }
+    {
         Ok(CellName {
             path: Path::of(self.alloc, self.process.as_slice())?,
             local: Some((number, ident)),
@@ -279,7 +328,10 @@ impl Growing {
         kind: Kind,
         sort: CellSort,
         place: Place,
-    ) -> Result<(), NoMemory> {
+    ) -> Result<(), NoMemory>
+        ensures keeps { OnOk result (Keeps self.old self.new) }
+        ensures added { OnOk result (IsAdded self.old self.new (cell_with name kind sort place)) }
+    {
         let number = numbered(self.cells.len())?;
         let pointer = matches!(sort, CellSort::Pointer(_));
         self.places.add(&name, number, pointer)?;
@@ -309,7 +361,9 @@ impl Growing {
     }
 
     /// From here on the counter of a counted loop stands as a literal.
-    pub fn count_by(&mut self, counter: u32) -> Result<(), NoMemory> {
+    pub fn count_by(&mut self, counter: u32) -> Result<(), NoMemory>
+        ensures keeps { OnOk result (Keeps self.old self.new) }
+    {
         let kind = self.kind(counter)?;
         let zero = Value::of(kind, Word { bits: 0 }).ok_or(lost())?;
         self.counters.insert(counter, zero)?;
@@ -317,25 +371,16 @@ impl Growing {
     }
 }
 
-// How many elements there are of such sizes.
-fn count(sizes: &[u32]) -> u64 {
-    let mut count = 1u64;
-    for size in sizes {
-        count = count.saturating_mul(u64::from(*size));
+// What a cell holds.
+fn kind_of(base: Base) -> Kind
+    ensures { result ≡ number_kind (base_of base) }
+{
+    match base {
+        Base::Number(kind) => kind,
+        Base::Class(_) => Kind::Bool,
+        Base::Input(_) => Kind::Bool,
+        Base::Output(_) => Kind::Bool,
+        Base::Signal(_) => Kind::Bool,
+        Base::ModuleName => Kind::Bool,
     }
-    count
-}
-
-// The indices of an element, the last running fastest.
-fn indices(alloc: Global, sizes: &[u32], element: u64) -> Result<List<u32>, NoMemory> {
-    let mut found = List::new(alloc);
-    let mut rest = element;
-    let mut stride = count(sizes);
-    for size in sizes {
-        stride /= u64::from((*size).max(1));
-        let i = rest / stride.max(1);
-        rest %= stride.max(1);
-        found.push(u32::try_from(i).map_err(|_| lost())?)?;
-    }
-    Ok(found)
 }

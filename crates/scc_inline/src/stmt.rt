@@ -1,5 +1,6 @@
 //! Copies of statements, calls by their bodies.
-ghost use Rattle.std.specs.Prelude.{IfErr};
+ghost use Rattle.std.specs.Prelude.{IfErr, OnOk};
+ghost use Rattle.scc_inline.specs.Begun.{Keeps};
 ghost use Rattle.scc_inline.specs.Refusals.{MayStop};
 
 use crate::scope::{Growing, Here, Scope, This};
@@ -34,6 +35,7 @@ impl Growing {
         room: u32,
     ) -> Result<List<CoreStmt>, Stop>
         ensures stop { IfErr result MayStop }
+        ensures keeps { OnOk result (Keeps self.old self.new) }
     {
         let body = self.stmts(here.function.body.as_slice(), scope, here, room, 0)?;
         self.give_rest(scope, here.function)?;
@@ -51,6 +53,7 @@ impl Growing {
         depth: u32,
     ) -> Result<List<CoreStmt>, Stop>
         ensures stop { IfErr result MayStop }
+        ensures keeps { OnOk result (Keeps self.old self.new) }
     {
         let room = deeper(room)?;
         let mut out = List::new(self.alloc);
@@ -100,6 +103,7 @@ impl Growing {
         depth: u32,
     ) -> Result<CoreNode, Stop>
         ensures stop { IfErr result MayStop }
+        ensures keeps { OnOk result (Keeps self.old self.new) }
     {
         match &s.node {
             PlainNode::Assign { left, value } => {
@@ -157,6 +161,7 @@ impl Growing {
         depth: u32,
     ) -> Result<CoreNode, Stop>
         ensures stop { IfErr result MayStop }
+        ensures keeps { OnOk result (Keeps self.old self.new) }
     {
         let number = scope.next_loop();
         let may = here.facts.loops.get(number).copied().unwrap_or(false);
@@ -208,6 +213,7 @@ impl Growing {
         room: u32,
     ) -> Result<CoreNode, Stop>
         ensures stop { IfErr result MayStop }
+        ensures keeps { OnOk result (Keeps self.old self.new) }
     {
         let PlainNode::Call { function, .. } = &s.node else {
             return Err(lost().into());
@@ -241,6 +247,7 @@ impl Growing {
         here: &Here,
     ) -> Result<Begun, Stop>
         ensures stop { IfErr result MayStop }
+        ensures keeps { OnOk result (Keeps self.old self.new) }
     {
         let PlainNode::Call {
             number,
@@ -274,7 +281,9 @@ impl Growing {
         callee: &PlainFunction,
         call: u32,
         scope: &mut Scope,
-    ) -> Result<Scope, NoMemory> {
+    ) -> Result<Scope, NoMemory>
+        ensures keeps { OnOk result (Keeps self.old self.new) }
+    {
         let mut child = Scope::new(self.alloc, callee, None)?;
         if let Some(kind) = callee.result {
             let cell = self.add_answer(callee, kind)?;
@@ -369,7 +378,9 @@ impl Growing {
         here: &Here,
         place: Place,
         out: &mut List<CoreStmt>,
-    ) -> Result<(), NoMemory> {
+    ) -> Result<(), NoMemory>
+        ensures keeps { OnOk result (Keeps self.old self.new) }
+    {
         self.give(scope, here.function, local)?;
         let shape = &here
             .function
@@ -404,6 +415,7 @@ impl Growing {
         place: Place,
     ) -> Result<CoreNode, Stop>
         ensures stop { IfErr result MayStop }
+        ensures keeps { OnOk result (Keeps self.old self.new) }
     {
         let mut declares = None;
         if let Some(local) = alone(left) {

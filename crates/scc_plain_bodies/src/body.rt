@@ -1,4 +1,7 @@
 //! What is known while a body is walked.
+ghost use Rattle.std.specs.Prelude.{◌≡◌, ◌++◌, [], IfOk, OnOk, slice_get};
+ghost use Rattle.scc_plain_bodies.specs.Rooms.{Declared};
+
 use crate::function::FunctionId;
 use scc_base::{List, Name, NoMemory, Place, lost, push};
 use scc_bits::Kind;
@@ -67,7 +70,9 @@ impl Body {
         name: Name,
         place: Place,
         shape: Shape,
-    ) -> Result<u32, NoMemory> {
+    ) -> Result<u32, NoMemory>
+        ensures { IfOk result (λ n. Declared self.old self.new (record { name = name; place = place; shape = shape }) n) }
+    {
         let form = Form::of(&shape)?;
         let n = u32::try_from(self.locals.len()).map_err(|_| lost())?;
         push(&mut self.forms, form)?;
@@ -76,19 +81,28 @@ impl Body {
     }
 
     /// A further local variable by its name: its number.
-    pub fn declare(&mut self, name: Name, place: Place, shape: Shape) -> Result<u32, NoMemory> {
+    pub fn declare(&mut self, name: Name, place: Place, shape: Shape) -> Result<u32, NoMemory>
+        ensures { IfOk result (λ n. Declared self.old self.new (record { name = name; place = place; shape = shape }) n) }
+    {
         let n = self.declare_unnamed(name, place, shape)?;
         self.names.set(name, Some(n))?;
         Ok(n)
     }
 
     /// What a local variable holds.
-    pub fn form_of(&self, local: u32) -> Option<Form> {
+    pub fn form_of(&self, local: u32) -> Option<Form>
+        ensures { result ≡ slice_get self.now.forms.items local }
+    {
         self.forms.get(local as usize).copied()
     }
 
     /// Puts the calls of the statement in work after other statements.
-    pub fn flush(&mut self, out: &mut List<PlainStmt>) -> Result<(), NoMemory> {
+    pub fn flush(&mut self, out: &mut List<PlainStmt>) -> Result<(), NoMemory>
+        ensures out { OnOk result (out.new ≡ out.old ++ self.old.lifted) }
+        ensures none { OnOk result (self.new.lifted ≡ []) }
+        ensures locals { self.new.locals ≡ self.old.locals }
+        ensures calls { self.new.calls ≡ self.old.calls }
+    {
         if self.lifted.is_empty() {
             return Ok(());
         }

@@ -1,5 +1,6 @@
 //! Calls (C++, [expr.call]). A call of a function is lifted: it becomes a statement before the one that it stands in.
-ghost use Rattle.std.specs.Prelude.{IfErr};
+ghost use Rattle.std.specs.Prelude.{◌≡◌, IfErr, IfOk};
+ghost use Rattle.scc_plain_bodies.specs.Rooms.{Lifted, call_stmt};
 ghost use Rattle.scc_plain_drafts.specs.Refusals.{MayStop};
 
 use crate::body::Body;
@@ -126,7 +127,9 @@ impl Body {
         object: Option<PlainLeft>,
         args: List<PlainArg>,
         place: Place,
-    ) -> Result<u32, NoMemory> {
+    ) -> Result<u32, NoMemory>
+        ensures { IfOk result (λ n. Lifted self.old self.new (call_stmt place n function object args) n) }
+    {
         let number = self.calls;
         let node = PlainNode::Call {
             number,

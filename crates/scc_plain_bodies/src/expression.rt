@@ -1,29 +1,46 @@
 //! Expressions (C++, [expr]). In each call `e` stands in the body `b`; calls of functions in it go to `b.lifted`.
-ghost use Rattle.std.specs.Prelude.{IfErr};
+ghost use Rattle.std.specs.Prelude.{◌≡◌, IfErr, false};
+ghost use Rattle.scc_plain_bodies.specs.Walking.{cast_in, is_pointing};
+ghost use Rattle.scc_plain_drafts.specs.Flows.{typed_in};
+ghost use Rattle.scc_plain_drafts.specs.Forms.{Classes, SoundLoc, loc_in};
+ghost use Rattle.scc_plain_drafts.specs.Meaning.{SoundMeant, meant_in, owner_in};
+ghost use Rattle.scc_plain_drafts.specs.Picks.{Means};
 ghost use Rattle.scc_plain_drafts.specs.Refusals.{MayStop};
+ghost use Rattle.scc_plain_drafts.specs.Views.{Sound, draft_of};
+ghost use Rattle.scc_plain_spec.specs.Calls as spec;
+ghost use Rattle.scc_plain_spec.specs.Drafts.{literal as spec_literal, operate_one as spec_operate};
+ghost use Rattle.scc_plain_spec.specs.Meant.{Stands, Valued, addressed};
+ghost use Rattle.scc_plain_spec.specs.Numbers.{number};
+ghost use Rattle.scc_plain_spec.specs.Types.{kind_in};
+ghost use Rattle.scc_templates_spec.specs.Tree.{place_of};
+ghost use Rattle.scc_templates_spec.specs.View.{tree_of};
+ghost use Rattle.scc_templates_spec.specs.Walked.{and_walk, pure};
+ghost use Rattle.scc_templates_spec.specs.World.{Owner};
 
 use crate::body::Body;
 use crate::function::FunctionId;
 use crate::walk::Walk;
 use scc_base::{Code, List, Place, Stop, lost};
-use scc_bits::{Kind, Value, Word};
+use scc_bits::{Kind, Op, Value, Word};
 use scc_plain_drafts::call::Call;
 use scc_plain_drafts::draft::{Draft, cast, choose, convert, literal, operate, operate_one};
 use scc_plain_drafts::flow::Flow;
-use scc_plain_drafts::form::{Form, number_kind};
+use scc_plain_drafts::form::{Form, Loc, number_kind};
 use scc_plain_drafts::join::Joining;
 use scc_plain_drafts::meant::Meant;
 use scc_plain_drafts::pick::{answered, indexed};
 use scc_plain_drafts::refusal::refuse;
-use scc_plain_drafts::syntax::{is_lazy, is_text, made_args, operator_of, operator_on};
-use scc_plain_drafts::target::is_zero;
+use scc_plain_drafts::syntax::{is_lazy, is_text, made_args, operator_on};
+use scc_plain_drafts::target::{is_all, is_zero};
 use scc_plain_tree::{Base, PlainArg, PlainTarget, Reach};
 use scc_templates::TypeOf;
 use scc_tree::{Expr, ExprNode, FileTree, Link, Part, PartNode, UnaryOp};
+use std::alloc::Global;
 
 impl Walk {
     fn number(&self, kind: Kind, word: Word, place: Place) -> Result<Meant, Stop>
         ensures stop { IfErr result MayStop }
+        ensures is { (n : Classes) → Means n result (pure (Valued (spec_literal place (number kind word.bits)))) }
     {
         let v = Value::of(kind, word).ok_or(lost())?;
         Ok(Meant::Value(literal(self.alloc, place, v)?))
@@ -133,28 +150,18 @@ impl Walk {
 
     fn unary(&self, m: Meant, op: UnaryOp, of: &Expr, place: Place, b: &Body) -> Result<Meant, Stop>
         ensures stop { IfErr result MayStop }
+        ensures is { (n : Classes) → SoundMeant m → place_of (tree_of of.now) ≡ of.now.place → Means n result (spec.unary place (tree_of of.now) op (owner_in n b.now.scope) (meant_in n m)) }
     {
-        if let Some(op) = operator_of(op) {
-            let x = m.value(self.alloc, of.place)?;
-            let op = operator_on(op, of, &x);
-            return Ok(Meant::Value(operate_one(self.alloc, place, op, x)?));
-        }
-        if op == UnaryOp::Deref {
-            return Ok(Meant::Loc(m.followed(self.alloc, b.scope, place)?));
-        }
-        match m.loc() {
-            Some(l) => {
-                if l.form.dims > 0 || l.pick.is_some() {
-                    return refuse(Code::Mismatch, place);
-                }
-                Ok(Meant::Address(l))
-            }
-            None => refuse(Code::Mismatch, place),
+        match op {
+            UnaryOp::Deref => Ok(Meant::Loc(m.followed(self.alloc, b.scope, place)?)),
+            UnaryOp::Address => addressed(m, place),
+            _ => computed(self.alloc, m, op, of, place),
         }
     }
 
     fn cast(&self, x: Draft, t: TypeOf, place: Place) -> Result<Meant, Stop>
         ensures stop { IfErr result MayStop }
+        ensures is { (n : Classes) → Sound x → Means n result (and_walk (cast_in place (kind_in (typed_in n t)) (draft_of x)) (λ y. pure (Valued y))) }
     {
         match number_kind(t) {
             Some(kind) => Ok(Meant::Value(cast(self.alloc, x, kind, place)?)),
@@ -371,4 +378,49 @@ impl Walk {
             }
         }
     }
+}
+
+// The address of what a variable holds.
+fn addressed(m: Meant, place: Place) -> Result<Meant, Stop>
+    ensures stop { IfErr result MayStop }
+    ensures is { (n : Classes) → SoundMeant m → Means n result (addressed place (meant_in n m)) }
+{
+    match m.loc() {
+        Some(l) => address_of(l, place),
+        None => refuse(Code::Mismatch, place),
+    }
+}
+
+fn address_of(l: Loc, place: Place) -> Result<Meant, Stop>
+    ensures stop { IfErr result MayStop }
+    ensures is { (n : Classes) → SoundLoc l → Means n result (addressed place (Stands (loc_in n l))) }
+{
+    if l.form.dims != 0 {
+        return refuse(Code::Mismatch, place);
+    }
+    if !is_all(&l) {
+        return refuse(Code::Mismatch, place);
+    }
+    Ok(Meant::Address(l))
+}
+
+// An operator on a number.
+fn computed(alloc: Global, m: Meant, op: UnaryOp, of: &Expr, place: Place) -> Result<Meant, Stop>
+    ensures stop { IfErr result MayStop }
+    ensures is { (n : Classes) (o : Owner) → is_pointing op ≡ false → SoundMeant m → place_of (tree_of of.now) ≡ of.now.place → Means n result (spec.unary place (tree_of of.now) op o (meant_in n m)) }
+{
+    match operator_on(op, of, &m) {
+        Some(op) => {
+            let x = m.value(alloc, of.place)?;
+            operated(alloc, place, op, x)
+        }
+        None => refuse(Code::Mismatch, place),
+    }
+}
+
+fn operated(alloc: Global, place: Place, op: Op, x: Draft) -> Result<Meant, Stop>
+    ensures stop { IfErr result MayStop }
+    ensures is { (n : Classes) → Sound x → Means n result (and_walk (spec_operate place op (draft_of x)) (λ y. pure (Valued y))) }
+{
+    Ok(Meant::Value(operate_one(alloc, place, op, x)?))
 }

@@ -1,6 +1,13 @@
 //! Functions, their parameters and their results, each worked out when it is first asked for.
-ghost use Rattle.std.specs.Prelude.{IfErr};
+ghost use Rattle.std.specs.Prelude.{◌≡◌, IfErr};
+ghost use Rattle.scc_plain_bodies.specs.Walking.{result_kind};
+ghost use Rattle.scc_plain_drafts.specs.Flows.{typed_in};
+ghost use Rattle.scc_plain_drafts.specs.Forms.{Classes, form_in};
 ghost use Rattle.scc_plain_drafts.specs.Refusals.{MayStop};
+ghost use Rattle.scc_plain_spec.specs.Shapes.{may_be_param};
+ghost use Rattle.scc_plain_spec.specs.Types.{kind_in};
+ghost use Rattle.scc_plain_tree.specs.declared.program.Reach.TheVariants as reach;
+ghost use Rattle.scc_templates_scopes.specs.Walks.{Gives};
 
 use crate::body::Body;
 use crate::walk::Walk;
@@ -9,7 +16,7 @@ use scc_bits::Kind;
 use scc_plain_drafts::form::{Form, base_of, number_kind, reach_of};
 use scc_plain_drafts::refusal::refuse;
 use scc_plain_tree::{Base, Reach, Shape};
-use scc_templates::{BodyAt, Context, FunctionKey, function_at};
+use scc_templates::{BodyAt, Context, FunctionKey, TypeOf, function_at};
 use scc_tree::{FileTree, FunctionTree, Prm};
 
 /// The number of a function among those that were asked for, from 0 in that order.
@@ -32,12 +39,34 @@ pub(crate) struct Function {
 }
 
 // Whether a function may have a parameter of a form: a number, what is lent, or the name of a module for its constructor.
-fn may_be_param(form: Form, constructor: bool) -> bool {
+fn may_be_param(form: Form, constructor: bool) -> bool
+    ensures { (n : Classes) → result ≡ may_be_param constructor (form_in n form) }
+{
+    match form.reach {
+        Reach::Direct => may_be_given(form, constructor),
+        Reach::Pointer => true,
+        Reach::Reference => true,
+    }
+}
+
+fn may_be_given(form: Form, constructor: bool) -> bool
+    ensures { (n : Classes) → form.reach ≡ reach.Direct → result ≡ may_be_param constructor (form_in n form) }
+{
     match form.base {
-        _ if form.reach != Reach::Direct => true,
         Base::Number(_) => !form.vector,
         Base::ModuleName => constructor,
         _ => false,
+    }
+}
+
+// A result is a number's.
+fn result_kind(t: TypeOf, place: Place) -> Result<Option<Kind>, Stop>
+    ensures stop { IfErr result MayStop }
+    ensures is { (n : Classes) → Gives (λ k. k) result (result_kind place (kind_in (typed_in n t))) }
+{
+    match number_kind(t) {
+        Some(kind) => Ok(Some(kind)),
+        None => refuse(Code::Mismatch, place), // E304
     }
 }
 
@@ -170,10 +199,7 @@ impl Walk {
             return Ok(None);
         };
         let t = self.templates.type_in(cx, ty)?;
-        match number_kind(t) {
-            Some(kind) => Ok(Some(kind)),
-            None => refuse(Code::Mismatch, f.place), // E304
-        }
+        result_kind(t, f.place)
     }
 
     fn param_in<'t>(

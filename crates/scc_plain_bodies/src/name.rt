@@ -1,6 +1,18 @@
 //! Names, `this`, members and pointers.
-ghost use Rattle.std.specs.Prelude.{IfErr};
+ghost use Rattle.std.specs.Prelude.{◌≡◌, ◌++◌, ◌∷◌, [], IfErr, IfOk, None, OnOk};
+ghost use Rattle.scc_elab_spec.specs.Term.{Local, Whole};
+ghost use Rattle.scc_plain_view.specs.Terms.{taken_of};
+ghost use Rattle.scc_plain_bodies.specs.Rooms.{IsFormed, room_in};
+ghost use Rattle.scc_plain_bodies.specs.Walking.{IsLocal, Noted, built};
+ghost use Rattle.scc_plain_bodies.specs.declared.function.FunctionId.{FunctionId};
+ghost use Rattle.scc_plain_bodies.specs.declared.walk.Note.TheVariants as note;
+ghost use Rattle.scc_plain_drafts.specs.Forms.{Classes, SoundSubject, subject_in};
+ghost use Rattle.scc_plain_drafts.specs.Meaning.{owner_in};
+ghost use Rattle.scc_plain_drafts.specs.Picks.{Means};
 ghost use Rattle.scc_plain_drafts.specs.Refusals.{MayStop};
+ghost use Rattle.scc_plain_spec.specs.Room.{local_form};
+ghost use Rattle.scc_plain_spec.specs.Things as spec;
+ghost use Rattle.scc_templates_spec.specs.Walk.{Callee};
 
 use crate::body::Body;
 use crate::walk::{Note, Walk};
@@ -10,20 +22,25 @@ use scc_plain_drafts::form::Loc;
 use scc_plain_drafts::meant::{Meant, Subject};
 use scc_plain_drafts::pick::method_of;
 use scc_plain_drafts::refusal::refuse;
+use scc_plain_drafts::target::at_base;
 use scc_plain_tree::{Base, PlainBase, PlainLeft, PlainPart};
 use scc_templates as templates;
 use scc_templates::{Entry, Found, InstanceId};
 use scc_tree::{FileTree, Ty};
+use std::alloc::Global;
 
 impl Walk {
     /// Notes that a body uses its object.
-    pub fn note_this(&mut self, b: &Body) -> Result<(), NoMemory> {
+    pub fn note_this(&mut self, b: &Body) -> Result<(), NoMemory>
+        ensures { OnOk result (self.new.notes ≡ self.old.notes ++ note.This b.now.function ∷ []) }
+    {
         self.notes.push(Note::This(b.function))
     }
 
     /// `this`.
     pub(crate) fn this(&mut self, place: Place, b: &Body) -> Result<Meant, Stop>
         ensures stop { IfErr result MayStop }
+        ensures is { (n : Classes) (key : FunctionId → Callee) → Noted n key self.old.notes self.new.notes result (spec.this place (owner_in n b.now.scope)) }
     {
         if b.scope.is_none() {
             return refuse(Code::Mismatch, place); // E304
@@ -117,10 +134,13 @@ impl Walk {
         Ok(Meant::Value(literal(self.alloc, place, v)?))
     }
 
-    fn local(&self, n: u32, place: Place, b: &Body) -> Result<Loc, NoMemory> {
-        let form = b.form_of(n).ok_or(lost())?;
-        let left = PlainLeft::new(self.alloc, place, PlainBase::Local(n));
-        Ok(Loc::new(left, form))
+    fn local(&self, n: u32, place: Place, b: &Body) -> Result<Loc, NoMemory>
+        ensures { IfOk result (λ l. (m : Classes) → IsFormed b.now → IsLocal m l (spec.local_at place n (local_form (room_in m b.now) n))) }
+    {
+        match b.form_of(n) {
+            Some(form) => Ok(Loc::new(local_at(self.alloc, place, n), form)),
+            None => Err(lost()),
+        }
     }
 
     // A member variable of an object, or of the body's own.
@@ -222,9 +242,17 @@ impl Walk {
     }
 }
 
+// A local variable by itself.
+fn local_at(alloc: Global, place: Place, n: u32) -> PlainLeft
+    ensures { taken_of result ≡ record { left = Local place n; pick = Whole; of = None } }
+{
+    at_base(alloc, place, PlainBase::Local(n))
+}
+
 // The name of a call of the language.
 fn built(of: Subject, name: Name, own: Place) -> Result<Meant, Stop>
     ensures stop { IfErr result MayStop }
+    ensures is { (n : Classes) → SoundSubject of → Means n result (built own name.0 (subject_in n of)) }
 {
     match method_of(name) {
         Some(method) => Ok(Meant::Built { method, of }),

@@ -1,5 +1,8 @@
 //! What is known of a program while its bodies are walked.
-ghost use Rattle.std.specs.Prelude.{IfErr};
+ghost use Rattle.std.specs.Prelude.{◌≡◌, IfErr};
+ghost use Rattle.scc_plain_spec.specs.Numbers.{small};
+ghost use Rattle.scc_plain_spec.specs.Shapes.{size};
+ghost use Rattle.scc_templates_scopes.specs.Walks.{Gives};
 ghost use Rattle.scc_plain_drafts.specs.Refusals.{MayStop};
 
 use crate::body::Body;
@@ -60,6 +63,29 @@ pub struct Walk {
     pub numbers: List<u32>,
 }
 
+// The size that a number is.
+fn size_of(v: Value, place: Place) -> Result<u32, Stop>
+    ensures stop { IfErr result MayStop }
+    ensures is { Gives (λ n. n) result (size place v) }
+{
+    let Some(n) = small_of(v) else {
+        return refuse(Code::Width, place); // E303
+    };
+    if n < 1 {
+        return refuse(Code::Width, place);
+    }
+    if MOST < n {
+        return refuse(Code::Width, place);
+    }
+    Ok(n)
+}
+
+fn small_of(v: Value) -> Option<u32>
+    ensures { result ≡ small v }
+{
+    v.small()
+}
+
 /// The most elements of an array (this project's profile).
 const MOST: u32 = 65_536;
 
@@ -111,10 +137,7 @@ impl Walk {
         ensures stop { IfErr result MayStop }
     {
         let v = self.templates.constant_in(cx, e)?;
-        match v.small() {
-            Some(n) if 1 <= n && n <= MOST => Ok(n),
-            _ => refuse(Code::Width, e.place), // E303
-        }
+        size_of(v, e.place)
     }
 
     fn shape_in<'t>(

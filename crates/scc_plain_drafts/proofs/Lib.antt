@@ -4,3 +4,5 @@ pub mod Joining
 pub mod Joined
 pub mod Standing
 pub mod Leading
+pub mod Picking
+pub mod Ends

@@ -1,5 +1,5 @@
 -- What variables hold and where they stand, as the definitions have it: a class by its number in a table of classes with arguments. This project's own.
-use Rattle.std.specs.Prelude.{◌≡◌, ℕ, nat_eq, ◌&&◌, Option, Some, None}
+use Rattle.std.specs.Prelude.{◌≡◌, ℕ, false, nat_eq, ◌&&◌, Option, Some, None}
 use Rattle.scc_bits_kinds.specs.declared.kind.Kind.{Kind}
 use Rattle.scc_bits_kinds.specs.declared.kind.Kind.TheVariants as kind
 use Rattle.scc_templates_spec.specs.Walk.{same_args}
@@ -61,6 +61,8 @@ pub record PickedOf (l : Located) (j : Kind) : Type 0 where
   pub number : Kind
   pub base : l.form.base ≡ held.Number number
   pub of : (taken_of l.left).of ≡ Some number
+  pub dims : l.form.dims ≡ 0
+  pub single : l.form.vector ≡ false
   pub bits : ArePicked (taken_of l.left).pick j
 
 abbrev pub StandsBy : Option Kind → Located → Type 0

@@ -3,3 +3,5 @@ pub mod Views
 pub mod Joins
 pub mod Forms
 pub mod Meaning
+pub mod Picks
+pub mod Flows

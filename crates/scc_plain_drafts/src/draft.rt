@@ -1,18 +1,24 @@
 //! Expressions with what is known of them. Each conversion is written out.
-ghost use Rattle.std.specs.Prelude.{◌≡◌, IfErr, IfOk, IfSome, None, Some, option_map, true, unwrap_or};
+ghost use Rattle.std.specs.Prelude.{◌≡◌, IfErr, IfOk, IfSome, None, Some, not, option_map, true, unwrap_or};
+ghost use Rattle.scc_base.specs.declared.refusal.Place.{Place};
 ghost use Rattle.scc_bits.specs.Values.{kind_of};
+ghost use Rattle.scc_bits_kinds.specs.declared.kind.Kind.{Kind};
 ghost use Rattle.scc_plain_drafts.specs.Refusals.{MayStop};
+ghost use Rattle.scc_plain_drafts.specs.Picks.{base_of, is_bit, is_one, is_part, is_result, picking_of, step_of};
 ghost use Rattle.scc_plain_drafts.specs.Views.{Drafts, Is, Sound, choice, draft_of, known_choice, operation, operation_alone};
+ghost use Rattle.scc_plain_drafts.specs.Forms.{ArePicked};
 ghost use Rattle.scc_plain_spec.specs.Drafts as spec;
+ghost use Rattle.scc_plain_spec.specs.Forms.{picked as spec_picked};
+ghost use Rattle.scc_plain_spec.specs.Meant.{is_answer, is_read};
 ghost use Rattle.scc_plain_spec.specs.Numbers.{answered, divides, is_shift, stored_in};
 ghost use Rattle.scc_templates_spec.specs.Walk.{same_kind};
-ghost use Rattle.scc_elab_spec.specs.Term.{Binary, Load, Read, Unary};
+ghost use Rattle.scc_elab_spec.specs.Term.{Binary, Left, Load, Read, Unary};
 ghost use Rattle.scc_plain_view.specs.Terms.{picked, taken_of, term_of};
 
 use crate::refusal::refuse;
 use scc_base::{Boxed, Code, NoMemory, Place, Stop, lost};
 use scc_bits::{Kind, Op, Value, converts, result_kind, too_wide};
-use scc_plain_tree::{PlainExpr, PlainExprNode, PlainLeft, PlainPick};
+use scc_plain_tree::{PlainBase, PlainExpr, PlainExprNode, PlainLeft, PlainPart, PlainPick};
 use scc_templates_scopes::constant::{choice_kind, kind_beside as value_beside};
 use std::alloc::Global;
 
@@ -26,13 +32,129 @@ pub struct Draft {
 }
 
 impl Draft {
-    /// Whether it is one bit that an index picks.
-    pub fn is_bit(&self) -> bool {
-        match self.expr.node.get() {
-            PlainExprNode::Load(left) => matches!(left.pick, Some(PlainPick::Bit { .. })),
-            PlainExprNode::Pick { pick, .. } => matches!(pick, PlainPick::Bit { .. }),
+    /// Whether it is one bit of a value.
+    pub fn is_bit(&self) -> bool
+        ensures { result ≡ is_bit (term_of self.now.expr) }
+    {
+        is_bit(&self.expr)
+    }
+}
+
+fn takes_bit(left: &PlainLeft) -> bool
+    ensures { result ≡ is_one (taken_of left.now).pick }
+{
+    matches!(left.pick, Some(PlainPick::Bit { .. }))
+}
+
+fn is_index(pick: &PlainPick) -> bool
+    ensures { result ≡ is_one (picking_of pick.now).pick }
+{
+    matches!(pick, PlainPick::Bit { .. })
+}
+
+// A concatenation of one part is that part.
+fn is_bit(x: &PlainExpr) -> bool
+    ensures { result ≡ is_bit (term_of x.now) }
+{
+    match x.node.get() {
+        PlainExprNode::Load(left) => takes_bit(left),
+        PlainExprNode::Read(left) => takes_bit(left),
+        PlainExprNode::Pick { of: _, pick } => is_index(pick),
+        PlainExprNode::Join(parts) => match parts.as_slice() {
+            [part] => is_bit(part),
             _ => false,
-        }
+        },
+        PlainExprNode::Lit(_) => false,
+        PlainExprNode::Convert(_) => false,
+        PlainExprNode::Operate { .. } => false,
+        PlainExprNode::Choose { .. } => false,
+    }
+}
+
+/// Whether it is what a port or signal shows. A concatenation of one part is that part.
+pub(crate) fn is_read(x: &PlainExpr) -> bool
+    ensures { result ≡ is_read (term_of x.now) }
+{
+    match x.node.get() {
+        PlainExprNode::Read(left) => !takes_part(left),
+        PlainExprNode::Join(parts) => match parts.as_slice() {
+            [part] => is_read(part),
+            _ => false,
+        },
+        PlainExprNode::Load(_) => false,
+        PlainExprNode::Pick { .. } => false,
+        PlainExprNode::Lit(_) => false,
+        PlainExprNode::Convert(_) => false,
+        PlainExprNode::Operate { .. } => false,
+        PlainExprNode::Choose { .. } => false,
+    }
+}
+
+/// Whether it is the result of a call. A concatenation of one part is that part.
+pub(crate) fn is_answer(x: &PlainExpr) -> bool
+    ensures { result ≡ is_answer (term_of x.now) }
+{
+    match x.node.get() {
+        PlainExprNode::Load(left) => is_answer_at(left),
+        PlainExprNode::Join(parts) => match parts.as_slice() {
+            [part] => is_answer(part),
+            _ => false,
+        },
+        PlainExprNode::Read(_) => false,
+        PlainExprNode::Pick { .. } => false,
+        PlainExprNode::Lit(_) => false,
+        PlainExprNode::Convert(_) => false,
+        PlainExprNode::Operate { .. } => false,
+        PlainExprNode::Choose { .. } => false,
+    }
+}
+
+fn is_answer_at(left: &PlainLeft) -> bool
+    ensures { (p : Place) (k : Kind) → result ≡ is_answer (picked p k (Load p (unwrap_or (taken_of left.now).of k) (taken_of left.now).left) (taken_of left.now).pick) }
+{
+    if takes_part(left) {
+        return false;
+    }
+    names_answer(left)
+}
+
+fn names_answer(left: &PlainLeft) -> bool
+    ensures { result ≡ is_result (taken_of left.now).left }
+{
+    match left.parts.as_slice().split_last() {
+        Some((part, _)) => !is_within(part),
+        None => is_result(&left.base),
+    }
+}
+
+// Whether it is a member or an element: each part of a location is one.
+fn is_within(part: &PlainPart) -> bool
+    ensures { (l : Left) → not result ≡ is_result (step_of part.now l) }
+{
+    match part {
+        PlainPart::Member(_) => true,
+        PlainPart::Index(_) => true,
+    }
+}
+
+fn is_result(base: &PlainBase) -> bool
+    ensures { (p : Place) → result ≡ is_result (base_of base.now p) }
+{
+    match base {
+        PlainBase::Answer(_) => true,
+        PlainBase::Local(_) => false,
+        PlainBase::This => false,
+        PlainBase::Follow(_) => false,
+    }
+}
+
+fn takes_part(left: &PlainLeft) -> bool
+    ensures { result ≡ is_part (taken_of left.now).pick }
+{
+    match &left.pick {
+        None => false,
+        Some(PlainPick::Bit { .. }) => true,
+        Some(PlainPick::Range { .. }) => true,
     }
 }
 
@@ -83,7 +205,9 @@ pub fn bits(
     kind: Kind,
     of: Draft,
     pick: PlainPick,
-) -> Result<Draft, NoMemory> {
+) -> Result<Draft, NoMemory>
+    ensures is { ArePicked (picking_of pick).pick kind → IfOk result (λ x. Is x (spec.drafted place (spec_picked place kind (term_of of.expr) (picking_of pick).pick))) }
+{
     let node = PlainExprNode::Pick { of: of.expr, pick };
     made(alloc, place, kind, node, None)
 }

@@ -1,5 +1,7 @@
 //! What stands round a statement or an expression.
-ghost use Rattle.std.specs.Prelude.{◌≡◌, ◌+◌, IfOk};
+ghost use Rattle.std.specs.Prelude.{◌≡◌, ◌+◌, ◌||◌, IfOk, option_map, true};
+ghost use Rattle.scc_plain_drafts.specs.Flows.{flow_in};
+ghost use Rattle.scc_plain_spec.specs.Switch as spec;
 
 use scc_base::{NoMemory, lost};
 
@@ -20,7 +22,9 @@ pub struct Flow {
     pub room: u32,
 }
 
-fn outward(block: Option<u32>, by: u32) -> Result<Option<u32>, NoMemory> {
+fn outward(block: Option<u32>, by: u32) -> Result<Option<u32>, NoMemory>
+    ensures { IfOk result (λ b. b ≡ option_map (λ n. n + by) block) }
+{
     match block {
         Some(n) => Ok(Some(n.checked_add(by).ok_or(lost())?)),
         None => Ok(None),
@@ -29,7 +33,9 @@ fn outward(block: Option<u32>, by: u32) -> Result<Option<u32>, NoMemory> {
 
 impl Flow {
     /// That of a body.
-    pub fn start() -> Flow {
+    pub fn start() -> Flow
+        ensures { flow_in result ≡ spec.start }
+    {
         Flow {
             forbidden: false,
             leave: None,
@@ -41,6 +47,7 @@ impl Flow {
     /// Where no call may stand.
     pub fn without_calls(self) -> Flow
         ensures room { result.room ≡ self.room }
+        ensures is { flow_in result ≡ record { leave = self.leave; next = self.next; late = true } }
     {
         Flow {
             forbidden: true,
@@ -53,6 +60,7 @@ impl Flow {
     /// Where no call may stand if it is one whose operand isn't always evaluated.
     pub fn lazily(self, lazy: bool) -> Flow
         ensures room { result.room ≡ self.room }
+        ensures is { flow_in result ≡ record { leave = self.leave; next = self.next; late = self.forbidden || lazy } }
     {
         if lazy { self.without_calls() } else { self }
     }
@@ -60,6 +68,7 @@ impl Flow {
     /// Inside so many further blocks.
     pub fn inside(self, blocks: u32) -> Result<Flow, NoMemory>
         ensures room { IfOk result (λ f. f.room ≡ self.room) }
+        ensures is { IfOk result (λ f. flow_in f ≡ record { leave = option_map (λ n. n + blocks) self.leave; next = option_map (λ n. n + blocks) self.next; late = self.forbidden }) }
     {
         Ok(Flow {
             forbidden: self.forbidden,
@@ -72,6 +81,7 @@ impl Flow {
     /// With a block that `break` leaves, and one that `continue` leaves.
     pub fn within(self, leave: Option<u32>, next: Option<u32>) -> Flow
         ensures room { result.room ≡ self.room }
+        ensures is { flow_in result ≡ record { leave = leave; next = next; late = self.forbidden } }
     {
         Flow {
             forbidden: self.forbidden,
@@ -84,6 +94,7 @@ impl Flow {
     /// One level deeper.
     pub fn deeper(self) -> Result<Flow, NoMemory>
         ensures room { IfOk result (λ f. f.room + 1 ≡ self.room) }
+        ensures is { IfOk result (λ f. flow_in f ≡ flow_in self) }
     {
         if self.room == 0 {
             return Err(lost());

@@ -1,8 +1,10 @@
 //! What variables hold, and locations.
-ghost use Rattle.std.specs.Prelude.{◌≡◌, None};
+ghost use Rattle.std.specs.Prelude.{◌≡◌, IfOk, None};
 ghost use Rattle.scc_plain_drafts.specs.Forms.{AreTold, Classes, base_in, form_in};
 ghost use Rattle.scc_plain_spec.specs.Forms as spec;
-ghost use Rattle.scc_plain_spec.specs.Types.{same_base};
+ghost use Rattle.scc_plain_drafts.specs.Flows.{formed, shape_in, type_base_in, typed_in};
+ghost use Rattle.scc_plain_spec.specs.Types.{kind_in, same_base};
+ghost use Rattle.scc_plain_view.specs.Plains.{reach_of};
 
 use crate::draft::is_kind;
 use scc_base::{NoMemory, lost};
@@ -33,7 +35,9 @@ pub struct Loc {
 }
 
 /// A base with the number of its class.
-pub fn base_of(base: templates::Base) -> Base {
+pub fn base_of(base: templates::Base) -> Base
+    ensures { (n : Classes) → base_in n result ≡ type_base_in n base }
+{
     match base {
         templates::Base::Number(kind) => Base::Number(kind),
         templates::Base::Class(i) => Base::Class(i.0),
@@ -59,7 +63,9 @@ fn is_same(a: Base, b: Base) -> bool
 }
 
 /// What `*` and `&` say of a declared name.
-pub fn reach_of(hold: Hold) -> Reach {
+pub fn reach_of(hold: Hold) -> Reach
+    ensures { reach_of result ≡ spec.reach_of hold }
+{
     match hold {
         Hold::Direct => Reach::Direct,
         Hold::Pointer => Reach::Pointer,
@@ -68,9 +74,14 @@ pub fn reach_of(hold: Hold) -> Reach {
 }
 
 /// The kind of a type that is a number's.
-pub fn number_kind(t: TypeOf) -> Option<Kind> {
+pub fn number_kind(t: TypeOf) -> Option<Kind>
+    ensures { (n : Classes) → result ≡ kind_in (typed_in n t) }
+{
+    if t.vector {
+        return None;
+    }
     match t.base {
-        templates::Base::Number(kind) if !t.vector => Some(kind),
+        templates::Base::Number(kind) => Some(kind),
         _ => None,
     }
 }
@@ -78,7 +89,8 @@ pub fn number_kind(t: TypeOf) -> Option<Kind> {
 impl Form {
     /// That of one thing by itself.
     pub fn direct(base: Base) -> Form
-        ensures { (n : Classes) → form_in n result ≡ spec.direct (base_in n base) }
+        ensures form { (n : Classes) → form_in n result ≡ spec.direct (base_in n base) }
+        ensures base { result.base ≡ base }
     {
         Form {
             base,
@@ -89,7 +101,10 @@ impl Form {
     }
 
     /// That of a shape.
-    pub fn of(shape: &Shape) -> Result<Form, NoMemory> {
+    pub fn of(shape: &Shape) -> Result<Form, NoMemory>
+        ensures form { IfOk result (λ f. (n : Classes) → form_in n f ≡ spec.form_of (shape_in n shape.now)) }
+        ensures is { IfOk result (λ f. f ≡ formed shape.now) }
+    {
         Ok(Form {
             base: shape.base,
             reach: shape.reach,

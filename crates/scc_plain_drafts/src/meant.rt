@@ -1,22 +1,25 @@
 //! What expressions name before they are taken as values.
-ghost use Rattle.std.specs.Prelude.{◌≡◌, IfErr, None, option_map, true};
-ghost use Rattle.scc_plain_drafts.specs.Forms.{Classes, SoundLoc, SoundSubject, form_in, loc_in, number_in, subject_in};
+ghost use Rattle.std.specs.Prelude.{◌≡◌, IfErr, None, false, option_map, true};
+ghost use Rattle.scc_plain_drafts.specs.Forms.{AreTold, Classes, SoundLoc, base_in, SoundSubject, form_in, loc_in, number_in, subject_in};
 ghost use Rattle.scc_plain_drafts.specs.Views.{Drafts};
 ghost use Rattle.scc_plain_spec.specs.Forms as spec;
-ghost use Rattle.scc_plain_spec.specs.Meant.{followed, location, own_object, taken};
+ghost use Rattle.scc_plain_drafts.specs.Picks.{IsDone, IsTold, OwnTold, is_picked, loc_of, subject_of};
+ghost use Rattle.scc_plain_spec.specs.Meant.{At, Nothing, Own, aimed, followed, is_call, is_module_name, is_name, location, own_object, taken};
 ghost use Rattle.scc_plain_spec.specs.Methods.{brackets};
-ghost use Rattle.scc_plain_view.specs.Terms.{left_of};
+ghost use Rattle.scc_plain_view.specs.Terms.{left_of, target_of};
+ghost use Rattle.scc_templates_scopes.specs.Walks.{Gives};
+ghost use Rattle.scc_templates_spec.specs.World.{Owner};
 ghost use Rattle.scc_plain_drafts.specs.Meaning.{Locates, SoundMeant, call_in, meant_in, owner_in};
 ghost use Rattle.scc_plain_drafts.specs.Refusals.{MayStop};
 
 use crate::call::{Call, of_method, of_subject};
-use crate::draft::{Draft, load, read};
+use crate::draft::{Draft, is_answer, load, read};
 use crate::form::{Form, Loc};
 use crate::refusal::{gone, refuse};
-use crate::target::{at_location, behind, own_object};
+use crate::target::{at_location, behind, is_all, own_object};
 use scc_base::{Code, Name, Place, Stop};
 use scc_bits::Kind;
-use scc_plain_tree::{Base, PlainBase, PlainExprNode, PlainLeft, PlainTarget, Reach};
+use scc_plain_tree::{Base, PlainLeft, PlainTarget};
 use scc_templates::InstanceId;
 use std::alloc::Global;
 
@@ -133,16 +136,11 @@ impl Subject {
     }
 }
 
-fn is_answer(x: &Draft) -> bool {
-    match x.expr.node.get() {
-        PlainExprNode::Load(left) => matches!(left.base, PlainBase::Answer(_)),
-        _ => false,
-    }
-}
-
 impl Meant {
     /// It as what a call of the language is made on, where it is a value or a location.
-    pub fn subject(self) -> Option<Subject> {
+    pub fn subject(self) -> Option<Subject>
+        ensures { result ≡ subject_of self }
+    {
         match self {
             Meant::Value(x) => Some(Subject::Value(x)),
             Meant::Loc(l) => Some(Subject::Loc(l)),
@@ -151,7 +149,9 @@ impl Meant {
     }
 
     /// The location, where it is one.
-    pub fn loc(self) -> Option<Loc> {
+    pub fn loc(self) -> Option<Loc>
+        ensures { result ≡ loc_of self }
+    {
         match self {
             Meant::Loc(l) => Some(l),
             _ => None,
@@ -181,7 +181,9 @@ impl Meant {
     }
 
     /// A call that stands only as a statement or a sensitivity, with what it is made on; else what it is.
-    pub fn done(self) -> Result<(PortCall, Subject), Meant> {
+    pub fn done(self) -> Result<(PortCall, Subject), Meant>
+        ensures { IsDone self result }
+    {
         match self {
             Meant::Done { call, of } => Ok((call, of)),
             other => Err(other),
@@ -224,43 +226,25 @@ impl Meant {
         place: Place,
     ) -> Result<PlainTarget, Stop>
         ensures stop { IfErr result MayStop }
+        ensures is { (n : Classes) → IsTold n form own self → Gives target_of result (aimed place (owner_in n own) (form_in n form) (meant_in n self)) }
     {
         match self {
             Meant::Loc(l) => at_location(l, form, place),
-            other => {
-                if form.reach != Reach::Pointer {
-                    return refuse(Code::Mismatch, place);
-                }
-                other.pointed(alloc, form, own, place)
-            }
+            Meant::Null => null_aimed(form, place),
+            Meant::This => own_aimed(alloc, form, own, place),
+            Meant::Address(l) => address_aimed(l, form, place),
+            _ => refuse(Code::Mismatch, place),
         }
     }
 
-    // What a pointer is given by what is no location.
-    fn pointed(
-        self,
-        alloc: Global,
-        form: Form,
-        own: Option<InstanceId>,
-        place: Place,
-    ) -> Result<PlainTarget, Stop>
-        ensures stop { IfErr result MayStop }
+    /// Whether it is bits of a variable, or one bit of a value.
+    pub fn takes_bits(&self) -> bool
+        ensures { (n : Classes) → result ≡ is_picked (meant_in n self.now) }
     {
         match self {
-            Meant::Null => Ok(PlainTarget::Null),
-            Meant::This => match own {
-                Some(i) if form.is_like(Form::direct(Base::Class(i.0))) => {
-                    Ok(PlainTarget::Address(PlainLeft::new(alloc, place, PlainBase::This)))
-                }
-                _ => refuse(Code::Mismatch, place),
-            },
-            Meant::Address(l) => {
-                if l.form.is_pointer() || !l.form.is_like(form) {
-                    return refuse(Code::Mismatch, place);
-                }
-                Ok(PlainTarget::Address(l.left))
-            }
-            _ => refuse(Code::Mismatch, place),
+            Meant::Value(x) => x.is_bit(),
+            Meant::Loc(l) => !is_all(l),
+            _ => false,
         }
     }
 
@@ -278,21 +262,88 @@ impl Meant {
     }
 
     /// Whether it is a call of a function: one without a result, or its result.
-    pub fn is_call(&self) -> bool {
+    pub fn is_call(&self) -> bool
+        ensures { (n : Classes) → result ≡ is_call (meant_in n self.now) }
+    {
         match self {
             Meant::Void => true,
-            Meant::Value(x) => is_answer(x),
+            Meant::Value(x) => is_answer(&x.expr),
             _ => false,
         }
     }
 
     /// Whether it is the name of a module, which an `sc_module_name` is given (IEEE 1666-2011, 5.3).
-    pub fn is_module_name(&self) -> bool {
+    pub fn is_module_name(&self) -> bool
+        ensures { (n : Classes) → result ≡ is_module_name (meant_in n self.now) }
+    {
         match self {
-            Meant::Loc(l) => l.form.base == Base::ModuleName && l.form.is_whole(),
+            Meant::Loc(l) => {
+                if !is_name(l.form.base) {
+                    return false;
+                }
+                l.form.is_whole()
+            }
+            Meant::Text => true,
             _ => false,
         }
     }
+}
+
+fn is_name(base: Base) -> bool
+    ensures { (n : Classes) → result ≡ is_name (base_in n base) }
+{
+    matches!(base, Base::ModuleName)
+}
+
+// What a pointer is given by null.
+fn null_aimed(form: Form, place: Place) -> Result<PlainTarget, Stop>
+    ensures stop { IfErr result MayStop }
+    ensures is { (n : Classes) (o : Owner) → Gives target_of result (aimed place o (form_in n form) Nothing) }
+{
+    if form.is_pointer() {
+        return Ok(PlainTarget::Null);
+    }
+    refuse(Code::Mismatch, place)
+}
+
+// What a pointer is given by `this`.
+fn own_aimed(
+    alloc: Global,
+    form: Form,
+    own: Option<InstanceId>,
+    place: Place,
+) -> Result<PlainTarget, Stop>
+    ensures stop { IfErr result MayStop }
+    ensures is { (n : Classes) → OwnTold n form own → Gives target_of result (aimed place (owner_in n own) (form_in n form) Own) }
+{
+    if !form.is_pointer() {
+        return refuse(Code::Mismatch, place);
+    }
+    let Some(i) = own else {
+        return refuse(Code::Mismatch, place);
+    };
+    if !form.is_like(Form::direct(Base::Class(i.0))) {
+        return refuse(Code::Mismatch, place);
+    }
+    Ok(PlainTarget::Address(own_object(alloc, place)))
+}
+
+// What a pointer is given by an address.
+fn address_aimed(l: Loc, form: Form, place: Place) -> Result<PlainTarget, Stop>
+    ensures stop { IfErr result MayStop }
+    ensures is { (n : Classes) (o : Owner) → AreTold n l.form.base form.base → Gives target_of result (aimed place o (form_in n form) (At (loc_in n l))) }
+{
+    if !form.is_pointer() {
+        return refuse(Code::Mismatch, place);
+    }
+    let leads = l.form.is_pointer();
+    if leads {
+        return refuse(Code::Mismatch, place);
+    }
+    if !l.form.is_like(form) {
+        return refuse(Code::Mismatch, place);
+    }
+    Ok(PlainTarget::Address(l.left))
 }
 
 // The object whose function this is, in a body of a class.

@@ -1,5 +1,5 @@
 -- The processes of a core with new numbers are those of the definition in all but their bodies.
-use Rattle.std.proofs.Common.{◌≡◌, refl, sym, ap, ◌∙◌, arith, ℕ, zero, suc, ◌+◌, min, Bool, true, false, not, nat_eq, List, [], ◌∷◌, map, take, length, Option, Some, None, option_map, if◌then◌else◌}
+use Rattle.std.proofs.Common.{◌≡◌, refl, sym, ap, ◌∙◌, arith, ℕ, zero, suc, ◌+◌, min, Bool, true, false, not, nat_eq, List, [], ◌∷◌, ◌++◌, map, take, length, Option, Some, None, option_map, if◌then◌else◌}
 use Rattle.std.specs.Prelude.{filter}
 use Rattle.std.proofs.lemmas.Bool.Decides.{nat_tests}
 use Rattle.scc_core.specs.declared.program.Cell.{Cell}
@@ -9,8 +9,13 @@ use Rattle.scc_core.specs.declared.program.CoreProcess.{CoreProcess}
 use Rattle.scc_core.specs.declared.program.Edge2.{Edge2}
 use Rattle.scc_core.specs.declared.program.Reset2.{Reset2}
 use Rattle.scc_core_spec.specs.Program as program
-use Rattle.scc_core_spec.specs.Code.{End}
-use Rattle.scc_core_spec.specs.Renumbered.{is_kept_cell, new_number, renamed_edge, renamed_process, renamed_reset}
+use Rattle.scc_core_spec.specs.Code.{Code, End}
+use Rattle.scc_core_spec.specs.Resolved.{Tried, Made, Stopped, and_made, made_map}
+use Rattle.scc_core_spec.specs.Unpointed.{at_first}
+use Rattle.scc_core_view.specs.Codes.{code_of}
+use Rattle.scc_pointers_spec.specs.Freed.{all_freed, freed, freed_program}
+use Rattle.scc_pointers_laws.proofs.Sound.{same_made}
+use Rattle.scc_core_spec.specs.Renumbered.{is_kept_cell, new_number, renamed_code, renamed_edge, renamed_process, renamed_reset}
 use Rattle.scc_core.specs.declared.program.Core.{Core}
 use Rattle.scc_core_view.specs.Terms.{name_of}
 use Rattle.scc_core_view.specs.Programs.{cell_of, cells_of, edge_of, is_thread, process_of, program_of, reset_of, sort_of, vector_of}
@@ -159,3 +164,42 @@ renumbered_is c m top cells vectors processes = record {
 pub keeps_objects : (c m : Core) → m.top ≡ c.top → m.cells ≡ filter (λ x. not (is_pointer x)) c.cells → m.vectors ≡ c.vectors
     → map title_of m.processes ≡ map (title_in (new_numbers 0 c.cells)) c.processes → KeepsObjects c m
 keeps_objects c m top cells vectors processes = record { program = renumbered_is c m top cells vectors processes }
+
+-- ---- processes with their bodies
+
+full_is : (ns : List ℕ) (f : ℕ → ℕ) → Found ns f → (q p : CoreProcess) (b : Code) → title_of q ≡ title_in ns p → code_of q.body ≡ renamed_code f b → process_of q ≡ renamed_process f (process_of p) b
+full_is ns f h q p b e g =
+    let w = process_is ns f h q p e in
+    λ i. record { is_thread = (w i).is_thread; name = (w i).name; place = (w i).place; senses = (w i).senses; edge = (w i).edge; reset = (w i).reset; body = g i }
+
+map_one : {A B : Type 0} (f : A → B) (ys : List A) (p : A) → map f (ys ++ p ∷ []) ≡ map f ys ++ f p ∷ []
+map_one f [] p = refl
+map_one f (y ∷ ys) p = ap (λ l. f y ∷ l) (map_one f ys p)
+
+module _ (p : program.Program) where
+  abbrev with : program.Process → Code → List program.Process → List program.Process
+  with q body more = renamed_process (new_number p.cells) q body ∷ more
+
+  made_more : (xs : List CoreProcess) (q : CoreProcess) (ms : List program.Process) → all_freed p (map process_of xs) ≡ Made ms → (b : Code) → freed (at_first p) (code_of q.body) ≡ Made b
+      → all_freed p (map process_of (xs ++ q ∷ [])) ≡ Made (ms ++ renamed_process (new_number p.cells) (process_of q) b ∷ [])
+  made_more [] q ms e b g = ap (λ t. and_made t (λ body. made_map (with (process_of q) body) (Made []))) g ∙ ap (λ l. Made (l ++ renamed_process (new_number p.cells) (process_of q) b ∷ [])) (same_made e)
+  made_more (x ∷ xs) q ms e b g = by (freed (at_first p) (code_of x.body)) (all_freed p (map process_of xs)) (all_freed p (map process_of (xs ++ q ∷ []))) e (λ ns h. made_more xs q ns h b g)
+    where
+      by : (t : Tried Code) (u w : Tried (List program.Process)) → and_made t (λ body. made_map (with (process_of x) body) u) ≡ Made ms
+          → ((ns : List program.Process) → u ≡ Made ns → w ≡ Made (ns ++ renamed_process (new_number p.cells) (process_of q) b ∷ []))
+          → and_made t (λ body. made_map (with (process_of x) body) w) ≡ Made (ms ++ renamed_process (new_number p.cells) (process_of q) b ∷ [])
+      by (Made c) (Made ns) w e f = ap (made_map (with (process_of x) c)) (f ns refl) ∙ ap (λ l. Made (l ++ renamed_process (new_number p.cells) (process_of q) b ∷ [])) (same_made e)
+      by (Made c) (Stopped r) w e f = absurd cc
+      by (Stopped r) u w e f = absurd cc
+
+  pub given_more : (ns : List ℕ) → Found ns (new_number p.cells) → (os us ys : List CoreProcess) (n q : CoreProcess) → us ≡ os ++ n ∷ [] → all_freed p (map process_of ys) ≡ Made (map process_of os) → (b : Code) → freed (at_first p) (code_of q.body) ≡ Made b
+      → title_of n ≡ title_in ns q → code_of n.body ≡ renamed_code (new_number p.cells) b → all_freed p (map process_of (ys ++ q ∷ [])) ≡ Made (map process_of us)
+  given_more ns h os us ys n q e inv b g t k =
+      made_more ys q (map process_of os) inv b g
+      ∙ ap Made ((λ i. map process_of os ++ sym (full_is ns (new_number p.cells) h n q b t k) i ∷ []) ∙ (sym (map_one process_of os n) ∙ ap (map process_of) (sym e)))
+
+-- the program of the core that is given
+pub program_is : (c m : Core) → m.top ≡ c.top → m.cells ≡ filter (λ x. not (is_pointer x)) c.cells → m.vectors ≡ c.vectors → all_freed (program_of c) (map process_of c.processes) ≡ Made (map process_of m.processes) → freed_program (program_of c) ≡ Made (program_of m)
+program_is c m top cells vectors e =
+    ap (made_map (λ processes. record { top = c.top.0; cells = filter is_kept_cell (cells_of c); vectors = map vector_of c.vectors; processes = processes })) e
+    ∙ (λ i. Made (record { top = (sym top i).0; cells = (sym (cells_kept c.cells) ∙ ap (map cell_of) (sym cells)) i; vectors = map vector_of (sym vectors i); processes = map process_of m.processes }))

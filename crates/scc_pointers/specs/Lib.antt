@@ -1,2 +1,1 @@
 pub mod Resolved
-pub mod Stated

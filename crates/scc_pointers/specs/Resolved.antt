@@ -1,6 +1,7 @@
 -- What resolving pointers keeps of a core.
 use Rattle.std.specs.Prelude.{◌≡◌, ℕ, ◌+◌, min, Bool, nat_eq, List, [], ◌∷◌, map, filter, Option, Some, None, option_map, option_and_then, slice_get, if◌then◌else◌}
 use Rattle.scc_base.specs.declared.refusal.Place.{Place}
+use Rattle.scc_base.specs.declared.refusal.Refusal.{Refusal}
 use Rattle.scc_core.specs.declared.program.Cell.{Cell}
 use Rattle.scc_core.specs.declared.program.CellName.{CellName}
 use Rattle.scc_core.specs.declared.program.Core.{Core}
@@ -10,9 +11,12 @@ use Rattle.scc_core.specs.declared.program.Edge2.{Edge2}
 use Rattle.scc_core.specs.declared.program.Reset2.{Reset2}
 use Rattle.scc_core_spec.specs.Code.{End}
 use Rattle.scc_core_spec.specs.Program.{Process, Program}
+use Rattle.scc_core_spec.specs.Resolved.{Made, Stopped}
 use Rattle.scc_core_spec.specs.Renumbered.{is_kept_cell, new_number, renamed_process}
 use Rattle.scc_core_view.specs.Programs.{program_of}
-use Rattle.scc_pointers_walk.specs.Pointers.{is_pointer}
+use Rattle.scc_pointers_laws.specs.Ready.{IsAsked}
+use Rattle.scc_pointers_spec.specs.Freed.{freed_program}
+use Rattle.scc_pointers_walk.specs.Pointers.{IsOfPointers, is_pointer}
 
 -- what stands in the place of a number where the cell goes
 abbrev pub gone : ℕ
@@ -74,3 +78,13 @@ pub record IsRenumbered (p r : Program) : Type 0 where
 -- The program of a core is the resolved one of another's in all but the bodies of processes.
 pub record KeepsObjects (c m : Core) : Type 0 where
   pub program : IsRenumbered (program_of c) (program_of m)
+
+-- ---- what is given, and what is refused
+
+pub record IsResolved (c m : Core) : Type 0 where
+  pub keeps : KeepsObjects c m
+  pub program : IsAsked c → freed_program (program_of c) ≡ Made (program_of m)
+
+pub record IsRefused (c : Core) (r : Refusal) : Type 0 where
+  pub code : IsOfPointers r
+  pub refusal : IsAsked c → freed_program (program_of c) ≡ Stopped r

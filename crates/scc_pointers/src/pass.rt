@@ -1,16 +1,25 @@
 //! The pass.
-ghost use Rattle.std.specs.Prelude.{◌≡◌, Err, IfOk, Some, filter, map, not};
+ghost use Rattle.std.specs.Prelude.{◌≡◌, ℕ, Err, IfOk, Some, filter, map, not};
 ghost use Rattle.scc_base.specs.declared.refusal.Refusal.{Refusal};
 ghost use Rattle.scc_base.specs.declared.refusal.Stop.TheVariants as stop;
-ghost use Rattle.scc_pointers.specs.Resolved.{KeepsObjects, new_numbers, number_in, title_in, title_of};
+ghost use Rattle.scc_core_spec.specs.Program.{Program};
+ghost use Rattle.scc_core_spec.specs.Resolved.{Made, Stopped};
+ghost use Rattle.scc_core_spec.specs.Renumbered.{new_number, renamed_code};
+ghost use Rattle.scc_pointers_numbers.specs.Numbered.{Found};
+ghost use Rattle.scc_core_view.specs.Codes.{code_of};
+ghost use Rattle.scc_core_view.specs.Programs.{process_of};
+ghost use Rattle.scc_pointers.specs.Resolved.{IsRefused, IsResolved, new_numbers, number_in, title_in, title_of};
+ghost use Rattle.scc_pointers_laws.specs.Ready.{AreBodies, AreReady, IsOver, first_leads};
+ghost use Rattle.scc_pointers_spec.specs.Freed.{all_freed, freed};
+ghost use Rattle.scc_pointers_walk.specs.Led.{Gives};
 ghost use Rattle.scc_pointers_walk.specs.Pointers.{IsOfPointers, is_pointer};
 
 use crate::stmt::resolved_stmts;
 use scc_base::{List, NoMemory, Stop, lost, push};
 use scc_core::{
-    Cell, CellSort, Copies, Core, CoreProcess, CoreStmt, Edge2, Known, Pass, Places, Reset2,
-    VectorSize2,
+    Cell, CellSort, Core, CoreProcess, CoreStmt, Edge2, Known, Pass, Places, Reset2, VectorSize2,
 };
+use scc_pointers_numbers::Numbering;
 use scc_pointers_walk::Resolver;
 use std::alloc::Global;
 
@@ -21,9 +30,9 @@ use std::alloc::Global;
 pub struct Resolve;
 
 impl Pass for Resolve {
-    ghost gives = { λ _ c m. KeepsObjects c m };
+    ghost gives = { λ _ c m. IsResolved c m };
 
-    ghost refuses = { λ _ _ r. IsOfPointers r };
+    ghost refuses = { λ _ c r. IsRefused c r };
 
     fn run(&self, alloc: Global, c: Core) -> Result<Core, Stop> {
         let Core {
@@ -72,6 +81,8 @@ fn all(
 ) -> Result<List<CoreProcess>, Stop>
     ensures titles { IfOk result (λ out. map title_of out ≡ map (title_in numbers.now) processes) }
     ensures stop { (q : Refusal) → result ≡ Err (stop.Refused q) → IsOfPointers q }
+    ensures refused { (p : Program) (r : Refusal) → IsOver p known.entry vectors.now → AreBodies known.entry places.now vectors.now processes → result ≡ Err (stop.Refused r) → all_freed p (map process_of processes) ≡ Stopped r }
+    ensures given { (p : Program) → IsOver p known.entry vectors.now → Found numbers.now (new_number p.cells) → AreBodies known.entry places.now vectors.now processes → IfOk result (λ out. all_freed p (map process_of processes) ≡ Made (map process_of out)) }
 {
     let mut out = List::new(alloc);
     for p in processes.into_vec() {
@@ -90,6 +101,7 @@ fn new_body(
     body: &[CoreStmt],
 ) -> Result<List<CoreStmt>, Stop>
     ensures stop { (q : Refusal) → result ≡ Err (stop.Refused q) → IsOfPointers q }
+    ensures freed { AreReady known.entry places.now vectors.now body.now → Gives code_of result (freed (first_leads known.entry vectors.now) (code_of body.now)) }
 {
     let mut r = Resolver::new(alloc, known, places, vectors);
     resolved_stmts(body, &mut r)
@@ -143,7 +155,8 @@ fn renumbered_process(
     new: List<CoreStmt>,
     numbers: &[u32],
 ) -> Result<CoreProcess, NoMemory>
-    ensures { IfOk result (λ q. title_of q ≡ title_in numbers.now p) }
+    ensures title { IfOk result (λ q. title_of q ≡ title_in numbers.now p) }
+    ensures body { (f : ℕ → ℕ) → Found numbers.now f → IfOk result (λ q. code_of q.body ≡ renamed_code f (code_of new)) }
 {
     let CoreProcess {
         sort,
@@ -174,7 +187,7 @@ fn renumbered_process(
         }),
         None => None,
     };
-    let body = Copies::renumbered(alloc, numbers).stmts(new.as_slice())?;
+    let body = Numbering { alloc, numbers }.stmts(new.as_slice())?;
     Ok(CoreProcess {
         sort,
         name,

@@ -1,15 +1,22 @@
 //! Statements. A pointer that is assigned after its declaration is refused as E511, an index before a member as E512.
-ghost use Rattle.std.specs.Prelude.{◌≡◌, ℕ, Err, IfOk, OnOk, Option, false};
+ghost use Rattle.std.specs.Prelude.{◌≡◌, ◌∷◌, ◌++◌, [], ℕ, Err, IfOk, OnOk, Option, false, option_map};
+ghost use Rattle.scc_base.specs.declared.refusal.Place.{Place};
 ghost use Rattle.scc_base.specs.declared.refusal.Refusal.{Refusal};
 ghost use Rattle.scc_base.specs.declared.refusal.Stop.TheVariants as stop;
 ghost use Rattle.scc_core.specs.declared.expr.CoreLeft.{CoreLeft};
 ghost use Rattle.scc_core.specs.declared.stmt.Pointed.TheVariants as aimed;
+ghost use Rattle.scc_core_spec.specs.Code as code;
 ghost use Rattle.scc_core_spec.specs.Resolved.{Made, made_map};
 ghost use Rattle.scc_core_spec.specs.Unpointed.{is_null_there, leading, of_assigned, or_same};
+ghost use Rattle.scc_core_view.specs.Codes.{code_of, counted, stmt_code};
+ghost use Rattle.scc_pointers_laws.specs.Followed.{IsKnown};
+ghost use Rattle.scc_pointers_spec.specs.Freed.{freed};
 ghost use Rattle.scc_pointers_walk.specs.Led.{Gives, leads_of, target_of};
 ghost use Rattle.scc_pointers_walk.specs.Pointers.{IsOfPointers};
 ghost use Rattle.scc_pointers_walk.specs.Walked.{expr_in, walked_in};
-ghost use Rattle.scc_pointers.specs.Stated.{Begins, Refuses, alias_in, count_in, empty_block};
+ghost use Rattle.scc_pointers_laws.specs.Asked.{AreAsked, asked, asked_count};
+ghost use Rattle.scc_pointers_laws.specs.Stated.{Begins, Refuses, alias_in, count_in, empty_block, put_in};
+ghost use Rattle.scc_pointers_laws.specs.Turned.{Turns};
 
 use scc_base::{Code, List, NoMemory, Place, Refusal, Stop};
 use scc_core::{Copies, CoreExpr, CoreLeft, CoreNode, CoreStmt, Count, Pointed};
@@ -18,6 +25,7 @@ use scc_pointers_walk::{Resolver, expression, location, target, walked};
 /// Statements without pointers, in text order.
 #[cycle(resolved)]
 pub fn resolved_stmts(body: &[CoreStmt], r: &mut Resolver<'_>) -> Result<List<CoreStmt>, Stop>
+    ensures freed { AreAsked r.old (asked body.now) → IsKnown r.old → Gives code_of result (freed (leads_of r.old) (code_of body.now)) }
     ensures held { OnOk result (r.new.held.entries ≡ r.old.held.entries) }
     ensures leads { OnOk result (leads_of r.new ≡ leads_of r.old) }
     ensures known { r.new.known ≡ r.old.known }
@@ -38,6 +46,8 @@ pub fn resolved_stmts(body: &[CoreStmt], r: &mut Resolver<'_>) -> Result<List<Co
 
 #[cycle(resolved)]
 fn resolved_node(s: &CoreStmt, r: &mut Resolver<'_>) -> Result<CoreNode, Stop>
+    ensures freed { AreAsked r.old (asked (s.now ∷ [])) → IsKnown r.old → Turns (leads_of r.old) (leads_of r.new) s.now.place (stmt_code s.now) result }
+    ensures sound { AreAsked r.old (asked (s.now ∷ [])) → IsKnown r.old → OnOk result (IsKnown r.new) }
     ensures held { OnOk result (Begins r.old.held.entries r.new.held.entries) }
     ensures known { r.new.known ≡ r.old.known }
     ensures places { r.new.places ≡ r.old.places }
@@ -45,29 +55,66 @@ fn resolved_node(s: &CoreStmt, r: &mut Resolver<'_>) -> Result<CoreNode, Stop>
     ensures stop { (q : Refusal) → result ≡ Err (stop.Refused q) → IsOfPointers q }
 {
     match &s.node {
-        CoreNode::Assign { left, value } => {
-            let left = location(r, left)?;
-            let value = expression(r, value)?;
-            Ok(CoreNode::Assign { left, value })
-        }
+        CoreNode::Assign { left, value } => put(left, value, r),
         CoreNode::If { test, yes, no } => {
             let test = expression(r, test)?;
             let yes = resolved_stmts(yes.as_slice(), r)?;
             let no = resolved_stmts(no.as_slice(), r)?;
             Ok(CoreNode::If { test, yes, no })
         }
-        CoreNode::Block(body) => Ok(CoreNode::Block(resolved_stmts(body.as_slice(), r)?)),
-        CoreNode::Loop { count, body } => {
-            let body = resolved_stmts(body.as_slice(), r)?;
-            let count = match count {
-                Some(count) => Some(resolved_count(count, r)?),
-                None => None,
-            };
-            Ok(CoreNode::Loop { count, body })
-        }
+        CoreNode::Block(body) => block(body.as_slice(), r),
+        CoreNode::Loop { count, body } => looped(count, body.as_slice(), r),
         CoreNode::Exit(n) => Ok(CoreNode::Exit(*n)),
         CoreNode::Wait { n } => Ok(CoreNode::Wait { n: *n }),
-        CoreNode::Alias { to, target } => alias(s, to, target, r),
+        CoreNode::Alias { to, target } => alias(s.place, to, target, r),
+    }
+}
+
+#[cycle(resolved)]
+fn block(body: &[CoreStmt], r: &mut Resolver<'_>) -> Result<CoreNode, Stop>
+    ensures freed { AreAsked r.old (asked body.now) → IsKnown r.old → (p : Place) → Turns (leads_of r.old) (leads_of r.old) p (code.Block p (code_of body.now)) result }
+    ensures held { OnOk result (r.new.held.entries ≡ r.old.held.entries) }
+    ensures known { r.new.known ≡ r.old.known }
+    ensures places { r.new.places ≡ r.old.places }
+    ensures vectors { r.new.vectors ≡ r.old.vectors }
+    ensures stop { (q : Refusal) → result ≡ Err (stop.Refused q) → IsOfPointers q }
+{
+    let body = resolved_stmts(body, r)?;
+    Ok(CoreNode::Block(body))
+}
+
+// A loop, with its body.
+#[cycle(resolved)]
+fn looped(count: &Option<Count>, body: &[CoreStmt], r: &mut Resolver<'_>) -> Result<CoreNode, Stop>
+    ensures freed { AreAsked r.old (asked_count count.now ++ asked body.now) → IsKnown r.old → (p : Place) → Turns (leads_of r.old) (leads_of r.old) p (code.Loop p (counted count.now) (code_of body.now)) result }
+    ensures held { OnOk result (r.new.held.entries ≡ r.old.held.entries) }
+    ensures known { r.new.known ≡ r.old.known }
+    ensures places { r.new.places ≡ r.old.places }
+    ensures vectors { r.new.vectors ≡ r.old.vectors }
+    ensures stop { (q : Refusal) → result ≡ Err (stop.Refused q) → IsOfPointers q }
+{
+    let body = resolved_stmts(body, r)?;
+    let count = how_counted(count, r)?;
+    Ok(CoreNode::Loop { count, body })
+}
+
+// An assignment.
+fn put(left: &CoreLeft, value: &CoreExpr, r: &Resolver<'_>) -> Result<CoreNode, Stop>
+    ensures trees { Gives (λ n. n) result (put_in r.now left.now value.now) }
+    ensures stop { (q : Refusal) → result ≡ Err (stop.Refused q) → IsOfPointers q }
+{
+    let left = location(r, left)?;
+    let value = expression(r, value)?;
+    Ok(CoreNode::Assign { left, value })
+}
+
+// How a loop counts.
+fn how_counted(count: &Option<Count>, r: &Resolver<'_>) -> Result<Option<Count>, NoMemory>
+    ensures { IfOk result (λ o. o ≡ option_map (count_in r.now) count.now) }
+{
+    match count {
+        Some(count) => Ok(Some(resolved_count(count, r)?)),
+        None => Ok(None),
     }
 }
 
@@ -97,9 +144,10 @@ fn or_same(e: &CoreExpr, r: &Resolver<'_>) -> Result<CoreExpr, NoMemory>
 }
 
 // A pointer leads to its target from its declaration on; a second one, or one that is assigned, is refused.
-fn alias(s: &CoreStmt, to: &Pointed, of: &CoreLeft, r: &mut Resolver<'_>) -> Result<CoreNode, Stop>
-    ensures trees { Gives (λ x. x) result (made_map (λ o. empty_block) (alias_in r.old s.now.place to.now of.now)) }
-    ensures leads { (n : ℕ) (o : Option CoreLeft) → to.now ≡ aimed.Declared n → alias_in r.old s.now.place to.now of.now ≡ Made o → OnOk result (leads_of r.new ≡ leading (leads_of r.old) n (target_of o)) }
+fn alias(place: Place, to: &Pointed, of: &CoreLeft, r: &mut Resolver<'_>) -> Result<CoreNode, Stop>
+    ensures trees { Gives (λ x. x) result (made_map (λ o. empty_block) (alias_in r.old place to.now of.now)) }
+    ensures leads { (n : ℕ) (o : Option CoreLeft) → to.now ≡ aimed.Declared n → alias_in r.old place to.now of.now ≡ Made o → OnOk result (leads_of r.new ≡ leading (leads_of r.old) n (target_of o)) }
+    ensures entries { (n : ℕ) (o : Option CoreLeft) → to.now ≡ aimed.Declared n → alias_in r.old place to.now of.now ≡ Made o → OnOk result (r.new.held.entries ≡ r.old.held.entries ++ (n, o) ∷ []) }
     ensures held { OnOk result (Begins r.old.held.entries r.new.held.entries) }
     ensures known { r.new.known ≡ r.old.known }
     ensures places { r.new.places ≡ r.old.places }
@@ -107,16 +155,28 @@ fn alias(s: &CoreStmt, to: &Pointed, of: &CoreLeft, r: &mut Resolver<'_>) -> Res
     ensures stop { (q : Refusal) → result ≡ Err (stop.Refused q) → IsOfPointers q }
 {
     match to {
-        Pointed::Assigned(left) => Err(assigned(s.place, left, r)),
-        Pointed::Declared(cell) => {
-            let found = target(r, of)?;
-            if !r.declares(*cell) {
-                return Err(Stop::refused(Code::PointerAssigned, s.place));
-            }
-            r.hold(*cell, found)?;
-            Ok(CoreNode::Block(List::new(r.alloc)))
-        }
+        Pointed::Assigned(left) => Err(assigned(place, left, r)),
+        Pointed::Declared(cell) => declared(place, *cell, of, r),
     }
+}
+
+// The declaration of a pointer.
+fn declared(place: Place, cell: u32, of: &CoreLeft, r: &mut Resolver<'_>) -> Result<CoreNode, Stop>
+    ensures trees { Gives (λ x. x) result (made_map (λ o. empty_block) (alias_in r.old place (aimed.Declared cell) of.now)) }
+    ensures leads { (o : Option CoreLeft) → alias_in r.old place (aimed.Declared cell) of.now ≡ Made o → OnOk result (leads_of r.new ≡ leading (leads_of r.old) cell (target_of o)) }
+    ensures entries { (o : Option CoreLeft) → alias_in r.old place (aimed.Declared cell) of.now ≡ Made o → OnOk result (r.new.held.entries ≡ r.old.held.entries ++ (cell, o) ∷ []) }
+    ensures held { OnOk result (Begins r.old.held.entries r.new.held.entries) }
+    ensures known { r.new.known ≡ r.old.known }
+    ensures places { r.new.places ≡ r.old.places }
+    ensures vectors { r.new.vectors ≡ r.old.vectors }
+    ensures stop { (q : Refusal) → result ≡ Err (stop.Refused q) → IsOfPointers q }
+{
+    let found = target(r, of)?;
+    if !r.declares(cell) {
+        return Err(Stop::refused(Code::PointerAssigned, place));
+    }
+    r.hold(cell, found)?;
+    Ok(CoreNode::Block(List::new(r.alloc)))
 }
 
 // The refusal of an assigned pointer; null that is followed at the same place comes first.

@@ -1,5 +1,5 @@
 -- Walks as the code makes them of trees are those of the definitions.
-use Rattle.std.proofs.Common.{◌≡◌, refl, sym, ap, subst, ◌∙◌, arith, ℕ, ◌<◌, Bool, true, false, ◌||◌, nat_eq, if◌then◌else◌, List, [], ◌∷◌, ◌++◌, map, Option, Some, None, unwrap_or}
+use Rattle.std.proofs.Common.{◌≡◌, refl, sym, ap, subst, ◌∙◌, arith, ℕ, ◌<◌, Bool, true, false, not, ◌||◌, nat_eq, if◌then◌else◌, List, [], ◌∷◌, ◌++◌, map, Option, Some, None, option_map, unwrap_or, is_some}
 use Rattle.scc_base.specs.declared.code.Code.TheVariants as reason
 use Rattle.scc_base.specs.declared.names.Name.{Name}
 use Rattle.scc_base.specs.declared.refusal.Place.{Place}
@@ -17,9 +17,11 @@ use Rattle.scc_core.specs.declared.program.CellName.{CellName}
 use Rattle.scc_core.specs.declared.program.VectorSize2.{VectorSize2}
 use Rattle.scc_core_spec.specs.First.{refused}
 use Rattle.scc_core_spec.specs.Fold as fold
-use Rattle.scc_core_spec.specs.Named.{Step, chooses_object, fits, path_steps}
+use Rattle.scc_core_spec.specs.Named.{Step, chooses_object, is_open, fits, path_steps}
 use Rattle.scc_core_spec.specs.Resolved.{Leads, Tried, Made, Stopped, and_made, behind, looked, made_map, or_null, placed, pointed, resolved, sure, walked}
 use Rattle.scc_core_spec.specs.Static.{pattern}
+use Rattle.scc_core_spec.specs.Unpointed.{aimed, resolved_left, resolved_pick}
+use Rattle.scc_core_spec.specs.Code.{Code}
 use Rattle.scc_core_spec.specs.Term.{Term, Left, place_at}
 use Rattle.scc_core_spec.specs.Term as term
 use Rattle.scc_core_view.specs.Programs.{path_of, vector_of}
@@ -27,21 +29,21 @@ use Rattle.scc_core_view.specs.Terms.{term_of, taken_of}
 use Rattle.scc_core_view.specs.Terms as to
 use Rattle.scc_core_view.specs.Whole.{IsName, location, made}
 use Rattle.scc_pointers_walk.specs.declared.held.Resolver.{Resolver}
-use Rattle.scc_pointers_walk.specs.Led.{at_place, leads_of, left_of, target_of}
-use Rattle.scc_pointers_walk.specs.Located.{as_name, element_in, looked_in, member_in, pointed_in, size_of}
+use Rattle.scc_pointers_walk.specs.Led.{at_place, left_of, looks_of, target_of}
+use Rattle.scc_pointers_walk.specs.Located.{aimed_in, as_name, element_in, is_chosen, is_one_of, looked_in, member_in, pointed_in, size_of}
 use Rattle.scc_pointers_walk.specs.Read.{IsFound}
 use Rattle.scc_pointers_walk.specs.Walked as trees
-use Rattle.scc_pointers_walk.specs.Walked.{Gone, Layer, all_behind, base_node, beyond, bits_of, expr_in, expr_node, expression, gone_in, leads_in, loaded_of, null_or_refused, read_of, shown_in, start, sure_of, walked_in, with_parts, with_pick}
+use Rattle.scc_pointers_walk.specs.Walked.{Gone, Layer, aimed_or, all_behind, base_node, beyond, bits_of, expr_in, expr_node, expression, gone_in, leads_in, loaded_in, loaded_of, null_or_refused, read_of, shown_in, start, sure_of, target_in, walked_in, with_parts, with_pick}
 use Rattle.scc_pointers_walk.proofs.Chained.{BaseLayer, base_layer, base_shown, layer_shown, node_shown}
 use Rattle.scc_pointers_walk.proofs.Leading.{pointed_is}
 use Rattle.scc_pointers_walk.proofs.Locations.{as_name_is, left_is, member_is, seen_base}
-use Rattle.scc_pointers_walk.proofs.Patterns.{place_is}
+use Rattle.scc_pointers_walk.proofs.Patterns.{chosen_is, open_is, place_is}
 use Rattle.scc_pointers_walk.proofs.Placed.{placed_is}
 use Rattle.scc_pointers_walk.proofs.Sized.{element_is, size_of_is}
 use Rattle.scc_pointers_walk.proofs.Tabled.{looked_is}
 use Rattle.scc_pointers_walk.proofs.Terms.{PartLayer, base_term, part_term, term_base, term_node, term_part, term_pick}
-use Rattle.scc_pointers_laws.specs.Followed.{AreFollowed, AreFollowedParts, HaveSmallSizes, IsDeclared, IsFollowed, IsFollowedBase, IsFollowedLeft, IsFollowedPick, IsKnown, IsSound, binary, bit, cell, choose, convert, follow, index, join, last, left, literal, load, member, next, none, null, pick, prefix, range, read, some, unary, whole}
-use Rattle.scc_pointers_laws.proofs.Sound.{element_sound, has_name, member_sound, name_sound, named_base_of, pointed_sound}
+use Rattle.scc_pointers_laws.specs.Followed.{AreFollowed, AreFollowedParts, HaveSmallSizes, IsFollowed, IsFollowedBase, IsFollowedLeft, IsFollowedPick, IsKnown, IsSound, binary, bit, cell, choose, convert, follow, index, join, last, left, literal, load, member, next, none, null, pick, prefix, range, read, some, unary, whole}
+use Rattle.scc_pointers_laws.proofs.Sound.{element_sound, has_name, member_sound, name_sound, named_base_of, pointed_sound, same_made, same_some}
 
 -- ---- sizes have 32 bits
 
@@ -73,7 +75,7 @@ term_made p k x =
 
 module _ (r : Resolver) (k : IsKnown r) where
   abbrev here : Leads
-  here = leads_of r
+  here = looks_of r
 
   shown_made : (p : Place) (j : Kind) (x : Layer) → shown_in r (made p j x) ≡ expr_node r (layer_shown r x) p j
   shown_made p j x =
@@ -110,8 +112,8 @@ module _ (r : Resolver) (k : IsKnown r) where
   looks_from (Stopped q) = refuses q
   looks_from (Made m) = sees m
 
-  pointed_agrees : (m : CoreLeft) → IsSound r m → IsDeclared r m → Agrees (pointed_in r m) (pointed here (left_of m))
-  pointed_agrees m h d = subst (Agrees (pointed_in r m)) (pointed_is r k.table k.cells m (has_name r k m h.0) h.1 d) (agrees_from (pointed_in r m) (λ n. pointed_sound r k m n))
+  pointed_agrees : (m : CoreLeft) → IsSound r m → Agrees (pointed_in r m) (pointed here (left_of m))
+  pointed_agrees m h = subst (Agrees (pointed_in r m)) (pointed_is r k.locals k.table k.cells m (has_name r k m h.0) h.1) (agrees_from (pointed_in r m) (λ n. pointed_sound r k m n))
 
   looked_looks : (m : CoreLeft) → IsSound r m → Looks (looked_in r m) (looked here (left_of m))
   looked_looks m h = subst (Looks (looked_in r m)) (looked_is r k.table m h.0 h.1) (looks_from (looked_in r m))
@@ -134,11 +136,11 @@ module _ (r : Resolver) (k : IsKnown r) where
   turned_agrees p soft at_null = null_agrees soft p (λ m. Made (Some (placed p m)))
   turned_agrees p soft (leads m h) = subst (λ n. Agrees (Made (Some (at_place p m))) (Made (Some n))) (placed_is p m) (leads (at_place p m) h)
 
-  follow_agrees : (p : Place) (soft : Bool) {t : Tried (Option CoreLeft)} {d : Tried (Option Left)} → Agrees t d → ((m : CoreLeft) → t ≡ Made (Some m) → IsDeclared r m)
+  follow_agrees : (p : Place) (soft : Bool) {t : Tried (Option CoreLeft)} {d : Tried (Option Left)} → Agrees t d
       → Agrees (and_made t (λ at. and_made (leads_in r at) (turned p soft))) (and_made d (λ o. and_made (behind o (pointed here)) (turned_left p soft)))
-  follow_agrees p soft (stops q) f = stops q
-  follow_agrees p soft at_null f = null_agrees soft p (λ m. Made (Some (placed p m)))
-  follow_agrees p soft (leads m h) f = turned_agrees p soft (pointed_agrees m h (f m refl))
+  follow_agrees p soft (stops q) = stops q
+  follow_agrees p soft at_null = null_agrees soft p (λ m. Made (Some (placed p m)))
+  follow_agrees p soft (leads m h) = turned_agrees p soft (pointed_agrees m h)
 
   -- ---- parts
 
@@ -578,11 +580,11 @@ module _ (r : Resolver) (k : IsKnown r) where
   null_base : (p : Place) (soft : Bool) (ps : List CorePart) → AllParts ps → Agrees (base_shown r (roll-CoreBase tree.Null) p soft (map (trees.part_in r) ps)) (walked here soft (whole_left p (roll-CoreBase tree.Null) ps))
   null_base p soft ps f = from_layer tree.Null p soft (map (trees.part_in r) ps) (map term_part ps) (f soft (term.Null p) (Made None) at_null)
 
-  follow_base : (own : Bool) (l : CoreLeft) → ((soft : Bool) → Agrees (walked_in r l soft) (walked here soft (left_of l))) → ((s : Bool) (m : CoreLeft) → walked_in r l s ≡ Made (Some m) → IsDeclared r m)
+  follow_base : (own : Bool) (l : CoreLeft) → ((soft : Bool) → Agrees (walked_in r l soft) (walked here soft (left_of l)))
       → (p : Place) (soft : Bool) (ps : List CorePart) → AllParts ps → Agrees (base_shown r (roll-CoreBase (tree.Follow l own)) p soft (map (trees.part_in r) ps)) (walked here soft (whole_left p (roll-CoreBase (tree.Follow l own)) ps))
-  follow_base own l a d p soft ps f = from_layer (tree.Follow l own) p soft (map (trees.part_in r) ps) (map term_part ps)
+  follow_base own l a p soft ps f = from_layer (tree.Follow l own) p soft (map (trees.part_in r) ps) (map term_part ps)
       (subst (λ u. Agrees u (walked here soft (to.extended (term.Follow p own (left_of l)) (map term_part ps)))) (sym (begun (walked_in r l (soft || own)) p soft (map (trees.part_in r) ps)))
-      (f soft (term.Follow p own (left_of l)) (and_made (walked_in r l (soft || own)) (λ at. and_made (leads_in r at) (turned p soft))) (follow_agrees p soft (a (soft || own)) (d (soft || own)))))
+      (f soft (term.Follow p own (left_of l)) (and_made (walked_in r l (soft || own)) (λ at. and_made (leads_in r at) (turned p soft))) (follow_agrees p soft (a (soft || own)))))
 
   at_left : (p : Place) (b : CoreBase) (ps : List CorePart) (q : Option CorePick) (soft : Bool) → Agrees (base_shown r b p soft (map (trees.part_in r) ps)) (walked here soft (whole_left p b ps))
       → Agrees (walked_in r (location p b ps q) soft) (walked here soft (left_of (location p b ps q)))
@@ -691,7 +693,7 @@ module _ (r : Resolver) (k : IsKnown r) where
     base_agrees : {b : CoreBase} → IsFollowedBase r b → (p : Place) (soft : Bool) (ps : List CorePart) → AllParts ps → Agrees (base_shown r b p soft (map (trees.part_in r) ps)) (walked here soft (whole_left p b ps))
     base_agrees (cell n) p soft ps f = cell_base n p soft ps f
     base_agrees (prefix name h) p soft ps f = prefix_base name h p soft ps f
-    base_agrees (follow own {l = l} v d) p soft ps f = follow_base own l (left_agrees v) d p soft ps f
+    base_agrees (follow own {l = l} v) p soft ps f = follow_base own l (left_agrees v) p soft ps f
     base_agrees null p soft ps f = null_base p soft ps f
 
     parts_agree : {ps : List CorePart} → AreFollowedParts r ps → AllParts ps
@@ -713,3 +715,83 @@ module _ (r : Resolver) (k : IsKnown r) where
 
   pub left_agrees_is : {l : CoreLeft} → IsFollowedLeft r l → (soft : Bool) → made_map target_of (walked_in r l soft) ≡ walked here soft (left_of l)
   left_agrees_is w soft = agrees_is (left_agrees w soft)
+
+  -- ---- locations that are assigned
+
+  module _ (f : Left → term.Pick → Tried Code) where
+    abbrev put_of : CoreLeft → Tried Code
+    put_of n = f (taken_of n).left (taken_of n).pick
+
+    abbrev take : Tried (Option CorePick) → CoreLeft → Tried CoreLeft
+    take t m = and_made t (λ q. made_map (λ l. with_pick l q) (looked_in r m))
+
+    abbrev take_left : Tried term.Pick → Left → Tried Code
+    take_left t m = and_made t (λ k. and_made (looked here m) (λ m. f m k))
+
+    sure_put : (p : Place) {t : Tried (Option CoreLeft)} {d : Tried (Option Left)} → Agrees t d → (g : CoreLeft → Tried CoreLeft) (h : Left → Tried Code) → ((m : CoreLeft) → IsSound r m → h (left_of m) ≡ and_made (g m) put_of)
+        → and_made d (λ o. sure p o h) ≡ and_made (and_made t (λ o. and_made (sure_of p o) g)) put_of
+    sure_put p (stops q) g h i = refl
+    sure_put p at_null g h i = refl
+    sure_put p (leads m s) g h i = i m s
+
+    seen_put : {t : Tried CoreLeft} {d : Tried Left} → Looks t d → (q : Option CorePick) (k : term.Pick) → ((n : CoreLeft) → (taken_of (with_pick n q)).left ≡ left_of n) → ((n : CoreLeft) → (taken_of (with_pick n q)).pick ≡ k)
+        → and_made d (λ m. f m k) ≡ and_made (made_map (λ l. with_pick l q) t) put_of
+    seen_put (refuses q) o k g h = refl
+    seen_put (sees n) o k g h = λ i. f (sym (g n) i) (sym (h n) i)
+
+    put_by : (o : Place) (b : CoreBase) (ps : List CorePart) (q : Option CorePick) (t : Tried (Option CorePick)) (k : term.Pick) → Agrees (base_shown r b o false (map (trees.part_in r) ps)) (walked here false (whole_left o b ps))
+        → gone_in r (location o b ps q) ≡ gone_by o b ps t (not (is_some q)) → (taken_of (location o b ps q)).left ≡ whole_left o b ps → (taken_of (location o b ps q)).pick ≡ k
+        → ((m : CoreLeft) → IsSound r m → take_left (resolved_pick here k) (left_of m) ≡ and_made (take t m) put_of)
+        → resolved_left here (taken_of (location o b ps q)).left (taken_of (location o b ps q)).pick f ≡ and_made (loaded_in r (location o b ps q)) put_of
+    put_by o b ps q t k a e l j h =
+        (λ i. resolved_left here (l i) (j i) f)
+        ∙ (ap (λ p. and_made (walked here false (whole_left o b ps)) (λ u. sure p u (λ m. take_left (resolved_pick here k) m))) (place_whole o b ps)
+        ∙ (sure_put o a (take t) (take_left (resolved_pick here k)) h ∙ ap (λ g. and_made (loaded_of r g) put_of) (sym e)))
+
+    one_put : (of : Kind) (e : CoreExpr) {u : Tried CoreExpr} {v : Tried Term} → Same u v → (m : CoreLeft) → IsSound r m
+        → take_left (made_map term.OneBit v) (left_of m) ≡ and_made (take (made_map Some (made_map (λ x. roll-CorePick (tree.Bit of x)) u)) m) put_of
+    one_put of e (stopped q) m s = refl
+    one_put of e (makes x) m s = seen_put (looked_looks m s) (Some (roll-CorePick (tree.Bit of x))) (term.OneBit (term_of x)) (λ n. ap (λ t. t.left) (taken_bit n of x)) (λ n. ap (λ t. t.pick) (taken_bit n of x))
+
+    pub put_is : {l : CoreLeft} → IsFollowedLeft r l → resolved_left here (taken_of l).left (taken_of l).pick f ≡ and_made (loaded_in r l) put_of
+    put_is (left o {b = b} {ps = ps} v w whole) = put_by o b ps None (Made None) term.Whole (base_agrees v o false ps (parts_agree w)) (gone_whole o b ps) (ap (λ t. t.left) (taken_whole o b ps)) (ap (λ t. t.pick) (taken_whole o b ps))
+        (λ m s. seen_put (looked_looks m s) None term.Whole (λ n. ap (λ t. t.left) (taken_none n)) (λ n. ap (λ t. t.pick) (taken_none n)))
+    put_is (left o {b = b} {ps = ps} v w (some (bit of {e = e} x))) = put_by o b ps (Some (bit_pick of e)) (made_map Some (made_map (λ x. roll-CorePick (tree.Bit of x)) (expr_in r e))) (term.OneBit (term_of e)) (base_agrees v o false ps (parts_agree w)) (gone_bit o b ps of e)
+        (ap (λ t. t.left) (taken_one o b ps of e)) (ap (λ t. t.pick) (taken_one o b ps of e)) (λ m s. one_put of e (expr_same x) m s)
+    put_is (left o {b = b} {ps = ps} v w (some (range of h l))) = put_by o b ps (Some (roll-CorePick (tree.Range of h l))) (made_map Some (Made (roll-CorePick (tree.Range of h l)))) (term.Bits h l) (base_agrees v o false ps (parts_agree w)) (gone_range o b ps of h l)
+        (ap (λ t. t.left) (taken_bits o b ps of h l)) (ap (λ t. t.pick) (taken_bits o b ps of h l))
+        (λ m s. seen_put (looked_looks m s) (Some (roll-CorePick (tree.Range of h l))) (term.Bits h l) (λ n. ap (λ t. t.left) (taken_range n of h l)) (λ n. ap (λ t. t.pick) (taken_range n of h l)))
+
+  -- ---- targets
+
+  aim_agrees : (p : Place) (l : Left) → place_at l ≡ p → {t : Tried (Option CoreLeft)} {d : Tried (Option Left)} → Agrees t d
+      → Agrees (and_made t (aimed_or r p)) (and_made d (λ o. behind o (λ m. if unwrap_or (option_map chooses_object (pattern here.cells m)) false then Stopped (refused reason.StaticIndex (place_at m))
+      else (if unwrap_or (option_map is_open (pattern here.cells m)) true then Stopped (refused reason.StaticIndex (place_at l)) else Made (Some m)))))
+  aim_agrees p l e (stops q) = stops q
+  aim_agrees p l e at_null = at_null
+  aim_agrees p l e (leads m s) =
+      subst (λ b. Agrees (made_map Some (aimed_in r m p)) (if b then Stopped (refused reason.StaticIndex (place_at (left_of m))) else (if unwrap_or (option_map is_open (pattern here.cells (left_of m))) true then Stopped (refused reason.StaticIndex (place_at l)) else Made (Some (left_of m))))) (chosen_is r m s.1)
+      (subst (λ b. Agrees (made_map Some (aimed_in r m p)) (if is_chosen r m then Stopped (refused reason.StaticIndex (place_at (left_of m))) else (if b then Stopped (refused reason.StaticIndex (place_at l)) else Made (Some (left_of m))))) (open_is r m true s.1)
+      (subst (λ z. Agrees (made_map Some (aimed_in r m p)) (if is_chosen r m then Stopped (refused reason.StaticIndex z) else (if is_one_of r m true then Stopped (refused reason.StaticIndex (place_at l)) else Made (Some (left_of m))))) (sym (place_is m))
+      (subst (λ z. Agrees (made_map Some (aimed_in r m p)) (if is_chosen r m then Stopped (refused reason.StaticIndex m.place) else (if is_one_of r m true then Stopped (refused reason.StaticIndex z) else Made (Some (left_of m))))) (sym e)
+      (by (is_chosen r m) (is_one_of r m true)))))
+    where
+      by : (b c : Bool) → Agrees (made_map Some (if b then Stopped (refused reason.StaticIndex m.place) else (if c then Stopped (refused reason.StaticIndex p) else Made m)))
+          (if b then Stopped (refused reason.StaticIndex m.place) else (if c then Stopped (refused reason.StaticIndex p) else Made (Some (left_of m))))
+      by true c = stops (refused reason.StaticIndex m.place)
+      by false true = stops (refused reason.StaticIndex p)
+      by false false = leads m s
+
+  target_agrees : {l : CoreLeft} → IsFollowedLeft r l → Agrees (target_in r l) (aimed here (left_of l))
+  target_agrees {l = l} w = aim_agrees l.place (left_of l) (place_is l) (left_agrees w true)
+
+  pub target_is : {l : CoreLeft} → IsFollowedLeft r l → made_map target_of (target_in r l) ≡ aimed here (left_of l)
+  target_is w = agrees_is (target_agrees w)
+
+  sound_in : {t : Tried (Option CoreLeft)} {d : Tried (Option Left)} → Agrees t d → (m : CoreLeft) → t ≡ Made (Some m) → IsSound r m
+  sound_in (stops q) m e = absurd cc
+  sound_in at_null m e = absurd cc
+  sound_in (leads n s) m e = subst (IsSound r) (same_some (same_made e)) s
+
+  pub target_sound : {l : CoreLeft} → IsFollowedLeft r l → (m : CoreLeft) → target_in r l ≡ Made (Some m) → IsSound r m
+  target_sound w m e = sound_in (target_agrees w) m e

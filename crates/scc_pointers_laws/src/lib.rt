@@ -3,4 +3,4 @@
 
 mod laws;
 
-pub use laws::{a_walk_is_the_definitions, walks_stay_sound};
+pub use laws::{a_walk_is_the_definitions, walks_stay_sound, what_is_assigned_is_the_definitions};

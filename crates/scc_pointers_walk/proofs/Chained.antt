@@ -1,5 +1,5 @@
 -- What is refused of a first operand or of a pointer is refused of what stands around it.
-use Rattle.std.proofs.Common.{◌≡◌, refl, sym, ap, subst, ◌∙◌, ℕ, zero, suc, Bool, true, false, not, ◌||◌, if◌then◌else◌, List, [], ◌∷◌, map, slice_get, Option, Some, None, option_map, is_some, unwrap_or, Err}
+use Rattle.std.proofs.Common.{◌≡◌, refl, sym, ap, ◌∙◌, ℕ, zero, suc, Bool, true, false, not, if◌then◌else◌, List, [], ◌∷◌, map, slice_get, Option, Some, None, is_some, unwrap_or, Err}
 use Rattle.scc_base.specs.declared.refusal.Place.{Place}
 use Rattle.scc_base.specs.declared.refusal.Refusal.{Refusal}
 use Rattle.scc_base.specs.declared.refusal.Stop.{Stop}
@@ -13,7 +13,7 @@ use Rattle.scc_core.specs.declared.expr.CoreLeft.{CoreLeft, fold-roll-CoreLeft, 
 use Rattle.scc_core.specs.declared.expr.CorePart.{CorePart}
 use Rattle.scc_core.specs.declared.expr.CorePick.{CorePick}
 use Rattle.scc_core.specs.Copies.{Follows, IsChain}
-use Rattle.scc_core_spec.specs.Resolved.{Tried, Made, Stopped, and_made, made_map}
+use Rattle.scc_core_spec.specs.Resolved.{Tried, Stopped, and_made, made_map}
 use Rattle.scc_pointers_walk.specs.declared.held.Resolver.{Resolver}
 use Rattle.scc_pointers_walk.specs.Led.{Gives}
 use Rattle.scc_pointers_walk.specs.Walked as walked

@@ -1,5 +1,5 @@
 -- Names and members of locations are those of the definitions.
-use Rattle.std.proofs.Common.{◌≡◌, refl, sym, ap, subst, ◌∙◌, arith, ℕ, suc, Bool, true, false, not, ◌&&◌, nat_eq, if◌then◌else◌, List, [], ◌∷◌, ◌++◌, map, length, slice_get, Option, Some, None, option_map, is_some, unwrap_or}
+use Rattle.std.proofs.Common.{◌≡◌, refl, sym, ap, ◌∙◌, arith, ℕ, suc, Bool, true, false, not, nat_eq, if◌then◌else◌, List, [], ◌∷◌, ◌++◌, map, length, slice_get, Option, Some, None, option_map, is_some, unwrap_or}
 use Rattle.std.proofs.lemmas.Option.{slice_get-map}
 use Rattle.std.proofs.lemmas.Bool.Decides.{nat_tests}
 use Rattle.scc_base.specs.declared.names.Name.{Name}
@@ -26,7 +26,7 @@ use Rattle.scc_core_view.specs.Terms.{name_of, own_of, part_of, term_of, taken_o
 use Rattle.scc_core_view.specs.Terms as to
 use Rattle.scc_pointers_walk.specs.declared.held.Resolver.{Resolver}
 use Rattle.scc_pointers_walk.specs.Led.{left_of}
-use Rattle.scc_pointers_walk.specs.Located.{BaseLayer, as_name, cell_name, cell_or_name, grown, longer, longer_by, longer_in, longer_base, member_behind, member_in, member_on, named_base, named_in, takes_member, with_base, with_more}
+use Rattle.scc_pointers_walk.specs.Located.{BaseLayer, as_name, cell_or_name, grown, longer, longer_by, longer_in, member_behind, member_in, member_on, named_base, named_in, with_base, with_more}
 use Rattle.scc_pointers_walk.proofs.Terms.{PartLayer, term_node, term_base, term_part, term_pick, base_term, part_term}
 
 -- ---- locations with and without parts

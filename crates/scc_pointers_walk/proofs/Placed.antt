@@ -9,7 +9,6 @@ use Rattle.scc_core.specs.declared.expr.CoreLeft.{CoreLeft}
 use Rattle.scc_core.specs.declared.expr.CorePart.{CorePart, roll-CorePart}
 use Rattle.scc_core.specs.declared.expr.CorePick.{CorePick}
 use Rattle.scc_core_spec.specs.Term.{Left}
-use Rattle.scc_core_spec.specs.Term as term
 use Rattle.scc_core_spec.specs.Resolved.{placed}
 use Rattle.scc_core_view.specs.Terms as to
 use Rattle.scc_pointers_walk.specs.Led.{left_of, target_of}

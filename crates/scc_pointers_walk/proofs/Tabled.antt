@@ -1,5 +1,5 @@
 -- Whole names are the cells that the definitions find, by the table of names.
-use Rattle.std.proofs.Common.{◌≡◌, refl, sym, ap, subst, ◌∙◌, ℕ, Bool, true, false, ◌&&◌, nat_eq, if◌then◌else◌, List, [], ◌∷◌, ◌++◌, map, length, slice_get, Option, Some, None, option_map, option_and_then, unwrap_or}
+use Rattle.std.proofs.Common.{◌≡◌, refl, sym, ap, ◌∙◌, ℕ, Bool, true, false, nat_eq, if◌then◌else◌, List, [], ◌∷◌, ◌++◌, map, length, slice_get, Option, Some, None, option_map, option_and_then, unwrap_or}
 use Rattle.std.proofs.lemmas.Option.{slice_get-map}
 use Rattle.scc_base.specs.declared.code.Code.TheVariants as reason
 use Rattle.scc_base.specs.declared.names.Name.{Name}
@@ -7,7 +7,7 @@ use Rattle.scc_base.specs.declared.path.PathPart.{PathPart}
 use Rattle.scc_base.specs.declared.path.PathPart.TheVariants as path_part
 use Rattle.scc_base.specs.declared.refusal.Place.{Place}
 use Rattle.scc_core.specs.declared.expr.CoreLeft.{CoreLeft}
-use Rattle.scc_core.specs.declared.expr.CoreBase.{CoreBase, roll-CoreBase, out-CoreBase}
+use Rattle.scc_core.specs.declared.expr.CoreBase.{roll-CoreBase, out-CoreBase}
 use Rattle.scc_core.specs.declared.expr.CoreBase.TheOpen as tree
 use Rattle.scc_core.specs.declared.places.NameStep.{NameStep}
 use Rattle.scc_core.specs.declared.places.NameStep.TheVariants as step
@@ -26,12 +26,11 @@ use Rattle.scc_core_spec.specs.First.{refused}
 use Rattle.scc_core_spec.specs.Named.{Named, At, Ours, Step, chooses_object, own_steps, part_step, path_steps, steps_of}
 use Rattle.scc_core_spec.specs.Named as spec
 use Rattle.scc_core_spec.specs.Program as program
-use Rattle.scc_core_spec.specs.Resolved.{Leads, Tried, Made, Stopped, made_map, looked, named_pointer, without_pointer}
-use Rattle.scc_core_spec.specs.Static.{pattern}
+use Rattle.scc_core_spec.specs.Resolved.{Tried, Made, Stopped, made_map, looked, named_pointer, without_pointer}
 use Rattle.scc_core_spec.specs.Term.{Left, place_at}
 use Rattle.scc_core_spec.specs.Term as term
 use Rattle.scc_core_spec.specs.Uses as uses
-use Rattle.scc_core_view.specs.Programs.{cell_of, path_of, sort_of, vector_of}
+use Rattle.scc_core_view.specs.Programs.{cell_of, path_of, sort_of}
 use Rattle.scc_core_view.specs.Steps.{step_in}
 use Rattle.scc_core_view.specs.Terms.{name_of, own_of, part_of}
 use Rattle.scc_core_view.proofs.Tables.{cells_same}

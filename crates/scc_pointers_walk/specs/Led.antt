@@ -1,5 +1,5 @@
 -- What the code knows at a statement, as the definitions have it, and answers that are theirs. This project's own.
-use Rattle.std.specs.Prelude.{◌≡◌, ℕ, Bool, ◌&&◌, not, nat_eq, List, [], map, Option, Some, None, option_map, slice_get, is_some, Result, Ok, Err}
+use Rattle.std.specs.Prelude.{◌≡◌, ℕ, nat_eq, List, [], map, Option, Some, None, option_map, slice_get, Result, Ok, Err}
 use Rattle.std.specs.HashMap.{get_by}
 use Rattle.scc_base.specs.declared.refusal.Place.{Place}
 use Rattle.scc_base.specs.declared.refusal.Stop.{Stop}
@@ -12,9 +12,10 @@ use Rattle.scc_core.specs.declared.program.Cell.{Cell as Held}
 use Rattle.scc_core.specs.declared.program.CellSort.{CellSort}
 use Rattle.scc_core.specs.declared.program.CellSort.TheVariants as sort
 use Rattle.scc_core_spec.specs.Term.{Left}
-use Rattle.scc_core_spec.specs.Resolved.{Leads, Tried, Made, Stopped, is_local_name}
+use Rattle.scc_core_spec.specs.Resolved.{Leads, Tried, Made, Stopped}
 use Rattle.scc_core_view.specs.Programs.{cell_of, vector_of}
 use Rattle.scc_core_view.specs.Terms.{taken_of}
+use Rattle.scc_pointers_spec.specs.Freed.{filled}
 use Rattle.scc_pointers_walk.specs.declared.held.Resolver.{Resolver}
 
 -- the answer is what the definition makes, or its refusal; or memory is wanted
@@ -37,9 +38,9 @@ local_of r n = option_map target_of (get_by (nat_eq n) r.held)
 abbrev pub leads_of : Resolver → Leads
 leads_of r = record { cells = map cell_of r.known.cells.now; vectors = map vector_of r.vectors.now; local = local_of r }
 
--- a local pointer before its declaration: the definition refuses it there, the code takes it for null
-abbrev pub is_undeclared : Leads → ℕ → Bool
-is_undeclared s n = is_local_name (slice_get s.cells n) && not (is_some (s.local n))
+-- what is known where pointers are looked at: a local one leads to null before its declaration
+abbrev pub looks_of : Resolver → Leads
+looks_of r = filled (leads_of r)
 
 -- ---- the same as trees
 

@@ -1,5 +1,5 @@
 -- Indices for which the code finds what the definitions have. This project's own.
-use Rattle.std.specs.Prelude.{◌≡◌, ℕ, ◌<◌, List, [], ◌∷◌, map, Some}
+use Rattle.std.specs.Prelude.{◌≡◌, ℕ, ◌<◌, true, List, [], ◌∷◌, map, slice_get, Some, is_some}
 use Rattle.scc_base.specs.declared.path.PathPart.{PathPart}
 use Rattle.scc_base.specs.declared.path.PathPart.TheVariants as path_part
 use Rattle.scc_core.specs.declared.expr.CoreBase.{CoreBase, out-CoreBase}
@@ -12,6 +12,7 @@ use Rattle.scc_core.specs.declared.expr.CorePart.{CorePart, out-CorePart}
 use Rattle.scc_core.specs.declared.expr.CorePick.{CorePick}
 use Rattle.scc_core.specs.declared.program.Cell.{Cell}
 use Rattle.scc_core.specs.declared.program.CellName.{CellName}
+use Rattle.scc_core.specs.declared.program.CellSort.TheVariants as sort
 use Rattle.scc_core.specs.declared.program.VectorSize2.{VectorSize2}
 use Rattle.scc_core.specs.Known.{facts_in}
 use Rattle.scc_core.specs.Statics.{value_in}
@@ -64,3 +65,7 @@ HaveSmallPaths (v ∷ vs) = AreSmallParts v.path × HaveSmallPaths vs
 -- the name with which a location begins has no indices behind an object's
 abbrev pub HasName : Resolver → CoreLeft → Type 0
 HasName r l = (front : CellName) → name_at r l.base ≡ Some front → IsName front
+
+-- construction leaves no target in a local pointer
+abbrev pub HaveNoTargets : List Cell → Type 0
+HaveNoTargets cells = (n : ℕ) (c : Cell) (path : List PathPart) → slice_get cells n ≡ Some c → is_some c.name.local ≡ true → c.sort ≡ sort.Pointer (Some path) → ⊥

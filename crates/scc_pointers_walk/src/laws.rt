@@ -12,10 +12,10 @@ ghost use Rattle.scc_core_spec.specs.Static.{pattern};
 ghost use Rattle.scc_core_spec.specs.Term.{Index};
 ghost use Rattle.scc_core_view.specs.Terms.{term_of};
 ghost use Rattle.scc_pointers_walk.specs.declared.held.Resolver.{Resolver};
-ghost use Rattle.scc_pointers_walk.specs.Led.{is_undeclared, leads_of, led_in, left_of, target_of};
+ghost use Rattle.scc_pointers_walk.specs.Led.{leads_of, led_in, left_of, looks_of, target_of};
 ghost use Rattle.scc_pointers_walk.specs.Located as located;
-ghost use Rattle.scc_pointers_walk.specs.Located.{element_on, is_chosen, is_one_of, looked_in, member_in, pointed_in, pointer_in};
-ghost use Rattle.scc_pointers_walk.specs.Read.{AreFound, HasName, HaveSmallNames, HaveSmallPaths, IsFound, IsNamed};
+ghost use Rattle.scc_pointers_walk.specs.Located.{element_on, is_chosen, is_one_of, looked_in, member_in, pointed_in};
+ghost use Rattle.scc_pointers_walk.specs.Read.{AreFound, HasName, HaveNoTargets, HaveSmallNames, HaveSmallPaths, IsFound, IsNamed};
 
 /// Members and elements as the code goes on with them are those of the definitions; what is found of the indices is theirs, too.
 pub fn parts_are_those_of_definitions()
@@ -41,9 +41,9 @@ pub fn sizes_are_those_of_definitions()
     ensures elements { (r : Resolver) → IsTable r.places.now r.known.cells.now r.vectors.now → HaveSmallPaths r.vectors.now → (l : CoreLeft) → HasName r l → AreFound r l.parts → (size : ℕ) (e : CoreExpr) → located.size_of r l size < 4294967296 → IsFound r e → left_of (element_on r l (located.size_of r l size) e) ≡ element_of (leads_of r).cells (leads_of r).vectors (left_of l) size (term_of e) }
 {}
 
-/// A pointer that is declared, or that is no local, leads where the definition has it; so does the one that a location names, or it is
+/// A pointer leads where the definition has it, a local one to null before its declaration; so does the one that a location names, or it is
 /// refused alike.
 pub fn pointers_lead_as_in_definitions()
-    ensures targets { (r : Resolver) (p : Place) (n : ℕ) → is_undeclared (leads_of r) n ≡ false → leads_to (leads_of r) p n ≡ Made (target_of (led_in r p n)) }
-    ensures pointed { (r : Resolver) → IsTable r.places.now r.known.cells.now r.vectors.now → HaveSmallNames r.known.cells.now → (l : CoreLeft) → HasName r l → AreFound r l.parts → ((n : ℕ) → pointer_in r l ≡ Some n → is_undeclared (leads_of r) n ≡ false) → made_map target_of (pointed_in r l) ≡ pointed (leads_of r) (left_of l) }
+    ensures targets { (r : Resolver) → HaveNoTargets r.known.cells.now → (p : Place) (n : ℕ) → leads_to (looks_of r) p n ≡ Made (target_of (led_in r p n)) }
+    ensures pointed { (r : Resolver) → HaveNoTargets r.known.cells.now → IsTable r.places.now r.known.cells.now r.vectors.now → HaveSmallNames r.known.cells.now → (l : CoreLeft) → HasName r l → AreFound r l.parts → made_map target_of (pointed_in r l) ≡ pointed (looks_of r) (left_of l) }
 {}

@@ -11,7 +11,7 @@ use Rattle.scc_core.specs.declared.stmt.CoreStmt.{CoreStmt, fold-roll-CoreStmt, 
 use Rattle.scc_core.specs.declared.stmt.CoreNode.{CoreNode, fold-CoreNode, fold-roll-CoreNode}
 use Rattle.scc_core.specs.declared.stmt.CoreNode.TheOpen.{CoreNode-F}
 use Rattle.scc_core.specs.declared.stmt.CoreNode.TheOpen as node
-use Rattle.scc_core_spec.specs.Code.{Code, End, If, Block, Loop, Exit, Wait}
+use Rattle.scc_core_spec.specs.Code.{Code, End}
 use Rattle.scc_core_spec.specs.First.{or_else, refused}
 use Rattle.scc_core_spec.specs.Segments.{opens}
 use Rattle.scc_core_spec.specs.Split.{Along, Ended, On, Out, then_along, shut_along, plain_or, first_along, unloaded, along, before as before_along}

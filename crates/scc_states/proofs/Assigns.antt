@@ -1,5 +1,5 @@
 -- The assignments in statements, one by one.
-use Rattle.std.proofs.Common.{◌≡◌, arith, ℕ, zero, suc, ◌+◌, ◌<◌, subst, ap, sym, ◌∙◌, List, [], ◌∷◌, ◌++◌, get_or, length, Option}
+use Rattle.std.proofs.Common.{◌≡◌, arith, ℕ, zero, suc, ◌<◌, subst, ap, sym, ◌∙◌, List, [], ◌∷◌, ◌++◌, get_or, length, Option}
 use Rattle.scc_core.specs.declared.expr.CoreExpr.{CoreExpr}
 use Rattle.scc_core.specs.declared.expr.CoreLeft.{CoreLeft}
 use Rattle.scc_core.specs.declared.stmt.CoreStmt.{CoreStmt, fold-roll-CoreStmt}

@@ -1,6 +1,6 @@
 -- What is answered of a thread from what is answered of its cut and of its reset.
 use Rattle.std.proofs.Common.{◌≡◌, ◌≤◌, ◌^◌, length, List, [], ◌∷◌, ℕ, Bool, true, false, if◌then◌else◌, drop, Option, Some, None, refl, sym, ap, subst, ◌∙◌}
-use Rattle.std.specs.Prelude.{option_map, Result, Ok, Err}
+use Rattle.std.specs.Prelude.{map, option_map, IfOk, Result, Ok, Err}
 use Rattle.scc_base.specs.declared.refusal.Place.{Place}
 use Rattle.scc_base.specs.declared.refusal.Refusal.{Refusal}
 use Rattle.scc_base.specs.declared.refusal.Stop.{Stop}
@@ -10,6 +10,9 @@ use Rattle.scc_base.specs.declared.code.Code.TheVariants as reason
 use denote.Ref.{Bor}
 use Rattle.scc_core.specs.declared.places.Places.{Places}
 use Rattle.scc_core.specs.declared.program.Cell.{Cell}
+use Rattle.scc_core.specs.declared.program.Core.{Core}
+use Rattle.scc_core.specs.declared.program.CoreProcess.{CoreProcess}
+use Rattle.scc_core.specs.declared.stmt.CoreStmt.{CoreStmt}
 use Rattle.scc_core.specs.declared.program.VectorSize2.{VectorSize2}
 use Rattle.scc_core.specs.declared.statics.Known.{Known}
 use Rattle.scc_core.specs.Known.{counted}
@@ -21,13 +24,22 @@ use Rattle.scc_core_spec.specs.Program.{Process, Program}
 use Rattle.scc_core_spec.specs.Rules.{waits}
 use Rattle.scc_core_spec.specs.Segments as part
 use Rattle.scc_core_spec.specs.Segments.{all_segments}
+use Rattle.scc_core_spec.specs.Kept.{kept}
 use Rattle.scc_core_spec.specs.Live.{live}
 use Rattle.scc_core_spec.specs.Split.{first_split, most_waits, too_many_states, segments_too_large, reset_value}
 use Rattle.scc_states_cut.specs.declared.body.CutBody.{CutBody}
 use Rattle.scc_states_cut.specs.Limits.{IsCutOf, Stops, first_cut, too_many, too_large}
+use Rattle.scc_core_view.specs.Codes.{code_of}
+use Rattle.scc_core_view.specs.Programs.{cell_of, cells_of, process_of}
+use Rattle.scc_states_kept.specs.Gathered.{IsCutThread, cut_segments}
+use Rattle.scc_states_kept.specs.Noted.{TellsHere, cells_here}
+use Rattle.scc_states_kept.specs.Owned.{is_number}
+use Rattle.scc_states_kept.specs.Walks.{TellsAct, TellsCode}
+use Rattle.scc_states_kept.proofs.Acts.{live_all}
+use Rattle.scc_states.specs.declared.types.Split.{Split}
 use Rattle.scc_states.specs.Refusals.{MayStop, is_refusal}
 use Rattle.scc_states.specs.Resets.{IsLoaded}
-use Rattle.scc_states.specs.Splits.{IsParted, Refuses, with_kept}
+use Rattle.scc_states.specs.Splits.{IsParted, IsSplitBy, IsSplitSo, Refuses, TellsThread, with_kept}
 
 -- ---- by which codes
 
@@ -122,3 +134,24 @@ knows_table known cells vs b same few at none t = record {
   places = λ q e. record { vectors = vs; table = subst (λ x. IsTable x.now cells vs) (some_same b q (sym at ∙ e)) t };
   counters = λ n. ap (λ o. counted o n) none;
 }
+
+-- ---- the kept cells
+
+pub cells_same : (known : Known) (c : Core) → known.cells.now ≡ c.cells → cells_here known ≡ cells_of c
+cells_same known c is = ap (map cell_of) is
+
+pub cut_so : (known : Known) (c : Core) (q : CoreProcess) (body : List CoreStmt) (b : CutBody) → known.cells.now ≡ c.cells → code_of body ≡ live (cells_of c) (code_of q.body) → IsCutOf (code_of body) b
+    → IsCutThread known (process_of q) body (cut_segments b.waits b)
+cut_so known c q body b same is_live is = record {
+  live = is_live ∙ ap (λ cs. live cs (code_of q.body)) (sym (cells_same known c same));
+  segments = is.segments ∙ ap (λ d. all_segments (numbered 0 d)) (is_live ∙ ap (λ cs. live cs (code_of q.body)) (sym (cells_same known c same)));
+}
+
+pub told_live : (known : Known) (c : Core) (i : ℕ) (q : CoreProcess) (body : List CoreStmt) → code_of body ≡ live (cells_of c) (code_of q.body) → TellsThread known c i q → TellsHere known i (code_of body)
+told_live known c i q body is_live t =
+    subst (λ cs. TellsCode known cs (is_number cs i) (code_of body)) (sym (cells_same known c t.cells))
+    (subst (TellsCode known (cells_of c) (is_number (cells_of c) i)) (sym is_live) (live_all (TellsAct known (cells_of c) (is_number (cells_of c) i)) (cells_of c) (code_of q.body) t.acts))
+
+pub whole_split : (p : Program) (i : ℕ) (q : Process) (r : Result Split Stop) → IsSplitSo p q r → IfOk r (λ s. s.kept ≡ kept p.cells i q) → IsSplitBy p i q r
+whole_split p i q (Ok s) h k = record { parted = h; kept = k }
+whole_split p i q (Err e) h k = h

@@ -1,21 +1,10 @@
 -- What an asynchronous reset loads, by what is known of cells. This project's own.
-use Rattle.std.specs.Prelude.{◌≡◌, ℕ, suc, zero, ◌+◌, ◌&&◌, min, Bool, true, false, nat_eq, List, [], ◌∷◌, ◌++◌, map, length, Option, Some, None, option_map, is_some, slice_get, Result, Ok, Err}
+use Rattle.std.specs.Prelude.{◌≡◌, ℕ, suc, zero, ◌&&◌, Bool, List, [], ◌∷◌, ◌++◌, map, Option, None, option_map, is_some, Result, Ok, Err}
 use Rattle.scc_base.specs.declared.refusal.Place.{Place}
 use Rattle.scc_base.specs.declared.refusal.Stop.{Stop}
 use Rattle.scc_base.specs.declared.code.Code.TheVariants as reason
-use Rattle.scc_bits.specs.Value.{Number}
-use Rattle.scc_bits_kinds.specs.declared.kind.Kind.{Kind}
-use Rattle.scc_bits_kinds.specs.Kinds.{width_of}
-use Rattle.scc_core.specs.declared.expr.CoreBase.{CoreBase}
-use Rattle.scc_core.specs.declared.expr.CoreBase.TheOpen.{CorePick-F}
-use Rattle.scc_core.specs.declared.expr.CoreBase.TheOpen as tree
 use Rattle.scc_core.specs.declared.expr.CoreExpr.{CoreExpr}
-use Rattle.scc_core.specs.declared.expr.CoreExprNode.{CoreExprNode}
 use Rattle.scc_core.specs.declared.expr.CoreLeft.{CoreLeft}
-use Rattle.scc_core.specs.declared.expr.CorePart.{CorePart}
-use Rattle.scc_core.specs.declared.expr.CorePick.{CorePick, out-CorePick}
-use Rattle.scc_core.specs.declared.named.Named.{Named}
-use Rattle.scc_core.specs.declared.program.Cell.{Cell}
 use Rattle.scc_core.specs.declared.statics.Known.{Known}
 use Rattle.scc_core.specs.declared.stmt.CoreStmt.{CoreStmt, fold-CoreStmt}
 use Rattle.scc_core.specs.declared.stmt.CoreNode.TheOpen.{CoreNode-F, CoreStmt-F}

@@ -1,14 +1,15 @@
 //! The segments of a thread.
-ghost use Rattle.std.specs.Prelude.{◌≡◌, [], IfErr};
+ghost use Rattle.std.specs.Prelude.{◌≡◌, [], IfErr, IfOk};
 ghost use Rattle.scc_core.specs.declared.program.CoreProcess.{CoreProcess};
 ghost use Rattle.scc_core_flow.specs.Live.{DecidesAll};
+ghost use Rattle.scc_core_spec.specs.Kept.{kept};
 ghost use Rattle.scc_core_spec.specs.Split.{is_asynchronous, reset_value};
 ghost use Rattle.scc_core_spec.specs.Static.{Cells};
 ghost use Rattle.scc_core_static_laws.specs.Held.{Knows};
-ghost use Rattle.scc_core_view.specs.Programs.{process_of, program_of};
+ghost use Rattle.scc_core_view.specs.Programs.{cells_of, process_of, program_of};
 ghost use Rattle.scc_states.specs.Refusals.{MayStop};
 ghost use Rattle.scc_states.specs.Resets.{LoadsAll};
-ghost use Rattle.scc_states.specs.Splits.{IsSplitSo, IsTold, Refuses, with_kept};
+ghost use Rattle.scc_states.specs.Splits.{IsNamed, IsSplitBy, IsSplitSo, IsTold, Refuses, TellsThread, with_kept};
 ghost use Rattle.scc_states.specs.Wholes.{IsWholeThread};
 
 use crate::laws::a_table_tells_of_whole_threads;
@@ -26,6 +27,7 @@ use std::alloc::Global;
 pub fn split(alloc: Global, c: &Core, process: u32) -> Result<Split, Stop>
     ensures stop { IfErr result MayStop }
     ensures whole { (p : CoreProcess) → IsWholeThread c.now process p → IsSplitSo (program_of c.now) (process_of p) result }
+    ensures exact { (p : CoreProcess) → IsWholeThread c.now process p → IsNamed c.now process p → IsSplitBy (program_of c.now) process (process_of p) result }
 {
     let places = Places::of(alloc, &c.cells, &c.vectors)?;
     split_known(alloc, Known::new(&c.cells, &places), c, process)
@@ -35,7 +37,9 @@ pub fn split(alloc: Global, c: &Core, process: u32) -> Result<Split, Stop>
 pub fn split_known(alloc: Global, known: Known<'_>, c: &Core, process: u32) -> Result<Split, Stop>
     ensures stop { IfErr result MayStop }
     ensures split { (p : CoreProcess) → IsTold known.entry c.now process p → IsSplitSo (program_of c.now) (process_of p) result }
+    ensures exact { (p : CoreProcess) → IsTold known.entry c.now process p → TellsThread known.entry c.now process p → IsSplitBy (program_of c.now) process (process_of p) result }
     ensures whole { (p : CoreProcess) → Knows known.entry c.now.cells [] → IsWholeThread c.now process p → IsSplitSo (program_of c.now) (process_of p) result }
+    ensures named { (p : CoreProcess) → Knows known.entry c.now.cells [] → IsWholeThread c.now process p → IsNamed c.now process p → IsSplitBy (program_of c.now) process (process_of p) result }
 {
     a_table_tells_of_whole_threads();
     cut_thread(alloc, known, c, process)
@@ -44,6 +48,7 @@ pub fn split_known(alloc: Global, known: Known<'_>, c: &Core, process: u32) -> R
 fn cut_thread(alloc: Global, known: Known<'_>, c: &Core, process: u32) -> Result<Split, Stop>
     ensures stop { IfErr result MayStop }
     ensures split { (p : CoreProcess) → IsTold known.entry c.now process p → IsSplitSo (program_of c.now) (process_of p) result }
+    ensures kept { (p : CoreProcess) → IsTold known.entry c.now process p → TellsThread known.entry c.now process p → IfOk result (λ s. s.kept ≡ kept (cells_of c.now) process (process_of p)) }
 {
     let Some(thread) = c.processes.get(process as usize) else {
         return Err(Stop::from(lost()));

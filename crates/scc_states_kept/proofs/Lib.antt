@@ -5,3 +5,8 @@ pub mod Owning
 pub mod Further
 pub mod Standing
 pub mod Parts
+mod Walking
+mod Stretches
+mod Ascending
+mod Noting
+mod Gathering

@@ -23,10 +23,10 @@ pub on_ok : {A E : Type 0} (r : Result A E) {P Q : Type 0} → (P → Q) → OnO
 on_ok (Ok a) f h = f h
 on_ok (Err e) f h = tt
 
-same_number : (a b : ℕ) → nat_eq a b ≡ true → a ≡ b
+pub same_number : (a b : ℕ) → nat_eq a b ≡ true → a ≡ b
 same_number a b e = grind (arith, e)
 
-same_test : (a b : ℕ) → a ≡ b → nat_eq a b ≡ true
+pub same_test : (a b : ℕ) → a ≡ b → nat_eq a b ≡ true
 same_test a b e = grind (arith, nat_tests, e)
 
 abbrev from_some : Option ℕ → ℕ

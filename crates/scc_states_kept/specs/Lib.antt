@@ -3,3 +3,6 @@ pub mod Owned
 pub mod Filled
 pub mod Rows
 pub mod Slots
+pub mod Walks
+pub mod Noted
+pub mod Gathered

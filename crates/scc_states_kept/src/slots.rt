@@ -18,9 +18,9 @@ use scc_core_flow::CellSet;
 use scc_rules_walks::{Load, left_loads, test_loads, value_loads};
 use std::alloc::Global;
 
-// The slot of a cell, if it is one of the thread's own.
+/// The slot of a cell, if it is one of the thread's own.
 #[tactic(auto, unfolding(crate::specs::Slots::slot_in))]
-fn slot_of(cell: u32, own: &Own<'_>) -> Result<Option<u32>, NoMemory>
+pub fn slot_of(cell: u32, own: &Own<'_>) -> Result<Option<u32>, NoMemory>
     ensures { IfOk result (λ o. o ≡ slot_in own.now cell) }
 {
     match own.cells.get_index_of(&cell) {

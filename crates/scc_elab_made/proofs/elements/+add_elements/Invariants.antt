@@ -2,7 +2,7 @@ use Rattle.std.proofs.Common.{length, ◌≡◌, ◌++◌, ◌-◌, map}
 use Rattle.scc_elab_made.specs.Paths.{paths_of}
 use Rattle.scc_elab_spec.specs.Made.{elements_at}
 use Rattle.scc_elab_store.specs.Locations.{part_of}
-use Rattle.scc_elab_made.proofs.Rows.{rows}
+use Rattle.scc_elab_made.specs.Paths.{rows}
 use Rattle.scc_elab_made.proofs.elements.+add_elements.Given as goal
 
 abbrev pub decreases-add_elements : goal.decreases-add_elements

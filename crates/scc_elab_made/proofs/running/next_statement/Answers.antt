@@ -15,10 +15,10 @@ pub returns-then-taken : goal.returns-then-taken
 returns-then-taken c = steps_to (plain_of c.args.p.now) c.statement.result c.statement.new.works.items (now_of c.statement.new.m)
     (outcome (plain_of c.args.p.now) c.put_rest.new.works.items (run_at (plain_of c.args.p.now) (at_in c.args.r.now.at) (stmt_code c.s-item.result End) (now_of c.args.m.now)))
     (outcome (plain_of c.args.p.now) c.args.works.now.items (run_at (plain_of c.args.p.now) (at_in c.args.r.now.at) (chosen_of c.args.r.now.how (code_of c.args.r.now.list.now)) (now_of c.args.m.now)))
-    (taken_goes (plain_of c.args.p.now) (at_in c.args.r.now.at) c.args.r.now.how c.s-item.result (take (length c.args.r.now.list.now - 1) (drop 1 c.args.r.now.list.now)) c.args.r.now.list.now c.args.works.now.items c.put_rest.new.works.items (now_of c.args.m.now) c.in_ok-taken-in-len1-up.taken
-    (slice_is c.args.r.now.list.now c.s-item.result c.in-len1-up.len_at_least c.s-item.is) c.in_ok-taken-in-len1-up.ensures c.in_ok-put_rest-in-len1-up.ensures c.if-taken.true)
+    (taken_goes (plain_of c.args.p.now) (at_in c.args.r.now.at) c.args.r.now.how c.s-item.result (take (length c.args.r.now.list.now - 1) (drop 1 c.args.r.now.list.now)) c.args.r.now.list.now c.args.works.now.items c.put_rest.new.works.items (now_of c.args.m.now) c.takes-taken.result
+    (slice_is c.args.r.now.list.now c.s-item.result c.in-len1-up.len_at_least c.s-item.is) c.takes-taken.ensures c.in_ok-put_rest-in-len1-up.ensures c.if-taken.true)
     c.statement.ensures
 
 pub returns-else-taken : goal.returns-else-taken
-returns-else-taken c = passed_goes (plain_of c.args.p.now) (at_in c.args.r.now.at) c.args.r.now.how c.s-item.result (take (length c.args.r.now.list.now - 1) (drop 1 c.args.r.now.list.now)) c.args.r.now.list.now c.args.works.now.items c.put_rest.new.works.items (now_of c.args.m.now) c.in_ok-taken-in-len1-up.taken
-    (slice_is c.args.r.now.list.now c.s-item.result c.in-len1-up.len_at_least c.s-item.is) c.in_ok-taken-in-len1-up.ensures c.in_ok-put_rest-in-len1-up.ensures c.if-taken.false
+returns-else-taken c = passed_goes (plain_of c.args.p.now) (at_in c.args.r.now.at) c.args.r.now.how c.s-item.result (take (length c.args.r.now.list.now - 1) (drop 1 c.args.r.now.list.now)) c.args.r.now.list.now c.args.works.now.items c.put_rest.new.works.items (now_of c.args.m.now) c.takes-taken.result
+    (slice_is c.args.r.now.list.now c.s-item.result c.in-len1-up.len_at_least c.s-item.is) c.takes-taken.ensures c.in_ok-put_rest-in-len1-up.ensures c.if-taken.false

@@ -13,4 +13,4 @@ pub returns : goal.returns
 returns c = element_goes (plain_of c.args.p.now) c.args.v.now (record { levels = c.args.v.now.levels; path = c.in_ok-path.path; next = c.args.v.now.next + 1; count = c.args.v.now.count - 1; base = c.args.v.now.base; place = c.args.v.now.place }) c.args.works.now.items c.push.new.items.items (now_of c.args.m.now) (c.args.v.now.count - 1)
     (one_less c.args.v.now.count c.if-v-eq0.false)
     (same_elements (plain_of c.args.p.now) c.args.v.now (record { levels = c.args.v.now.levels; path = c.in_ok-path.path; next = c.args.v.now.next + 1; count = c.args.v.now.count - 1; base = c.args.v.now.base; place = c.args.v.now.place }) refl (c.in_ok-path.ensures ∙ c.as_slice.ensures.value) refl refl)
-    refl refl c.in_ok-push.ensures.ok (Unit {0}) c.make_element.result (grown_of c.make_element.new.g) c.args.m.now.last c.make_element.ensures
+    refl refl c.in_ok-push.ensures.ok (Unit {0}) c.make_element.result c.make_element.new.works.items (now_of c.make_element.new.m) c.make_element.ensures

@@ -1,9 +1,8 @@
-use Rattle.std.proofs.Common.{◌≡◌, ◌-◌, ◌<◌, ◌≤◌, sym, ap, ◌∙◌, arith, length, get_or, map, slice_get, option_map, Bor, Bool, Some, Option}
+use Rattle.std.proofs.Common.{◌≡◌, ◌-◌, ◌<◌, ◌≤◌, sym, ap, ◌∙◌, arith, length, get_or, map, option_map, Bor, Bool, Some}
 use Rattle.std.proofs.lemmas.Result.{err_from_is_err_and}
 use Rattle.scc_core.specs.declared.expr.CoreExpr.{CoreExpr}
 use Rattle.scc_core.specs.declared.expr.CoreLeft.{CoreLeft}
 use Rattle.scc_core.proofs.Chains.{at_place, one_before}
-use Rattle.scc_core_spec.specs.Resolved.{Tried, Made}
 use Rattle.scc_pointers_walk.specs.Walked.{expr_in, first_of, pointer_of, reached}
 use Rattle.scc_pointers_walk.proofs.Chained.{expr_stops, left_stops, stopped_as, stops_from}
 use Rattle.scc_pointers_walk.proofs.walk.+resolve.Goals as goal

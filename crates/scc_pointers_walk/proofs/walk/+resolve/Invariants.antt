@@ -1,5 +1,4 @@
-use Rattle.std.proofs.Common.{◌≡◌, ◌≤◌, ◌+◌, ◌*◌, map, drop, length, slice_get, option_map, Bool, []}
-use Rattle.scc_core.specs.declared.expr.CoreLeft.{CoreLeft}
+use Rattle.std.proofs.Common.{◌≡◌, ◌≤◌, ◌+◌, ◌*◌, map, drop, length, slice_get, option_map, []}
 use Rattle.scc_core_spec.specs.Resolved.{Made}
 use Rattle.scc_pointers_walk.specs.Walked.{all_behind, expr_in, part_in, reached, shown_in, with_parts}
 use Rattle.scc_pointers_walk.proofs.walk.+resolve.Given as goal

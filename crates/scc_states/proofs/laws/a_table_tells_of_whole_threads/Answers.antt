@@ -1,4 +1,4 @@
-use Rattle.std.proofs.Common.{◌≡◌, Option, Some, None, Bool, ℕ, sym, ap, refl, ◌∙◌}
+use Rattle.std.proofs.Common.{◌≡◌, Option, Some, None, Bool, ℕ, ap, refl, ◌∙◌}
 use Rattle.std.specs.Prelude.{◌&&◌, is_some, option_map}
 use Rattle.scc_bits.specs.Value.{Number}
 use Rattle.scc_core.specs.Known.{facts_in}
@@ -7,7 +7,7 @@ use Rattle.scc_core.specs.Statics.{value_in}
 use Rattle.scc_core_flow.proofs.Tests.{each_turned}
 use Rattle.scc_core_spec.specs.Static.{static}
 use Rattle.scc_core_view.specs.Programs.{cells_of}
-use Rattle.scc_core_view.specs.Terms.{taken_of, term_of}
+use Rattle.scc_core_view.specs.Terms.{term_of}
 use Rattle.scc_states.specs.Resets.{Loads, assigns_in, loads_in}
 use Rattle.scc_states_kept.specs.Filled.{fills}
 use Rattle.scc_states.specs.Wholes.{IsWholePut}

@@ -1,4 +1,5 @@
 use Rattle.std.proofs.Common.{◌+◌, ◌*◌}
+use Rattle.scc_inline.specs.Begun.{Keeps}
 use Rattle.scc_inline.proofs.scope.Growing.+copied.Given as goal
 
 abbrev pub decreases-stmts : goal.decreases-stmts
@@ -15,3 +16,6 @@ decreases-repeat l = 8 * l.room + 2
 
 abbrev pub decreases-node : goal.decreases-node
 decreases-node l = 8 * l.room + 3
+
+abbrev pub invariant-stmts-loop-s : goal.invariant-stmts-loop-s
+invariant-stmts-loop-s l = Keeps l.initial.self l.self

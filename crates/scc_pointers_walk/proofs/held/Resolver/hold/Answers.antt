@@ -1,4 +1,4 @@
-use Rattle.std.proofs.Common.{◌≡◌, ◌∙◌}
+use Rattle.std.proofs.Common.{◌∙◌}
 use Rattle.scc_pointers_walk.proofs.Placed.{put_last}
 use Rattle.scc_pointers_walk.proofs.held.Resolver.hold.Goals as goal
 

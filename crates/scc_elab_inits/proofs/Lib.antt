@@ -1,0 +1,4 @@
+pub mod Chains
+pub mod Owning
+pub mod Rows
+pub mod Trees

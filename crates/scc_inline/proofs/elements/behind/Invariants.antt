@@ -1,0 +1,5 @@
+use Rattle.std.proofs.Common.{◌≡◌, ◌∷◌, take}
+use Rattle.scc_inline.proofs.elements.behind.Given as goal
+
+abbrev pub invariant-loop-index : goal.invariant-loop-index
+invariant-loop-index l = l.all ≡ l.i ∷ take l.index-index l.rest

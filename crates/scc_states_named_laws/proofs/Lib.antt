@@ -1,0 +1,10 @@
+mod Closed
+mod Roots
+mod Shapes
+mod Names
+mod Told
+mod Filling
+mod Spans
+mod Strides
+mod Corners
+mod Ranged

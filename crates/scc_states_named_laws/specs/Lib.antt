@@ -1,0 +1,3 @@
+pub mod Plain
+pub mod Arrays
+pub mod InArrays
