@@ -1,6 +1,6 @@
 -- Locations of which the looks say yes fit, and each cell that they may name passes.
 use Rattle.std.proofs.Common.{◌≡◌, refl, arith, ℕ, zero, suc, ◌+◌, ◌<◌, Bool, true, false, not, ◌&&◌, ◌||◌, nat_eq, List, [], ◌∷◌, ◌++◌, map, Option, Some, None, option_and_then, slice_get, ap, ◌∙◌, sym, subst}
-use Rattle.std.specs.Prelude.{option_map, if◌then◌else◌}
+use Rattle.std.specs.Prelude.{option_map, is_some, if◌then◌else◌}
 use Rattle.std.specs.Option.{unwrap_or}
 use Rattle.std.specs.List.{list_all, list_any}
 use Rattle.scc_base.specs.declared.refusal.Place.{Place}
@@ -16,7 +16,9 @@ use Rattle.scc_core.specs.declared.places.NameStep.{NameStep}
 use Rattle.scc_core.specs.declared.places.NameStep.TheVariants as step
 use Rattle.scc_core.specs.declared.program.Cell.{Cell}
 use Rattle.scc_core.specs.declared.program.CellName.{CellName}
-use Rattle.scc_core.specs.Tables.{steps_of, same_list}
+use Rattle.scc_core.specs.declared.places.Spot.{Spot}
+use Rattle.scc_core.specs.Names.{is_pointer as is_pointer_cell, name_spot, pointer_at}
+use Rattle.scc_core.specs.Tables.{cell_in, first_cell, is_same, pointer_in, same_list, steps_of}
 use Rattle.scc_core_spec.specs.Fit.{fit_left, is_name}
 use Rattle.scc_core_spec.specs.IsResolved.{cells_apart}
 use Rattle.scc_core_spec.specs.Named as named
@@ -35,11 +37,12 @@ use Rattle.scc_core_view.specs.Terms.{name_of, taken_of, term_of}
 use Rattle.scc_core_look.specs.declared.rows.Rows.{Rows}
 use Rattle.scc_core_look.specs.declared.seen.Test.{Test}
 use Rattle.scc_core_look.specs.declared.terms.Ground.{Ground}
-use Rattle.scc_core_look.specs.Fits.{IsGround, IsLeft, begins_open, here, index_fits, keeps_left, mine, part_fits, part_term, pick_term}
+use Rattle.scc_core_look.specs.Fits.{IsGround, IsLeft, begins_open, front_passes, here, index_fits, keeps_left, mine, names_none, part_fits, part_term, pick_term}
+use Rattle.scc_core_look.specs.Own.{is_unnamed}
 use Rattle.scc_core_look.specs.Rows.{PartLayer, cell_covered, passes}
 use Rattle.scc_core_look.specs.Seen.{asks, asked, rooted_input, seen_of, writes}
 use Rattle.scc_core_look.proofs.Agreeing.{Cellwise, cellwise, completes, open_step, opened, opens, pattern_step, patterns}
-use Rattle.scc_core_look.proofs.Apart.{both, first, second, fits_same, list_turned, steps_same}
+use Rattle.scc_core_look.proofs.Apart.{both, first, second, fits_same, list_turned, name_walk, steps_same}
 
 -- ---- trees
 
@@ -318,8 +321,8 @@ module _ (g : Ground) (ground : IsGround g) (test : Test) where
         ∙ (tells v.0 (one_of (cell_covered t g.cells.now) g.cells.now n v.0 ground.covered v.1)
         (as-open (steps_of v.0.name) (ap (agrees (map step_in (steps_of name) ++ patterns cs ps)) (sym (ap (λ (x : program.Cell). named.steps_of x.name) (sym v.2) ∙ steps_same v.0.name)) ∙ fit_agrees (map step_in (steps_of name) ++ patterns cs ps) (named.steps_of c.name) f))).told.keeps w)
 
-    pub front_passes : is_name (mine g) (name_of name) ≡ true → list_all (part_fits g) ps ≡ true → IsLeft g test l
-    front_passes n h = record { fits = fit_parts g ps (term.Prefix place (name_of name)) n h; named = named-each; sized = sized-each; keeps = keeps-each }
+    pub front_passes_all : is_name (mine g) (name_of name) ≡ true → list_all (part_fits g) ps ≡ true → IsLeft g test l
+    front_passes_all n h = record { fits = fit_parts g ps (term.Prefix place (name_of name)) n h; named = named-each; sized = sized-each; keeps = keeps-each }
 
   -- ---- a cell by its number
 
@@ -394,6 +397,74 @@ module _ (g : Ground) (ground : IsGround g) (test : Test) where
       pattern-is : pattern cs (term.Cell place n) ≡ Some (named.steps_of (name_of c.name))
       pattern-is = ap (option_map (λ (d : program.Cell). named.steps_of d.name)) there
 
+-- ---- a name that no cell has
+
+abbrev NoneOn : List NameStep → ℕ → List Cell → Cell → Type 0
+NoneOn ss n cells c = (k : ℕ) → first_cell false ss (n + 1) cells ≡ None → first_cell true ss (n + 1) cells ≡ None → slice_get cells k ≡ Some c → same_list ss (steps_of c.name) ≡ false
+
+-- a cell of a list has not the name of which the list has none, be it a pointer or not
+none_at : (ss : List NameStep) (n : ℕ) (cells : List Cell) (k : ℕ) (c : Cell) → first_cell false ss n cells ≡ None → first_cell true ss n cells ≡ None → slice_get cells k ≡ Some c → same_list ss (steps_of c.name) ≡ false
+none_at ss n [] k c a b e = absurd cc
+none_at ss n (x ∷ cells) k c a b e = by (is_pointer_cell x.sort) refl (same_list ss (steps_of x.name)) refl a b k e (λ k a b e. none_at ss (n + 1) cells k c a b e)
+  where
+    some : {A : Type 0} {a b : A} → Some a ≡ Some b → a ≡ b
+    some e = cc
+
+    here-or-on : same_list ss (steps_of x.name) ≡ false → first_cell false ss (n + 1) cells ≡ None → first_cell true ss (n + 1) cells ≡ None → (k : ℕ) → slice_get (x ∷ cells) k ≡ Some c → NoneOn ss n cells c → same_list ss (steps_of c.name) ≡ false
+    here-or-on s a b zero e on = ap (λ (d : Cell). same_list ss (steps_of d.name)) (sym (some e)) ∙ s
+    here-or-on s a b (suc k) e on = on k a b e
+
+    by : (p : Bool) → is_pointer_cell x.sort ≡ p → (s : Bool) → same_list ss (steps_of x.name) ≡ s → (if is_same false p && s then Some n else first_cell false ss (n + 1) cells) ≡ None → (if is_same true p && s then Some n else first_cell true ss (n + 1) cells) ≡ None
+        → (k : ℕ) → slice_get (x ∷ cells) k ≡ Some c → NoneOn ss n cells c → same_list ss (steps_of c.name) ≡ false
+    by true p true s a b k e on = absurd cc
+    by false p true s a b k e on = absurd cc
+    by true p false s a b k e on = here-or-on s a b k e on
+    by false p false s a b k e on = here-or-on s a b k e on
+
+each_at : (f : program.Cell → Bool) (cells : List Cell) → ((k : ℕ) (c : Cell) → slice_get cells k ≡ Some c → f (cell_of c) ≡ true) → list_all f (map cell_of cells) ≡ true
+each_at f [] h = refl
+each_at f (c ∷ cells) h = both (f (cell_of c)) (list_all f (map cell_of cells)) (h 0 c refl) (each_at f cells (λ k d e. h (suc k) d e))
+
+module _ (g : Ground) (ground : IsGround g) (test : Test) (place : Place) (name : CellName) (whole : name.local ≡ None → name.indices ≡ []) (free : is_unnamed g.places.now name ≡ true) where
+  is-none : (o : Option ℕ) → not (is_some o) ≡ true → o ≡ None
+  is-none None e = refl
+  is-none (Some n) e = absurd cc
+
+  no-cell : first_cell false (steps_of name) 0 g.cells.now ≡ None
+  no-cell = sym (ground.table.cells_by (steps_of name))
+      ∙ (ap (λ o. option_and_then (λ (at : Spot). option_and_then cell_in (slice_get g.places.now.named.items at.0)) o) (name_walk g.places.now name whole)
+      ∙ is-none (option_and_then (Rattle.scc_core.specs.Names.cell_at g.places.now) (name_spot g.places.now name)) (first _ (not (is_some (option_and_then (pointer_at g.places.now) (name_spot g.places.now name)))) free))
+
+  no-pointer : first_cell true (steps_of name) 0 g.cells.now ≡ None
+  no-pointer = sym (ground.table.pointers_by (steps_of name))
+      ∙ (ap (λ o. option_and_then (λ (at : Spot). option_and_then pointer_in (slice_get g.places.now.named.items at.0)) o) (name_walk g.places.now name whole)
+      ∙ is-none (option_and_then (pointer_at g.places.now) (name_spot g.places.now name)) (second (not (is_some (option_and_then (Rattle.scc_core.specs.Names.cell_at g.places.now) (name_spot g.places.now name)))) _ free))
+
+  -- the name fits no cell's
+  other : (k : ℕ) (c : Cell) → slice_get g.cells.now k ≡ Some c → fits (named.steps_of (name_of name)) (named.steps_of (name_of c.name)) ≡ false
+  other k c e = (λ i. fits (steps_same name i) (steps_same c.name i)) ∙ fits_same (steps_of name) (steps_of c.name) ∙ none_at (steps_of name) 0 g.cells.now k c no-cell no-pointer e
+
+  apart-from : (k : ℕ) (c : Cell) → slice_get g.cells.now k ≡ Some c → agrees (named.steps_of (name_of name)) (named.steps_of (name_of c.name)) ≡ false
+  apart-from k c e = (λ i. agrees (steps_same name i) (steps_same c.name i)) ∙ closed (steps_of name) (steps_of c.name) ∙ (λ i. fits (sym (steps_same name) i) (sym (steps_same c.name) i)) ∙ other k c e
+
+  none-agrees : (f : program.Cell → Bool) → all_agreeing (here g) f (Some (named.steps_of (name_of name))) ≡ true
+  none-agrees f = each_at (λ c. not (agrees (named.steps_of (name_of name)) (named.steps_of c.name)) || f c) g.cells.now (λ k c e. ap (λ b. not b || f (cell_of c)) (apart-from k c e))
+
+  alone_passes : is_name (mine g) (name_of name) ≡ true → IsLeft g test (term.Prefix place (name_of name))
+  alone_passes n = record {
+    fits = n;
+    named = none-agrees (asks test);
+    sized = none-agrees (completed (Some (named.steps_of (name_of name))));
+    keeps = λ w. kept (here g) (term.Prefix place (name_of name)) (named.steps_of (name_of name)) refl (λ m c e f.
+        let v = view_of g.cells.now m c e in
+        absurd (let y : true ≡ false = sym f ∙ (ap (λ (d : program.Cell). fits (named.steps_of (name_of name)) (named.steps_of d.name)) (sym v.2) ∙ other m v.0 v.1) in cc));
+  }
+
+none_passes : (g : Ground) → IsGround g → (test : Test) (place : Place) (name : CellName) (ps : List CorePart) → (name.local ≡ None → name.indices ≡ []) → names_none g name ps ≡ true → is_name (mine g) (name_of name) ≡ true
+    → IsLeft g test (to.extended (term.Prefix place (name_of name)) (map part_term ps))
+none_passes g ground test place name [] whole e n = alone_passes g ground test place name whole e n
+none_passes g ground test place name (p ∷ ps) whole e n = absurd cc
+
 -- ---- what the looks say together
 
 whole_of : (g : Ground) (name : CellName) → is_name (mine g) (name_of name) ≡ true → name.local ≡ None → name.indices ≡ []
@@ -404,14 +475,17 @@ whole_of g name e f = by name.indices (sym (ap (λ o. is_name (mine g) (record {
     by (i ∷ is) e = absurd cc
 
 module _ (g : Ground) (ground : IsGround g) (test : Test) where
-  pub front_told : (place : Place) (name : CellName) (ps : List CorePart) (called pass named fit begins inner outer : Bool) → (called ≡ true → is_name (mine g) (name_of name) ≡ true) → pass ≡ passes g.rows.now name ps test → named ≡ (called && pass)
-      → begins ≡ begins_open ps → (fit ≡ true → list_all (part_fits g) ps ≡ true) → inner ≡ (named && fit) → outer ≡ (begins && inner) → outer ≡ true → IsLeft g test (to.extended (term.Prefix place (name_of name)) (map part_term ps))
-  front_told place name ps called pass named fit begins inner outer a b c d e f h t =
-      let t1 : (begins && inner) ≡ true = sym h ∙ t in
-      let t2 : (named && fit) ≡ true = sym f ∙ second begins inner t1 in
+  pub front_told : (place : Place) (name : CellName) (ps : List CorePart) (called pass named fit outer : Bool) → (called ≡ true → is_name (mine g) (name_of name) ≡ true) → pass ≡ front_passes g name ps test → named ≡ (called && pass)
+      → (fit ≡ true → list_all (part_fits g) ps ≡ true) → outer ≡ (named && fit) → outer ≡ true → IsLeft g test (to.extended (term.Prefix place (name_of name)) (map part_term ps))
+  front_told place name ps called pass named fit outer a b c e f t =
+      let t2 : (named && fit) ≡ true = sym f ∙ t in
       let t3 : (called && pass) ≡ true = sym c ∙ first named fit t2 in
       let n = a (first called pass t3) in
-      front_passes g ground test place name ps (whole_of g name n) (sym d ∙ first begins inner t1) (sym b ∙ second called pass t3) n (e (second named fit t2))
+      by (begins_open ps) refl n (e (second named fit t2)) (sym b ∙ second called pass t3)
+    where
+      by : (b : Bool) → begins_open ps ≡ b → is_name (mine g) (name_of name) ≡ true → list_all (part_fits g) ps ≡ true → (if b then passes g.rows.now name ps test else names_none g name ps) ≡ true → IsLeft g test (to.extended (term.Prefix place (name_of name)) (map part_term ps))
+      by true is n h p = front_passes_all g ground test place name ps (whole_of g name n) is p n h
+      by false is n h p = none_passes g ground test place name ps (whole_of g name n) p n
 
   pub cell_told : (place : Place) (n : ℕ) (c : Cell) (called ask dry told outer : Bool) → slice_get g.cells.now n ≡ Some c → (called ≡ true → is_name (mine g) (name_of c.name) ≡ true) → ask ≡ asked test (seen_of (cell_of c))
       → (dry ≡ true → writes test ≡ true → rooted_input (here g) (cell_of c) ≡ false) → told ≡ (ask && dry) → outer ≡ (called && told) → outer ≡ true → IsLeft g test (term.Cell place n)

@@ -1,5 +1,5 @@
 -- Trees that fit, as the definitions have it. This project's own.
-use Rattle.std.specs.Prelude.{◌≡◌, ℕ, ◌+◌, ◌-◌, ◌≤◌, Bool, true, false, not, ◌&&◌, nat_eq, nat_lt, List, [], ◌∷◌, map, Option, Some, None, option_map, unwrap_or}
+use Rattle.std.specs.Prelude.{◌≡◌, ℕ, ◌+◌, ◌-◌, ◌≤◌, Bool, true, false, not, ◌&&◌, nat_eq, nat_lt, if◌then◌else◌, List, [], ◌∷◌, map, Option, Some, None, option_map, unwrap_or}
 use Rattle.std.specs.List.{list_all, list_any}
 use Rattle.scc_base.specs.declared.refusal.Place.{Place}
 use Rattle.scc_bits_kinds.specs.declared.kind.Kind.{Kind}
@@ -11,10 +11,11 @@ use Rattle.scc_core.specs.declared.expr.CoreBase.TheOpen as tree
 use Rattle.scc_core.specs.declared.expr.CoreExpr.{CoreExpr}
 use Rattle.scc_core.specs.declared.expr.CorePart.{CorePart, fold-CorePart, out-CorePart}
 use Rattle.scc_core.specs.declared.expr.CorePick.{CorePick, fold-CorePick}
+use Rattle.scc_core.specs.declared.program.CellName.{CellName}
 use Rattle.scc_core.specs.declared.program.VectorSize2.{VectorSize2}
 use Rattle.scc_core.specs.Tables.{IsTable}
 use Rattle.scc_core_spec.specs.Code.{Code, End, Put, Aim, If, Block, Loop, Exit, Wait}
-use Rattle.scc_core_spec.specs.Fit.{bits_of, fit_code, fit_left, fit_put, fit_term, is_kind, same_kind}
+use Rattle.scc_core_spec.specs.Fit.{bits_of, fit_code, fit_left, fit_put, fit_term, is_kind, is_nil, same_kind}
 use Rattle.scc_core_spec.specs.IsResolved.{cells_apart}
 use Rattle.scc_core_spec.specs.OpenNames.{all_named, is_sized}
 use Rattle.scc_core_spec.specs.Program.{Process, is_input}
@@ -26,7 +27,8 @@ use Rattle.scc_core_view.specs.Terms.{Base, Node, Picking, Taken, base_node, exp
 use Rattle.scc_core_look.specs.declared.seen.Test.{Test}
 use Rattle.scc_core_look.specs.declared.seen.Test.TheVariants as test
 use Rattle.scc_core_look.specs.declared.terms.Ground.{Ground}
-use Rattle.scc_core_look.specs.Rows.{PartLayer, cell_covered}
+use Rattle.scc_core_look.specs.Own.{is_unnamed}
+use Rattle.scc_core_look.specs.Rows.{PartLayer, cell_covered, passes}
 use Rattle.scc_core_look.specs.Seen.{asks, writes}
 
 -- what a look at a process stands on: a table of the cells' names, which differ, and arrays that tell what each cell is
@@ -63,6 +65,14 @@ is_open (tree.Index size at) = true
 abbrev pub begins_open : List CorePart → Bool
 begins_open [] = false
 begins_open (p ∷ ps) = is_open (out-CorePart p)
+
+-- a name without parts that no cell has
+abbrev pub names_none : Ground → CellName → List CorePart → Bool
+names_none g n ps = is_nil ps && is_unnamed g.places.now n
+
+-- each cell that a name and its parts may name passes: an array tells it of what has an index, and no other name has a cell
+abbrev pub front_passes : Ground → CellName → List CorePart → Test → Bool
+front_passes g n ps t = if begins_open ps then passes g.rows.now n ps t else names_none g n ps
 
 -- no cell that a location names is an input of the top, nor stands for one
 abbrev pub keeps : Cells → Left → Bool

@@ -3,7 +3,7 @@ use Rattle.std.specs.Prelude.{ℕ, ◌+◌, Bool, true, false, not, ◌&&◌, na
 use Rattle.scc_core.specs.declared.places.Places.{Places}
 use Rattle.scc_core.specs.declared.program.Cell.{Cell}
 use Rattle.scc_core.specs.declared.program.CellName.{CellName}
-use Rattle.scc_core.specs.Names.{cell_at, is_pointer, name_spot}
+use Rattle.scc_core.specs.Names.{cell_at, is_pointer, name_spot, pointer_at}
 use Rattle.scc_core_spec.specs.Fit.{is_nil}
 
 -- indices stand behind a local alone
@@ -26,3 +26,7 @@ is_own p n c = not (is_pointer c.sort) && (is_name c.name && is_it n (option_and
 abbrev pub are_own : Places → ℕ → List Cell → Bool
 are_own p n [] = true
 are_own p n (c ∷ cs) = is_own p n c && are_own p (n + 1) cs
+
+-- neither a cell nor a pointer has a name
+abbrev pub is_unnamed : Places → CellName → Bool
+is_unnamed p n = not (is_some (option_and_then (cell_at p) (name_spot p n))) && not (is_some (option_and_then (pointer_at p) (name_spot p n)))

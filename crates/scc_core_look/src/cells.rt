@@ -1,11 +1,11 @@
 //! Cells that are told apart by their names.
 ghost use Rattle.std.specs.Prelude.{◌≡◌, ◌&&◌, List, map, not, option_and_then, true};
-ghost use Rattle.scc_core.specs.Names.{cell_at, is_pointer, name_spot};
+ghost use Rattle.scc_core.specs.Names.{cell_at, is_pointer, name_spot, pointer_at};
 ghost use Rattle.scc_core.specs.Tables.{IsTable};
 ghost use Rattle.scc_core.specs.declared.program.VectorSize2.{VectorSize2};
 ghost use Rattle.scc_core_spec.specs.IsResolved.{cells_apart};
 ghost use Rattle.scc_core_view.specs.Programs.{cell_of};
-ghost use Rattle.scc_core_look.specs.Own.{are_own, is_it, is_name, is_own};
+ghost use Rattle.scc_core_look.specs.Own.{are_own, is_it, is_name, is_own, is_unnamed};
 
 use crate::exits::both;
 use scc_core::{Cell, CellName, CellSort, Places};
@@ -40,6 +40,20 @@ fn named(places: &Places, name: &CellName) -> Option<u32>
 {
     let at = places.name(name)?;
     places.cell(at)
+}
+
+fn named_pointer(places: &Places, name: &CellName) -> Option<u32>
+    ensures { result ≡ option_and_then (pointer_at places.now) (name_spot places.now name.now) }
+{
+    let at = places.name(name)?;
+    places.pointer(at)
+}
+
+// Whether neither a cell nor a pointer has a name.
+pub fn is_unnamed(places: &Places, name: &CellName) -> bool
+    ensures { result ≡ is_unnamed places.now name.now }
+{
+    named(places, name).is_none() && named_pointer(places, name).is_none()
 }
 
 fn is_own(places: &Places, number: usize, cell: &Cell) -> bool

@@ -11,10 +11,11 @@ ghost use Rattle.scc_core_spec.specs.Fit.{is_kind, is_name, same_kind};
 ghost use Rattle.scc_core_spec.specs.Term as term;
 ghost use Rattle.scc_core_view.specs.Programs.{cell_of};
 ghost use Rattle.scc_core_view.specs.Terms.{extended, joined, name_of, taken_of, term_of};
-ghost use Rattle.scc_core_look.specs.Fits.{AreLow, IfIn, IsGround, IsIn, IsLeft, IsPick, IsRight, IsTerm, alone, begins_open, here, mine, part_fits, part_term, pick_term, some_pick, whole_kind};
+ghost use Rattle.scc_core_look.specs.Fits.{AreLow, IfIn, IsGround, IsIn, IsLeft, IsPick, IsRight, IsTerm, alone, begins_open, front_passes, here, mine, names_none, part_fits, part_term, pick_term, some_pick, whole_kind};
 ghost use Rattle.scc_core_look.specs.Seen.{rooted_input, writes};
 ghost use Rattle.scc_core_look.specs.declared.seen.Test.TheVariants as test;
 
+use crate::cells::is_unnamed;
 use crate::exits::both;
 use crate::locals::{same_kind, same_path, word_fits};
 use crate::rows::Rows;
@@ -86,6 +87,27 @@ fn begins_open(parts: &[CorePart]) -> bool
             CorePart::Index { .. } => true,
             CorePart::Member(_) => false,
         },
+    }
+}
+
+// Whether a name stands without parts, and no cell has it: a pointer that leads past the end of an array leads there.
+fn names_none(g: &Ground<'_>, name: &CellName, parts: &[CorePart]) -> bool
+    ensures { result ≡ names_none g.now name.now parts.now }
+{
+    match parts {
+        [] => is_unnamed(g.places, name),
+        [_, ..] => false,
+    }
+}
+
+// Whether each cell that a name and its parts may name passes.
+fn front_passes(g: &Ground<'_>, name: &CellName, parts: &[CorePart], test: Test) -> bool
+    ensures { result ≡ front_passes g.now name.now parts.now test }
+{
+    if begins_open(parts) {
+        g.rows.passes(name, parts, test)
+    } else {
+        names_none(g, name, parts)
     }
 }
 
@@ -322,8 +344,8 @@ fn front_fits(
     ensures { IfOk result (λ b. b ≡ true → IsGround g.now → (p : Place) → IsLeft g.now test (extended (term.Prefix p (name_of name.now)) (map part_term parts.now))) }
 {
     let fit = parts_fit(g, parts, levels)?;
-    let named = both(name_fits(g, name), g.rows.passes(name, parts, test));
-    Ok(both(begins_open(parts), both(named, fit)))
+    let named = both(name_fits(g, name), front_passes(g, name, parts, test));
+    Ok(both(named, fit))
 }
 
 #[cycle(looks)]
