@@ -1,10 +1,10 @@
 -- Bits of words.
-use Rattle.std.proofs.Common.{◌≡◌, ◌<◌, ◌+◌, ◌*◌, ◌%◌, ◌^◌, ℕ, zero, suc, arith, Bool, true, false, bit_or, refl, sym, ap, ◌∙◌, max}
+use Rattle.std.proofs.Common.{◌≡◌, ◌<◌, ◌+◌, ◌*◌, ◌%◌, ◌^◌, ℕ, zero, suc, arith, Bool, true, false, bit_and, bit_or, refl, sym, ap, ◌∙◌, max, min}
 use Rattle.std.specs.Prelude.{◌||◌, ◌&&◌, not, nat_eq, ◌≢◌}
 use Rattle.std.specs.Int.{bit_at}
 use lib.Bits.{bit_xor}
 use Rattle.std.proofs.lemmas.Bool.Decides.{nat_tests}
-use Rattle.std.proofs.lemmas.Nat.Bits.{bit_at_or, bit_at_xor, bit_at-lt, bit_at-zero, bit_at-pow_same, bit_at-pow_other}
+use Rattle.std.proofs.lemmas.Nat.Bits.{bit_at_and, bit_at_or, bit_at_xor, bit_at-lt, bit_at-zero, bit_at-pow_same, bit_at-pow_other}
 use Rattle.std.proofs.Math.Nat.{mod-eq_of_lt}
 use Rattle.std.proofs.Math.Pow.{pow-lt}
 use Rattle.scc_core_flow.specs.Sets.{has_bit}
@@ -26,6 +26,18 @@ greater (suc (suc p)) q h k = absurd (omega (arith, h))
 
 pub or_bits : (a b i : ℕ) → has_bit (bit_or a b) i ≡ (has_bit a i || has_bit b i)
 or_bits a b i = ap (λ n. nat_eq n 1) (bit_at_or a b i) ∙ greater (bit_at a i) (bit_at b i) (bit_at-lt a i) (bit_at-lt b i)
+
+less : (p q : ℕ) → p < 2 → q < 2 → nat_eq (min p q) 1 ≡ (nat_eq p 1 && nat_eq q 1)
+less zero zero h k = refl
+less zero (suc zero) h k = refl
+less (suc zero) zero h k = refl
+less (suc zero) (suc zero) h k = refl
+less zero (suc (suc q)) h k = absurd (omega (arith, k))
+less (suc zero) (suc (suc q)) h k = absurd (omega (arith, k))
+less (suc (suc p)) q h k = absurd (omega (arith, h))
+
+pub and_bits : (a b i : ℕ) → has_bit (bit_and a b) i ≡ (has_bit a i && has_bit b i)
+and_bits a b i = ap (λ n. nat_eq n 1) (bit_at_and a b i) ∙ less (bit_at a i) (bit_at b i) (bit_at-lt a i) (bit_at-lt b i)
 
 one_shifted : (k : ℕ) → k < 64 → 1 * 2 ^ k % 18446744073709551616 ≡ 2 ^ k
 one_shifted k h = let small : 2 ^ k < 2 ^ 64 = pow-lt h in mod-eq_of_lt {n = 1 * 2 ^ k} (omega (arith, small)) ∙ omega arith

@@ -40,6 +40,12 @@ fn both_words(a: u64, b: u64) -> u64
     a | b
 }
 
+fn common_words(a: u64, b: u64) -> u64
+    ensures { (i : ℕ) → has_bit result i ≡ (has_bit a i && has_bit b i) }
+{
+    a & b
+}
+
 // Puts in all that other words have, of which there are as many.
 fn join_words(words: &mut [u64], more: &[u64])
     ensures { length more.now ≡ length words.old → (n : ℕ) → holds_slot words.new n ≡ (holds_slot words.old n || holds_slot more.now n) }
@@ -47,6 +53,27 @@ fn join_words(words: &mut [u64], more: &[u64])
     let mut i = 0usize;
     while i < words.len() && i < more.len() {
         words[i] = both_words(words[i], more[i]);
+        i += 1;
+    }
+}
+
+// The word of that number; past the end it has no bit.
+fn word_at(words: &[u64], i: usize) -> u64
+    ensures { result ≡ get_or words.now i 0 }
+{
+    match words.get(i) {
+        Some(word) => *word,
+        None => 0,
+    }
+}
+
+// Keeps what other words have too.
+fn meet_words(words: &mut [u64], more: &[u64])
+    ensures { (n : ℕ) → holds_slot words.new n ≡ (holds_slot words.old n && holds_slot more.now n) }
+{
+    let mut i = 0usize;
+    while i < words.len() {
+        words[i] = common_words(words[i], word_at(more, i));
         i += 1;
     }
 }
@@ -138,10 +165,11 @@ impl CellSet {
     }
 
     /// Keeps what the other set has too.
-    pub fn meet(&mut self, other: &CellSet) {
-        for (word, more) in self.words.iter_mut().zip(other.words.iter()) {
-            *word &= *more;
-        }
+    #[tactic(auto, unfolding(crate::specs::Sets::holds))]
+    pub fn meet(&mut self, other: &CellSet)
+        ensures { (n : ℕ) → holds self.new n ≡ (holds self.old n && holds other.now n) }
+    {
+        meet_words(self.words.as_mut_slice(), other.words.as_slice());
     }
 
     /// Takes all out.

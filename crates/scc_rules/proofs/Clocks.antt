@@ -26,7 +26,7 @@ clock_unsensed f p ms test found none h =
     h ∙ sym (first_map (read_found reason.ClockAsData test) (seen_of f) ms)
     ∙ ap (λ b. or_else (when b (refused reason.ClockAsData p.place)) (first_of (read_found reason.ClockAsData test) (seen_in f ms))) (sym none)
 
-along_source : {A B C D : Type 0} (f : B → C → Option D) (g : A → B) (xs : List A) (ys : List C) → first_along f (map g xs) ys ≡ first_along (λ x. f (g x)) xs ys
+pub along_source : {A B C D : Type 0} (f : B → C → Option D) (g : A → B) (xs : List A) (ys : List C) → first_along f (map g xs) ys ≡ first_along (λ x. f (g x)) xs ys
 along_source f g [] ys = refl
 along_source f g (x ∷ xs) [] = refl
 along_source f g (x ∷ xs) (y ∷ ys) = ap (or_else (f (g x) y)) (along_source f g xs ys)

@@ -3,3 +3,4 @@ pub mod Lives
 pub mod Told
 pub mod Choosing
 pub mod Clocks
+mod Senses

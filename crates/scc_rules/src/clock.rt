@@ -1,21 +1,21 @@
 //! Clocks as data, and sensitivity lists.
-ghost use Rattle.std.specs.Prelude.{◌≡◌, ℕ, ◌||◌, ◌++◌, Some, IfOk, OnOk};
+ghost use Rattle.std.specs.Prelude.{◌≡◌, ℕ, not, ◌&&◌, ◌||◌, ◌++◌, if◌then◌else◌, map, Some, IfOk, OnOk};
 ghost use Rattle.std.specs.List.{list_any};
 ghost use Rattle.scc_base.specs.declared.code.Code.TheVariants as code;
 ghost use Rattle.scc_core_spec.specs.First.{first_of, refused, when};
-ghost use Rattle.scc_core_spec.specs.Program.{Program};
+ghost use Rattle.scc_core_spec.specs.Program.{Program, is_root};
 ghost use Rattle.scc_core_spec.specs.Rules as rule;
 ghost use Rattle.scc_core_spec.specs.Rules.{edge_cells, reset_cells};
 ghost use Rattle.scc_core_spec.specs.Uses.{among};
-ghost use Rattle.scc_core_view.specs.Programs.{process_of};
+ghost use Rattle.scc_core_view.specs.Programs.{process_of, sort_of};
 ghost use Rattle.scc_rules_laws.specs.Found.{clock_used, first_along, read_found};
 ghost use Rattle.scc_rules_walks.specs.Cells.{has_flag};
-ghost use Rattle.scc_rules.specs.Marks.{HasMarks, clocks_in, seen_all, seen_in, seen_of};
+ghost use Rattle.scc_rules.specs.Marks.{HasMarks, HasSame, clocks_in, root_cell, seen_all, seen_in, seen_of, unlisted_by};
 ghost use Rattle.scc_rules.specs.Refusals.{Finds};
 
-use crate::facts::{Facts, Role, filled, is_combinational};
-use scc_base::{Code, NoMemory, Place, Refusal, lost};
-use scc_core::CoreProcess;
+use crate::facts::{Facts, is_combinational};
+use scc_base::{Code, NoMemory, Place, Refusal, lost, push};
+use scc_core::{Cell, CellSort, CoreProcess};
 use scc_core_flow::Mark;
 use scc_rules_walks::{has, has_any, none_of, put, roots_of};
 use std::alloc::Global;
@@ -158,45 +158,107 @@ fn found_if(is: bool, code: Code, place: Place) -> Option<Refusal>
 
 /// A root that a combinational method reads and that isn't in its sensitivity list.
 pub fn missing_sensitivity(alloc: Global, f: &Facts<'_>) -> Result<Option<Refusal>, NoMemory>
-    ensures { IfOk result (Finds code.MissingSensitivity) }
+    ensures code { IfOk result (Finds code.MissingSensitivity) }
+    ensures first { (p : Program) → HasMarks f.now p → IfOk result (λ found. found ≡ rule.missing_sensitivity p) }
 {
-    let mut listed = filled(alloc, f.core.cells.len(), 0u32)?;
-    let mut turn = 0u32;
-    for (p, marks) in f.core.processes.as_slice().iter().zip(f.marks.iter()) {
-        turn = turn.saturating_add(1);
-        if !is_combinational(p) {
-            continue;
-        }
-        for cell in p.senses.as_slice() {
-            match listed.get_mut(*cell as usize) {
-                Some(stamp) => *stamp = turn,
-                None => return Err(lost()),
-            }
-        }
-        for mark in marks.as_slice() {
-            if !mark.write && is_unlisted(alloc, f, mark, listed.as_slice(), turn)? {
-                // E503.
-                return Ok(refusal(Code::MissingSensitivity, mark.place));
-            }
+    let roots = root_cells(alloc, f.core.cells.as_slice())?;
+    let mut unlisted = root_cells(alloc, f.core.cells.as_slice())?;
+    first_missing(
+        alloc,
+        f,
+        f.core.processes.as_slice(),
+        roots.as_slice(),
+        &mut unlisted,
+    )
+}
+
+// The set of signals and of ports of the top.
+fn root_cells(alloc: Global, cells: &[Cell]) -> Result<Vec<bool>, NoMemory>
+    ensures { IfOk result (λ v. v.items ≡ map root_cell cells.now) }
+{
+    let mut set = Vec::new(alloc);
+    for cell in cells {
+        push(&mut set, is_root(&cell.sort))?;
+    }
+    Ok(set)
+}
+
+fn is_root(sort: &CellSort) -> bool
+    ensures { result ≡ is_root (sort_of sort.now) }
+{
+    match sort {
+        CellSort::Input => true,
+        CellSort::Output => true,
+        CellSort::Signal => true,
+        CellSort::Port(_) => false,
+        CellSort::Variable { .. } => false,
+        CellSort::Local(_) => false,
+        CellSort::Pointer(_) => false,
+    }
+}
+
+// Process by process. Between two of them `set` has all of `roots`.
+fn first_missing(
+    alloc: Global,
+    f: &Facts<'_>,
+    processes: &[CoreProcess],
+    roots: &[bool],
+    set: &mut Vec<bool>,
+) -> Result<Option<Refusal>, NoMemory>
+    ensures code { IfOk result (Finds code.MissingSensitivity) }
+    ensures first { HasSame set.old.items roots.now → IfOk result (λ found. found ≡ first_along (λ q. unlisted_by (has_flag roots.now) (process_of q)) processes.now (seen_all f.now)) }
+{
+    for (k, p) in processes.iter().enumerate() {
+        let Some(marks) = f.marks.get(k) else {
+            return Err(lost());
+        };
+        let found = missing_in(alloc, f, p, marks.as_slice(), roots, set)?;
+        match found {
+            Some(found) => return Ok(Some(found)),
+            None => {}
         }
     }
     Ok(None)
 }
 
-fn is_unlisted(
+fn missing_in(
     alloc: Global,
     f: &Facts<'_>,
-    mark: &Mark,
-    listed: &[u32],
-    turn: u32,
-) -> Result<bool, NoMemory> {
-    if f.role(mark.named.base)? != Role::Root {
-        return Ok(false);
+    p: &CoreProcess,
+    marks: &[Mark],
+    roots: &[bool],
+    set: &mut Vec<bool>,
+) -> Result<Option<Refusal>, NoMemory>
+    ensures code { IfOk result (Finds code.MissingSensitivity) }
+    ensures found { HasSame set.old.items roots.now → IfOk result (λ found. found ≡ unlisted_by (has_flag roots.now) (process_of p.now) (seen_in f.now marks.now)) }
+    ensures same { HasSame set.old.items roots.now → IfOk result (λ found. HasSame set.new.items roots.now) }
+{
+    if is_combinational(p) {
+        take_out(p.senses.as_slice(), set)?;
+        // E503.
+        let found = first_read(alloc, f, marks, set.as_slice(), Code::MissingSensitivity)?;
+        put_back(p.senses.as_slice(), roots, set)?;
+        Ok(found)
+    } else {
+        Ok(None)
     }
-    for cell in f.cells(alloc, mark)?.iter() {
-        if listed.get(*cell as usize) != Some(&turn) {
-            return Ok(true);
-        }
+}
+
+fn take_out(cells: &[u32], set: &mut Vec<bool>) -> Result<(), NoMemory>
+    ensures { OnOk result ((n : ℕ) → has_flag set.new.items n ≡ (not (among n cells.now) && has_flag set.old.items n)) }
+{
+    for cell in cells {
+        put(set, *cell, false)?;
     }
-    Ok(false)
+    Ok(())
+}
+
+// Each as it is in a first set.
+fn put_back(cells: &[u32], first: &[bool], set: &mut Vec<bool>) -> Result<(), NoMemory>
+    ensures { OnOk result ((n : ℕ) → has_flag set.new.items n ≡ (if among n cells.now then has_flag first.now n else has_flag set.old.items n)) }
+{
+    for cell in cells {
+        put(set, *cell, has(first, *cell))?;
+    }
+    Ok(())
 }

@@ -4,7 +4,8 @@ ghost use Rattle.scc_core.specs.declared.program.CoreProcess.{CoreProcess};
 ghost use Rattle.scc_core_flow.specs.Live.{DecidesAll, Each, HasWholeTests};
 ghost use Rattle.scc_core_spec.specs.Static.{Cells};
 ghost use Rattle.scc_core_static_laws.specs.Held.{Knows};
-ghost use Rattle.scc_core_view.specs.Programs.{program_of};
+ghost use Rattle.scc_core_spec.specs.Program.{is_combinational};
+ghost use Rattle.scc_core_view.specs.Programs.{process_of, program_of};
 ghost use Rattle.scc_rules.specs.Chosen.{is_shown, shown_cell};
 ghost use Rattle.scc_rules.specs.Stands.{HasBodies, HasLives};
 
@@ -163,8 +164,16 @@ fn is_shown(sort: &CellSort) -> bool
 }
 
 /// Whether a process is a combinational method.
-pub fn is_combinational(p: &CoreProcess) -> bool {
-    p.sort == Sort2::Method && p.edge.is_none()
+pub fn is_combinational(p: &CoreProcess) -> bool
+    ensures { result ≡ is_combinational (process_of p.now) }
+{
+    match p.sort {
+        Sort2::Method => match p.edge {
+            Some(_) => false,
+            None => true,
+        },
+        Sort2::Thread => false,
+    }
 }
 
 /// So many of one thing.

@@ -1,5 +1,5 @@
 -- Which method feeds which, by lists of what is read and written.
-use Rattle.std.proofs.Common.{◌≡◌, refl, sym, ap, ◌∙◌, subst, ℕ, zero, suc, Bool, true, false, ◌&&◌, ◌||◌, nat_eq, List, [], ◌∷◌, ◌++◌, map, Option, Some, None, option_map, slice_get, unwrap_or, if◌then◌else◌}
+use Rattle.std.proofs.Common.{◌≡◌, refl, sym, ap, ◌∙◌, ℕ, zero, suc, Bool, true, false, ◌&&◌, ◌||◌, nat_eq, List, [], ◌∷◌, ◌++◌, map, Option, Some, None, option_map, slice_get, unwrap_or, if◌then◌else◌}
 use Rattle.std.specs.Prelude.{flat_map}
 use Rattle.std.specs.List.{list_any}
 use Rattle.std.proofs.lemmas.List.{append-nil}
@@ -7,7 +7,7 @@ use Rattle.std.proofs.lemmas.List.Folds.{list_any-append}
 use Rattle.std.proofs.lemmas.Grind.{flat_map-append}
 use Rattle.scc_base.specs.declared.refusal.Place.{Place}
 use Rattle.scc_core_spec.specs.Clashes.{live_acts}
-use Rattle.scc_core_spec.specs.Feeding.{feeds, is_method, reads_in, writes_in}
+use Rattle.scc_core_spec.specs.Feeding.{feeds, is_method, writes_in}
 use Rattle.scc_core_spec.specs.Program.{Process, Program, is_root}
 use Rattle.scc_core_spec.specs.Static.{Cells}
 use Rattle.scc_core_spec.specs.Term.{Left, Pick}

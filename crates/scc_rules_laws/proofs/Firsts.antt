@@ -1,6 +1,5 @@
 -- First answers of walks.
 use Rattle.std.proofs.Common.{◌≡◌, refl, sym, ap, ◌∙◌, Bool, true, false, ◌&&◌, ◌||◌, List, [], ◌∷◌, ◌++◌, map, Option, Some, None, option_map}
-use Rattle.std.specs.Prelude.{flat_map}
 use Rattle.std.specs.List.{list_any}
 use Rattle.scc_core_spec.specs.First.{or_else, first_of, when}
 use Rattle.scc_rules_laws.specs.Found.{only}

@@ -6,3 +6,4 @@ pub mod Missed
 pub mod Names
 pub mod Shared
 pub mod Fed
+pub mod Alike

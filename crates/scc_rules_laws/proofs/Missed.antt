@@ -1,5 +1,5 @@
 -- Roots that a path doesn't write, by lists of what is written.
-use Rattle.std.proofs.Common.{◌≡◌, refl, sym, ap, ◌∙◌, ℕ, Bool, true, false, ◌&&◌, List, [], ◌∷◌, Option, Some, None, if◌then◌else◌}
+use Rattle.std.proofs.Common.{◌≡◌, refl, sym, ap, ◌∙◌, ℕ, Bool, true, false, ◌&&◌, List, [], ◌∷◌, Option, None, if◌then◌else◌}
 use Rattle.std.specs.List.{list_any}
 use Rattle.scc_base.specs.declared.refusal.Place.{Place}
 use Rattle.scc_base.specs.declared.code.Code.TheVariants as reason
@@ -11,7 +11,7 @@ use Rattle.scc_core_spec.specs.Live.{live}
 use Rattle.scc_core_spec.specs.Program.{Process, Program, is_root, is_combinational}
 use Rattle.scc_core_spec.specs.Rules.{latch}
 use Rattle.scc_core_spec.specs.Uses.{has_sort, writes_of}
-use Rattle.scc_rules_laws.specs.Found.{first_along, is_missed, missed_put, only, put_found}
+use Rattle.scc_rules_laws.specs.Found.{first_along, is_missed, missed_put, put_found}
 use Rattle.scc_rules_laws.specs.Seen.{Seen, AreSeen, AreThinned, seen_in}
 use Rattle.scc_rules_laws.proofs.Sensed.{along_seen, only_if}
 use Rattle.scc_rules_laws.proofs.Thinned.{thinned}

@@ -1,9 +1,8 @@
 -- Rules on reads and on writes by lists of them.
-use Rattle.std.proofs.Common.{◌≡◌, refl, sym, ap, ◌∙◌, subst, ℕ, suc, Bool, true, false, not, ◌&&◌, ◌||◌, List, [], ◌∷◌, ◌++◌, map, Option, Some, None, if◌then◌else◌}
+use Rattle.std.proofs.Common.{◌≡◌, refl, sym, ap, ◌∙◌, ℕ, suc, Bool, true, false, not, ◌&&◌, List, [], ◌∷◌, ◌++◌, map, Option, Some, None, if◌then◌else◌}
 use Rattle.std.specs.Prelude.{flat_map}
 use Rattle.std.specs.List.{list_any}
 use Rattle.scc_base.specs.declared.refusal.Place.{Place}
-use Rattle.scc_base.specs.declared.refusal.Refusal.{Refusal}
 use Rattle.scc_base.specs.declared.code.Code.{Code as Reason}
 use Rattle.scc_base.specs.declared.code.Code.TheVariants as reason
 use Rattle.scc_core_spec.specs.Clashes.{live_acts}
@@ -12,7 +11,7 @@ use Rattle.scc_core_spec.specs.Program.{Process, Program, is_root, is_combinatio
 use Rattle.scc_core_spec.specs.Rules.{first_read, clock_as_data, clocks, missing_sensitivity, reset_cells}
 use Rattle.scc_core_spec.specs.Static.{Cells}
 use Rattle.scc_core_spec.specs.Term.{Left, Pick}
-use Rattle.scc_core_spec.specs.Uses.{Use, Act, among, cells_of, has_sort, writes_of}
+use Rattle.scc_core_spec.specs.Uses.{Act, among, cells_of, has_sort}
 use Rattle.scc_rules_laws.specs.Found.{clock_used, first_along, is_unlisted, only, read_found, unlisted_read}
 use Rattle.scc_rules_laws.specs.Seen.{Seen, AreSeen, AreThinned, put_at, read_at, seen_at, seen_from, seen_in}
 use Rattle.scc_rules_laws.proofs.Firsts.{first_append, first_map, or_none, only_none}

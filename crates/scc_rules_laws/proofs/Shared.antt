@@ -1,5 +1,5 @@
 -- Shared variables by lists of what is named.
-use Rattle.std.proofs.Common.{◌≡◌, ◌⊎◌, inl, inr, refl, sym, ap, ◌∙◌, subst, ◌<◌, ◌≤◌, arith, ℕ, suc, Bool, true, false, ◌&&◌, ◌||◌, nat_eq, cond, List, [], ◌∷◌, ◌++◌, map, Option, Some, None, option_map, unwrap_or}
+use Rattle.std.proofs.Common.{◌≡◌, inl, inr, refl, sym, ap, ◌∙◌, subst, ◌≤◌, arith, ℕ, suc, Bool, true, false, ◌&&◌, ◌||◌, nat_eq, cond, List, [], ◌∷◌, ◌++◌, map, Option, Some, None, option_map, unwrap_or}
 use Rattle.std.specs.Prelude.{flat_map, filter}
 use Rattle.std.specs.List.{list_any}
 use Rattle.std.proofs.lemmas.Bool.{eq-eqb, ne_eqb}
@@ -15,11 +15,11 @@ use Rattle.scc_core_spec.specs.Kept.{OneOf}
 use Rattle.scc_core_spec.specs.Program.{Program, is_variable}
 use Rattle.scc_core_spec.specs.Static.{Cells}
 use Rattle.scc_core_spec.specs.Term.{Left, Pick}
-use Rattle.scc_core_spec.specs.Uses.{Use, Act, among, cells_of, has_sort, writes_of}
-use Rattle.scc_rules_laws.specs.Found.{all_put, first_sharer, names_one, same_statement, shared_from, shared_in, sharing, sharing_by}
-use Rattle.scc_rules_laws.specs.Seen.{Seen, AreSeen, AreThinned, IsThinned, IsCovered, put_at, read_at, seen_at, seen_from}
+use Rattle.scc_core_spec.specs.Uses.{Use, Act, among, cells_of, has_sort}
+use Rattle.scc_rules_laws.specs.Found.{all_put, first_sharer, names_one, same_statement, shared_from, shared_in, sharing_by}
+use Rattle.scc_rules_laws.specs.Seen.{Seen, AreSeen, AreThinned, IsThinned, put_at, read_at, seen_at, seen_from}
 use Rattle.scc_rules_laws.proofs.Firsts.{first_same, first_told, when_told}
-use Rattle.scc_rules_laws.proofs.Names.{meets, one_of, one_sharer, put_same}
+use Rattle.scc_rules_laws.proofs.Names.{meets, one_sharer, put_same}
 use Rattle.scc_rules_laws.proofs.Thinned.{Absorbs, IsTested, thin_any}
 use Rattle.scc_rules_laws.proofs.Writers.{more}
 

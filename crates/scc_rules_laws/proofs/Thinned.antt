@@ -1,9 +1,8 @@
 -- What is first on a list is first on one without what tells nothing new.
-use Rattle.std.proofs.Common.{◌≡◌, ◌⊎◌, inl, inr, refl, sym, ap, ◌∙◌, Bool, true, false, ◌||◌, List, [], ◌∷◌, ◌++◌, Option, Some, None}
+use Rattle.std.proofs.Common.{◌≡◌, ◌⊎◌, inl, inr, refl, sym, ap, ◌∙◌, Bool, true, false, ◌||◌, List, [], ◌∷◌, Option, Some, None}
 use Rattle.std.specs.List.{list_any}
 use Rattle.scc_core_spec.specs.First.{or_else, first_of, NoneOf}
 use Rattle.scc_rules_laws.specs.Seen.{Seen, IsCovered, IsThinned}
-use Rattle.scc_rules_laws.proofs.Firsts.{none_first}
 
 -- a question to which what names no cell, or the same cells as one before, has no answer where that one has none
 pub record IsAsked {A : Type 0} (f : Seen → Option A) : Type 0 where

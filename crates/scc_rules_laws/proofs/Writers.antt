@@ -1,5 +1,5 @@
 -- Two writers by lists of what is written.
-use Rattle.std.proofs.Common.{◌≡◌, refl, sym, ap, ◌∙◌, subst, append_assoc, ℕ, suc, Bool, true, false, not, ◌&&◌, ◌||◌, List, [], ◌∷◌, ◌++◌, map, Option, Some, None, option_map, unwrap_or}
+use Rattle.std.proofs.Common.{◌≡◌, refl, sym, ap, ◌∙◌, subst, ℕ, suc, Bool, true, false, ◌&&◌, List, [], ◌∷◌, ◌++◌, map, Option, Some, None, option_map, unwrap_or}
 use Rattle.std.specs.List.{list_any}
 use Rattle.scc_base.specs.declared.refusal.Place.{Place}
 use Rattle.scc_base.specs.declared.refusal.Refusal.{Refusal}
@@ -11,8 +11,8 @@ use Rattle.scc_core_spec.specs.Static.{Cells}
 use Rattle.scc_core_spec.specs.Term.{Left, Pick}
 use Rattle.scc_core_spec.specs.Uses.{Use, Act, among, cells_of, has_sort, writes_of}
 use Rattle.scc_rules_laws.specs.Found.{first_writer, only, second_writer, two_in, writes_one}
-use Rattle.scc_rules_laws.specs.Seen.{Seen, AreSeen, AreThinned, IsThinned, put_at, read_at, seen_at, seen_from, seen_in}
-use Rattle.scc_rules_laws.proofs.Firsts.{and_false, any_none, first_append, first_map, first_none, first_same, first_told, only_none, only_told, or_none, when_told}
+use Rattle.scc_rules_laws.specs.Seen.{Seen, AreSeen, AreThinned, IsThinned, put_at, read_at, seen_at, seen_from}
+use Rattle.scc_rules_laws.proofs.Firsts.{and_false, any_none, first_append, first_none, first_same, first_told, only_none, or_none, when_told}
 use Rattle.scc_rules_laws.proofs.Thinned.{IsAsked, thinned}
 
 -- ---- a question on what statements write

@@ -1,3 +1,4 @@
 pub mod Seen
 pub mod Found
 pub mod Feeds
+pub mod Alike
