@@ -1,4 +1,7 @@
 //! What is known of a file's templates.
+ghost use Rattle.std.specs.Prelude.{◌≡◌};
+ghost use Rattle.scc_templates.specs.Sessions.{item_of};
+
 use crate::ask::{Key, Known, Level};
 use crate::bodies::{BodyAt, BodyKey};
 use crate::part::Thing;
@@ -98,11 +101,20 @@ impl Templates {
     }
 
     /// The item of the class or specialisation that counts for an instance.
-    pub fn body_item(&self, i: InstanceId) -> Option<usize> {
+    pub fn body_item(&self, i: InstanceId) -> Option<usize>
+        ensures { result ≡ item_of self.now i.0 }
+    {
+        Some(self.body_class(i)? as usize)
+    }
+
+    /// The same by its number in look-ups.
+    pub(crate) fn body_class(&self, i: InstanceId) -> Option<u32>
+        ensures { result ≡ item_of self.now i.0 }
+    {
         let made = self.table.made(i)?;
         match self.special.get(&made) {
-            Some(item) => Some(*item as usize),
-            None => Some(made.item as usize),
+            Some(item) => Some(*item),
+            None => Some(made.item),
         }
     }
 
@@ -123,9 +135,9 @@ impl Templates {
         name: Name,
         constructor: bool,
     ) -> Option<Declared> {
-        let class = u32::try_from(self.body_item(i)?).ok()?;
+        let class = Some(self.body_class(i)?);
         self.index.routine(Routine {
-            class: Some(class),
+            class,
             name,
             constructor,
         })

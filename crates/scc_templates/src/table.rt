@@ -1,6 +1,7 @@
 //! The table of instances.
-ghost use Rattle.std.specs.Prelude.{IfErr};
+ghost use Rattle.std.specs.Prelude.{◌≡◌, IfErr, option_map, slice_get};
 ghost use Rattle.scc_templates_scopes.specs.Refusals.{MayStop};
+ghost use Rattle.scc_templates.specs.Sessions.{arg_of};
 
 use indexmap::IndexMap;
 use scc_base::{Code, NoMemory, Place, Stop, lost, push};
@@ -62,13 +63,17 @@ impl Instances {
     }
 
     /// The argument of that number of an instance.
-    pub(crate) fn argument(&self, i: InstanceId, at: usize) -> Option<Arg> {
+    pub(crate) fn argument(&self, i: InstanceId, at: usize) -> Option<Arg>
+        ensures { result ≡ arg_of self.now i.0 at }
+    {
         let row = self.rows.get(i.0 as usize)?;
         row.args.get(at).copied()
     }
 
     /// An instance's class and arguments by number.
-    pub(crate) fn made(&self, i: InstanceId) -> Option<Made> {
+    pub(crate) fn made(&self, i: InstanceId) -> Option<Made>
+        ensures { result ≡ option_map (λ r. r.made) (slice_get self.now.rows.items i.0) }
+    {
         let row = self.rows.get(i.0 as usize)?;
         Some(row.made)
     }

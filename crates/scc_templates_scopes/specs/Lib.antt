@@ -3,3 +3,5 @@ pub mod Walks
 pub mod Applied
 pub mod Joins
 pub mod Chains
+pub mod Indexed
+pub mod Layered

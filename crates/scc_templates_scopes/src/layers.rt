@@ -1,4 +1,7 @@
 //! Names of nested scopes.
+ghost use Rattle.std.specs.Prelude.{◌≡◌, ℕ, nat_eq, None, OnOk, if◌then◌else◌};
+ghost use Rattle.scc_templates_scopes.specs.Layered.{known_in};
+
 use indexmap::IndexMap;
 use scc_base::{Name, NoMemory, push};
 use std::alloc::Global;
@@ -28,7 +31,9 @@ impl Drop for Layers {
 
 impl Layers {
     /// No name means anything.
-    pub fn new(alloc: Global) -> Layers {
+    pub fn new(alloc: Global) -> Layers
+        ensures { (x : ℕ) → known_in result x ≡ None }
+    {
         Layers {
             meanings: IndexMap::new(alloc),
             changes: Vec::new(alloc),
@@ -36,7 +41,9 @@ impl Layers {
     }
 
     /// What a name means.
-    pub fn get(&self, name: Name) -> Option<u32> {
+    pub fn get(&self, name: Name) -> Option<u32>
+        ensures { result ≡ known_in self.now name.0 }
+    {
         match self.meanings.get(&name) {
             Some(meaning) => *meaning,
             None => None,
@@ -44,7 +51,9 @@ impl Layers {
     }
 
     /// Gives a name a meaning, or none.
-    pub fn set(&mut self, name: Name, meaning: Option<u32>) -> Result<(), NoMemory> {
+    pub fn set(&mut self, name: Name, meaning: Option<u32>) -> Result<(), NoMemory>
+        ensures { OnOk result ((x : ℕ) → known_in self.new x ≡ (if nat_eq name.0 x then meaning else known_in self.old x)) }
+    {
         let before = self.get(name);
         push(&mut self.changes, Change { name, before })?;
         self.meanings.insert(name, meaning)?;

@@ -1,4 +1,4 @@
-ghost use Rattle.std.specs.Prelude.{◌≡◌, Err, IfErr, None, true};
+ghost use Rattle.std.specs.Prelude.{◌≡◌, Err, IfErr, IfOk, None, true};
 ghost use Rattle.scc_base.specs.declared.refusal.Stop.TheVariants as stop;
 ghost use Rattle.scc_templates_scopes.specs.Refusals.{MayStop, is_refusal};
 
@@ -27,6 +27,8 @@ pub fn gone<T>() -> Result<T, Stop>
 }
 
 /// A count as a number. No source has as many as 2^32 of anything.
-pub fn number(n: usize) -> Result<u32, NoMemory> {
+pub fn number(n: usize) -> Result<u32, NoMemory>
+    ensures { IfOk result (λ m. m ≡ n) }
+{
     u32::try_from(n).map_err(|_| lost())
 }
