@@ -5,6 +5,6 @@ mod all;
 mod clocks;
 mod processes;
 
-pub use all::{check_each, check_processes};
+pub use all::{check_after, check_each, check_processes};
 pub use clocks::{check_clock, check_process, note_clock};
 pub use processes::{Clock, check_asynchronous, check_reset, check_sensitivity, clock_of};

@@ -8,7 +8,8 @@ use Rattle.scc_plain_tree.specs.declared.program.Plain.{Plain as Tree}
 use Rattle.scc_plain_tree.specs.declared.program.PlainFunction.{PlainFunction}
 use Rattle.scc_elab_spec.specs.After.{misplaced}
 use Rattle.scc_plain_view.specs.Plains.{plain_of, function_of}
-use Rattle.scc_elab_checks.specs.Open.{Says, misplaced_in}
+use Rattle.scc_elab_ports.specs.Unbound.{Says}
+use Rattle.scc_elab_checks.specs.Open.{misplaced_in}
 use Rattle.scc_core_spec.specs.First.{or_else, first_numbered}
 
 -- what is left from an entry on

@@ -13,12 +13,6 @@ use Rattle.scc_plain_tree.specs.declared.stmt.PlainStmt.{PlainStmt}
 use Rattle.scc_elab_spec.specs.After.{constructing}
 use Rattle.scc_plain_view.specs.Codes.{code_of}
 
--- no refusal, or just this one
-abbrev pub Says : {A : Type 0} → Option Refusal → Result A Stop → Type 0
-Says r (Ok a) = r ≡ None
-Says r (Err (stop.Refused x)) = r ≡ Some x
-Says r (Err stop.NoMemory) = Unit {0}
-
 -- no refusal, or just this one, and no memory is wanted
 abbrev pub Tells : {A : Type 0} → Option Refusal → Result A Stop → Type 0
 Tells r (Ok a) = r ≡ None

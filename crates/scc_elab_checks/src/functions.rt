@@ -3,7 +3,8 @@ ghost use Rattle.std.specs.Prelude.{◌≡◌};
 ghost use Rattle.scc_elab_spec.specs.Types.{is_constructor as is_constructor_in};
 ghost use Rattle.scc_elab_spec.specs.After.{misplaced};
 ghost use Rattle.scc_plain_view.specs.Plains.{plain_of, function_of};
-ghost use Rattle.scc_elab_checks.specs.Open.{Says, misplaced_in};
+ghost use Rattle.scc_elab_checks.specs.Open.{misplaced_in};
+ghost use Rattle.scc_elab_ports.specs.Unbound.{Says};
 
 use crate::statements::first_constructing;
 use scc_base::{Code, Stop, lost};

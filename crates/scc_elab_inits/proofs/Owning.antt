@@ -100,10 +100,3 @@ module _ (w : Option ℕ) (i : ℕ) (here all : List PlainStmt) (m : Option ℕ)
 
   pub own_ends : is_some m ≡ true → m ≡ w
   own_ends t = some_is m t (λ k s. s ∙ ap (λ z. either z (owner (code_of (drop 1 here)))) (sym s) ∙ e ∙ ap (λ z. owner (code_of z)) h ∙ inv)
-
-module _ (n : ℕ) (w : Option (List Argument)) (i : ℕ) (here all : List PlainStmt) (m : Option (Bor (List PlainArg))) (e : or_args (args_in m) (makes_in n (drop 1 here)) ≡ makes_in n here) (h : here ≡ drop i all) (inv : makes_in n (drop i all) ≡ w) where
-  pub make_goes : is_some m ≡ false → makes_in n (drop (i + 1) all) ≡ w
-  make_goes f = ap (makes_in n) (sym (drop_more i all) ∙ ap (drop 1) (sym h)) ∙ ap (λ z. or_args (args_in z) (makes_in n (drop 1 here))) (sym (none_is m f)) ∙ e ∙ ap (makes_in n) h ∙ inv
-
-  pub make_ends : is_some m ≡ true → args_in m ≡ w
-  make_ends t = some_is m t (λ k s. ap args_in s ∙ ap (λ z. or_args (args_in z) (makes_in n (drop 1 here))) (sym s) ∙ e ∙ ap (makes_in n) h ∙ inv)

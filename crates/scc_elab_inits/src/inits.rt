@@ -1,10 +1,10 @@
 //! Which member initialisers belong to, and what makes it in place.
-ghost use Rattle.std.specs.Prelude.{◌≡◌, ◌≤◌, drop, length, None, Some};
-ghost use Rattle.scc_elab_spec.specs.Inits.{belongs as belongs_to, either, first_make as first_make_of, first_member as first_there, inits_of, owner};
+ghost use Rattle.std.specs.Prelude.{◌≡◌, ◌≤◌, drop, length};
+ghost use Rattle.scc_elab_spec.specs.Inits.{either, first_make as first_make_of, first_member as first_there, owner};
 ghost use Rattle.scc_elab_spec.specs.Program.{End};
 ghost use Rattle.scc_plain_view.specs.Codes.{code_of, stmt_code};
 ghost use Rattle.scc_plain_view.specs.Terms.{left_of};
-ghost use Rattle.scc_elab_inits.specs.Makes.{args_in, begins_make, or_args};
+ghost use Rattle.scc_elab_inits.specs.Makes.{args_in, begins_make};
 
 use crate::lefts::first_member;
 use scc_plain_tree::{PlainArg, PlainLeft, PlainNode, PlainStmt};
@@ -70,22 +70,6 @@ pub fn owner_of(list: &[PlainStmt]) -> Option<u32>
     None
 }
 
-/// Whether initialisers that begin with a member are those of a member, or of none.
-pub fn belongs(member: Option<u32>, begins: Option<u32>) -> bool
-    ensures { result ≡ belongs_to member begins }
-{
-    match member {
-        Some(m) => match begins {
-            Some(n) => m == n,
-            None => false,
-        },
-        None => match begins {
-            Some(_) => false,
-            None => true,
-        },
-    }
-}
-
 /// Whether a statement makes an object.
 pub fn is_make(s: &PlainStmt) -> bool
     ensures { result ≡ begins_make (stmt_code s.now End) }
@@ -111,8 +95,8 @@ pub fn is_make(s: &PlainStmt) -> bool
     }
 }
 
-// The arguments of a statement that makes an object.
-fn args_of(s: &PlainStmt) -> Option<&[PlainArg]>
+/// The arguments of a statement that makes an object.
+pub fn args_of(s: &PlainStmt) -> Option<&[PlainArg]>
     ensures { args_in result ≡ first_make_of (stmt_code s.now End) }
 {
     match &s.node {
@@ -134,32 +118,4 @@ fn args_of(s: &PlainStmt) -> Option<&[PlainArg]>
         PlainNode::Quiet => None,
         PlainNode::Reset { .. } => None,
     }
-}
-
-fn make_of_first(list: &[PlainStmt], member: u32) -> Option<&[PlainArg]>
-    ensures { or_args (args_in result) (first_make_of (inits_of (Some member) (code_of (drop 1 list.now)))) ≡ first_make_of (inits_of (Some member) (code_of list.now)) }
-{
-    match list {
-        [] => None,
-        [s, _rest @ ..] => {
-            if belongs(Some(member), owner_of(list)) {
-                args_of(s)
-            } else {
-                None
-            }
-        }
-    }
-}
-
-/// The arguments of the first of a member's initialisers that makes it in place.
-pub fn first_make(list: &[PlainStmt], member: u32) -> Option<&[PlainArg]>
-    ensures { args_in result ≡ first_make_of (inits_of (Some member) (code_of list.now)) }
-{
-    for i in 0..list.len() {
-        let args = make_of_first(from(list, i), member);
-        if args.is_some() {
-            return args;
-        }
-    }
-    None
 }

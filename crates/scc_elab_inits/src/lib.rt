@@ -4,5 +4,5 @@
 mod inits;
 mod lefts;
 
-pub use inits::{belongs, first_make, is_make, owner_of};
+pub use inits::{args_of, is_make, owner_of};
 pub use lefts::{Around, ends_in_vector, first_member};

@@ -19,9 +19,9 @@ use Rattle.scc_elab_store.specs.declared.locations.Location.{Location as Held}
 use Rattle.scc_elab_store.specs.declared.locations.LocalOf.{LocalOf}
 use Rattle.scc_elab_store.specs.Locations.{location_of, part_of, root_of}
 use Rattle.scc_elab_worth.specs.Meant.{IsTarget}
-use Rattle.scc_elab_made.specs.declared.works.Form.{Form}
-use Rattle.scc_elab_made.specs.declared.works.Work.{Work}
-use Rattle.scc_elab_made.specs.Works.{Stand, Passed, Steps, anew, each_made, led, making_at, outcome, run_at, site_at}
+use Rattle.scc_elab_works.specs.declared.works.Form.{Form}
+use Rattle.scc_elab_works.specs.declared.works.Work.{Work}
+use Rattle.scc_elab_works.specs.Works.{Stand, Passed, Steps, anew, each_made, led, making_at, outcome, run_at, site_at}
 use Rattle.scc_elab_made.specs.Objects.{new_made}
 use Rattle.scc_elab_made.proofs.Stepping.{pass_halts}
 use Rattle.scc_elab_made.proofs.Making.{anew_grown}

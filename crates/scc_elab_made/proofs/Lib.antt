@@ -1,13 +1,8 @@
-pub mod Clearing
-pub mod Rows
-pub mod Endings
-pub mod Nodes
-pub mod Leading
 pub mod Picking
+pub mod Tailing
 pub mod Stepping
-pub mod Standing
-pub mod Params
+pub mod Going
 pub mod Vectoring
-pub mod Anywhere
 pub mod Making
+pub mod Belonging
 pub mod Leadings

@@ -32,19 +32,18 @@ use Rattle.scc_elab_grown.specs.Grown.{Grows}
 use Rattle.scc_elab_store.specs.Locations.{part_of}
 use Rattle.scc_elab_worth.specs.declared.args.Given.{Given as Held}
 use Rattle.scc_elab_worth.specs.Arguments.{given_in, IsGiven}
-use Rattle.scc_elab_made.specs.declared.works.Work.{Work}
-use Rattle.scc_elab_made.specs.declared.works.Work.TheVariants as work
-use Rattle.scc_elab_made.specs.declared.works.Form.{Form}
-use Rattle.scc_elab_made.specs.declared.works.ElementsOf.{ElementsOf}
-use Rattle.scc_elab_made.specs.declared.works.MembersOf.{MembersOf}
-use Rattle.scc_elab_made.specs.declared.works.How.TheVariants as how
-use Rattle.scc_elab_made.specs.declared.works.VectorOf.{VectorOf}
-use Rattle.scc_elab_made.specs.Paths.{rows}
-use Rattle.scc_elab_made.specs.Works.{Stand, Passed, Steps, Puts, Begins, Leaves, anew, array_made, at_in, chosen_of, each_made, function_there, making_at, outcome, passed_at, passed_in, run_at, site_at, through}
+use Rattle.scc_elab_works.specs.declared.works.Work.{Work}
+use Rattle.scc_elab_works.specs.declared.works.Work.TheVariants as work
+use Rattle.scc_elab_works.specs.declared.works.Form.{Form}
+use Rattle.scc_elab_works.specs.declared.works.ElementsOf.{ElementsOf}
+use Rattle.scc_elab_works.specs.Hows as how
+use Rattle.scc_elab_works.specs.declared.works.VectorOf.{VectorOf}
+use Rattle.scc_elab_works.specs.Paths.{rows}
+use Rattle.scc_elab_works.specs.Works.{Stand, Passed, Steps, Puts, Begins, Leaves, anew, array_made, at_in, chosen_of, each_made, function_there, making_at, outcome, passed_at, passed_in, run_at, site_at, through}
 use Rattle.scc_elab_made.specs.Objects.{form_in, member_at, object_begun, object_filled, rest_made, rest_passed, stand_of}
 use Rattle.scc_elab_made.proofs.Stepping.{outcome_one, pass_halts, puts_as, puts_one}
-use Rattle.scc_elab_made.proofs.Rows.{rows_are}
-use Rattle.scc_elab_made.proofs.Anywhere.{members_any, rest_any}
+use Rattle.scc_elab_works.proofs.Rows.{rows_are}
+use Rattle.scc_elab_works.proofs.Anywhere.{members_any, rest_any}
 
 -- ---- what is made, as a run
 
@@ -52,11 +51,11 @@ pub anew_grown : (t : Tried Grown) → grown_by (anew t) ≡ t
 anew_grown (Made g) = refl
 anew_grown (Stopped r) = refl
 
-and_same : (t : Tried Grown) → and_made t Made ≡ t
+pub and_same : (t : Tried Grown) → and_made t Made ≡ t
 and_same (Made g) = refl
 and_same (Stopped r) = refl
 
-and_and : {A B C : Type 0} (t : Tried A) (f : A → Tried B) (h : B → Tried C) → and_made (and_made t f) h ≡ and_made t (λ a. and_made (f a) h)
+pub and_and : {A B C : Type 0} (t : Tried A) (f : A → Tried B) (h : B → Tried C) → and_made (and_made t f) h ≡ and_made t (λ a. and_made (f a) h)
 and_and (Made a) f h = refl
 and_and (Stopped r) f h = refl
 
@@ -211,11 +210,6 @@ pub object_begins : {A E : Type 0} (r : Result A E) (p : Plain) (ws new : List W
 object_begins (Ok v) p ws new levels f ms path g h gs a last ef eo ep el d k = object_goes p ws new levels f ms path g h gs a last (λ i. record { function = ef i; object = eo i; path = ep i; levels = el i }) (d ∙ (λ i. params_given (eo i) 0 (ef i).params (ef i).locals gs g)) k
 object_begins (Err v) p ws new levels f ms path g h gs a last ef eo ep el d k = tt
 
-pub members_put : {A E : Type 0} (r : Result A E) (old new : List Work) (k : MembersOf) (a : Stand) → OnOk r (new ≡ old ++ work.Members k ∷ []) → at_in k.at ≡ a
-    → Puts r old new (λ p x. anew (and_made (grown_by x) (made_members (built p a.levels) (site_at p a) k.next (map member_of k.members.now) (code_of k.inits.now))))
-members_put r old new k a h e = puts_as r old new (λ p x. through p (work.Members k) x) (λ p x. anew (and_made (grown_by x) (made_members (built p a.levels) (site_at p a) k.next (map member_of k.members.now) (code_of k.inits.now))))
-    (λ p x i. anew (and_made (grown_by x) (made_members (built p (e i).levels) (site_at p (e i)) k.next (map member_of k.members.now) (code_of k.inits.now)))) (puts_one r old new (work.Members k) h)
-
 abbrev rest_by : Stand → List Member → Code → Code → Plain → Ran → Ran
 rest_by a ms inits body p x = anew (grown_by (then_run (then_run (anew (and_made (grown_by x) (made_members (built p a.levels) (site_at p a) 0 ms inits))) (run_at p a (inits_of None inits))) (run_at p a body)))
 
@@ -228,7 +222,7 @@ filled_goes p ws new levels c path g args gs n e h = ap (λ t. outcome p ws (ane
 
 -- ---- more is put
 
-abbrev array_passed : Form → Passed → List (List Part) → Plain → Ran → Ran
+abbrev pub array_passed : Form → Passed → List (List Part) → Plain → Ran → Ran
 array_passed f q all p x = anew (and_made (grown_by x) (array_made p f q all))
 
 pub things_as : {A E : Type 0} (r : Result A E) (old new : List Work) (f h : Form) (q k : Passed) (all others : List (List Part)) → f ≡ h → q ≡ k → all ≡ others → Puts r old new (array_passed f q all) → Puts r old new (array_passed h k others)
@@ -237,62 +231,6 @@ things_as r old new f h q k all others ef eq ea = puts_as r old new (array_passe
 pub elements_put : {A E : Type 0} (r : Result A E) (old new : List Work) (e : ElementsOf) (q : Passed) (path : List Part) → OnOk r (new ≡ old ++ work.Elements e ∷ []) → passed_in e.args ≡ q → map part_of e.path.items ≡ path
     → Puts r old new (array_passed e.form q (rows path e.sizes.now e.next e.count))
 elements_put r old new e q path h eq ep = puts_as r old new (λ p x. through p (work.Elements e) x) (array_passed e.form q (rows path e.sizes.now e.next e.count)) (λ p x i. array_passed e.form (eq i) (rows (ep i) e.sizes.now e.next e.count) p x) (puts_one r old new (work.Elements e) h)
-
--- ---- members
-
-empty_is : (t : Tried Grown) (f : Now → Ran) → anew (grown_by (then_run (anew t) f)) ≡ anew (and_made t (λ g. grown_by (f (record { grown = g; last = None }))))
-empty_is (Made g) f = refl
-empty_is (Stopped r) f = refl
-
-module _ (a : Stand) (k : PlainMember) (n : ℕ) (c : Code) (g : Grown) (old new : List Work) where
-  abbrev path : List Part
-  path = a.path ++ location.Member (member_of k).name ∷ []
-
-  abbrev all : List (List Part)
-  all = elements_at path (member_of k).shape.sizes
-
-  abbrev begun : Now
-  begun = record { grown = g; last = None }
-
-  abbrev one_member : Plain → Option (List Argument) → Tried Grown
-  one_member p o = by_arguments (built p a.levels) (site_at p a) (member_of k) path (inits_of (Some n) c) o g
-
-  abbrev empty_passed : Bool → Plain → Ran → Ran
-  empty_passed b p x = anew (grown_by (then_run (array_passed (form_in k b) (record { at = a; list = [] }) all p x) (run_at p a (chosen_of (how.Of (Some n)) c))))
-
-  pub empty_goes : {A E : Type 0} (r : Result A E) (o : Option (List Argument)) → o ≡ None → Puts r old new (empty_passed false) → Begins r old new begun (λ p. one_member p o)
-  empty_goes (Ok v) o e h = λ p. ap (λ o. outcome p old (anew (one_member p o))) e ∙ ap (outcome p old) (sym (empty_is (array_made p (form_in k false) (record { at = a; list = [] }) all g) (run_at p a (chosen_of (how.Of (Some n)) c)))) ∙ sym (h p (Fell begun))
-  empty_goes (Err v) o e h = tt
-
-  pub given_goes : {A E : Type 0} (r : Result A E) (o : Option (List Argument)) (args : List Argument) → o ≡ Some args
-      → Puts r old new (λ p x. array_passed (form_in k false) (record { at = a; list = args }) all p (then_run x (run_at p a (chosen_of (how.Without n) c)))) → Begins r old new begun (λ p. one_member p o)
-  given_goes (Ok v) o args e h = λ p. ap (λ o. outcome p old (anew (one_member p o))) e ∙ sym (h p (Fell begun))
-  given_goes (Err v) o args e h = tt
-
-  abbrev by_reach : Bool → Plain → Tried Grown
-  by_reach b p = if b then one_member p (first_make (inits_of (Some n) c))
-      else and_made (over_elements (λ g q. added g q k.place (design.Pointer None)) all g) (run_inits (making_at p a.levels) (site_at p a) (inits_of (Some n) c))
-
-  pub direct_goes : {A E : Type 0} (r : Result A E) (m : Now) → is_direct (member_of k).shape.reach ≡ true → Begins r old new m (λ p. one_member p (first_make (inits_of (Some n) c))) → Begins r old new m (λ p. member_at p a n (member_of k) c g)
-  direct_goes (Ok v) m e h = λ p. ap (λ b. outcome p old (anew (by_reach b p))) e ∙ h p
-  direct_goes (Err v) m e h = tt
-
-  pub pointer_goes : {A E : Type 0} (r : Result A E) → is_direct (member_of k).shape.reach ≡ false → Puts r old new (empty_passed true) → Begins r old new begun (λ p. member_at p a n (member_of k) c g)
-  pointer_goes (Ok v) e h = λ p. ap (λ b. outcome p old (anew (by_reach b p))) e ∙ ap (outcome p old) (sym (empty_is (array_made p (form_in k true) (record { at = a; list = [] }) all g) (run_at p a (chosen_of (how.Of (Some n)) c)))) ∙ sym (h p (Fell begun))
-  pointer_goes (Err v) e h = tt
-
-pub members_go : {A E : Type 0} (r : Result A E) (a : Stand) (k : PlainMember) (rest ms : List PlainMember) (n : ℕ) (c : Code) (g : Grown) (m : Now) (old mid new : List Work) → k ∷ rest ≡ ms
-    → ((p : Plain) (x : Ran) → outcome p mid x ≡ outcome p old (anew (and_made (grown_by x) (made_members (built p a.levels) (site_at p a) (n + 1) (map member_of rest) c))))
-    → Begins r mid new m (λ p. member_at p a n (member_of k) c g) → Begins r old new m (λ p. made_members (built p a.levels) (site_at p a) n (map member_of ms) c g)
-members_go (Ok v) a k rest ms n c g m old mid new e put h = λ p.
-    let others : Grown → Tried Grown = made_members (built p a.levels) (site_at p a) (n + 1) (map member_of rest) c in
-    ap (λ ms. outcome p old (anew (made_members (built p a.levels) (site_at p a) n (map member_of ms) c g))) (sym e)
-    ∙ ap (λ t. outcome p old (anew (and_made t others))) (sym (anew_grown (member_at p a n (member_of k) c g)))
-    ∙ sym (put p (anew (member_at p a n (member_of k) c g))) ∙ h p
-members_go (Err v) a k rest ms n c g m old mid new e put h = tt
-
-pub no_members : (a : Stand) (ms : List PlainMember) (n : ℕ) (c : Code) (g : Grown) (old : List Work) → ms ≡ [] → (p : Plain) → outcome p old (anew (made_members (built p a.levels) (site_at p a) n (map member_of ms) c g)) ≡ outcome p old (Fell (record { grown = g; last = None }))
-no_members a ms n c g old e p = ap (λ ms. outcome p old (anew (made_members (built p a.levels) (site_at p a) n (map member_of ms) c g))) e
 
 pub leaves_as : {A : Type 0} (r : Result A Stop) (g : Grown) (t u : Tried Grown) → u ≡ t → Leaves r g t → Leaves r g u
 leaves_as (Ok a) g t u e h = e ∙ h

@@ -12,12 +12,12 @@ use Rattle.scc_elab_spec.specs.Worth.{Site, at_now, worth}
 use Rattle.scc_elab_spec.specs.Construct.{Making, Now, Ran, Fell, then_run, from_tried, looped, choose_of, ran_in, most_turns}
 use Rattle.scc_plain_view.specs.Codes.{Node, stmt_node, stmt_step, stmt_code, code_of, before}
 use Rattle.scc_plain_view.specs.Terms.{term_of}
-use Rattle.scc_elab_made.specs.declared.works.How.{How}
-use Rattle.scc_elab_made.specs.declared.works.How.TheVariants as how
+use Rattle.scc_elab_works.specs.Hows.{How}
+use Rattle.scc_elab_works.specs.Hows as how
 use Rattle.scc_elab_inits.specs.Makes.{begins_make}
-use Rattle.scc_elab_made.specs.Firsts.{begins_if, takes_first, IsParts}
-use Rattle.scc_elab_made.specs.Works.{Stand, making_at, site_at, run_at, chosen_of}
-use Rattle.scc_elab_made.proofs.Leading.{stmt_leads, same_fell}
+use Rattle.scc_elab_works.specs.Firsts.{begins_if, takes_first, IsParts}
+use Rattle.scc_elab_works.specs.Works.{Stand, making_at, site_at, run_at, chosen_of}
+use Rattle.scc_elab_works.proofs.Leading.{stmt_leads, same_fell}
 
 pub record Picks (f : Code → Code) : Type 0 where
   pub inits : (m : Option ℕ) (r : Code) → inits_of m (f r) ≡ kept_if (belongs m (owner (f r))) f (inits_of m r)

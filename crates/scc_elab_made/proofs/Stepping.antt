@@ -8,11 +8,11 @@ use Rattle.scc_plain_view.specs.Terms.{term_of}
 use Rattle.scc_plain_tree.specs.declared.expr.PlainExpr.{PlainExpr}
 use Rattle.scc_plain_tree.specs.declared.stmt.PlainCount.{PlainCount}
 use Rattle.scc_plain_tree.specs.declared.stmt.PlainNode.TheVariants as node
-use Rattle.scc_elab_made.proofs.Nodes.{if_is, block_is, loop_is, exit_is}
-use Rattle.scc_elab_made.proofs.Picking.{run_takes, run_passes}
-use Rattle.scc_elab_made.specs.declared.works.How.{How}
-use Rattle.scc_elab_made.specs.declared.works.At.{At}
-use Rattle.scc_elab_made.specs.declared.works.How.TheVariants as how
+use Rattle.scc_elab_works.proofs.Nodes.{if_is, block_is, loop_is, exit_is}
+use Rattle.scc_elab_made.proofs.Picking.{run_takes}
+use Rattle.scc_elab_works.specs.Hows.{How}
+use Rattle.scc_elab_works.specs.declared.works.At.{At}
+use Rattle.scc_elab_works.specs.Hows as how
 use Rattle.scc_base.specs.declared.refusal.Refusal.{Refusal}
 use Rattle.scc_base.specs.declared.refusal.Stop.{Stop}
 use Rattle.scc_base.specs.declared.refusal.Stop.TheVariants as stop
@@ -22,8 +22,8 @@ use Rattle.scc_elab_spec.specs.Term.{Term}
 use Rattle.scc_elab_spec.specs.Worth.{Site, at_now, worth}
 use Rattle.scc_elab_worth.specs.Meant.{IsWorth}
 use Rattle.scc_elab_spec.specs.Program.{Plain, Loop, End, Count}
-use Rattle.scc_elab_made.specs.declared.works.LoopOf.{LoopOf}
-use Rattle.scc_elab_made.specs.Firsts.{IsParts, takes_first}
+use Rattle.scc_elab_works.specs.declared.works.LoopOf.{LoopOf}
+use Rattle.scc_elab_works.specs.Firsts.{IsParts}
 use Rattle.scc_elab_made.specs.Passings.{passing_of}
 use Rattle.scc_elab_made.specs.declared.running.Passing.{Passing}
 use Rattle.scc_elab_made.specs.declared.running.Passing.TheVariants as passing
@@ -32,10 +32,10 @@ use Rattle.scc_core_spec.specs.First.{refused}
 use Rattle.scc_elab_spec.specs.Grown.{Grown, with_turn}
 use Rattle.scc_elab_spec.specs.Construct.{Now, Ran, Fell, Left_out, Halted, then_run, shut, from_tried, looped, turned, choose_of, most_turns}
 use Rattle.scc_elab_spec.specs.Made.{grown_by}
-use Rattle.scc_elab_made.specs.declared.works.Work.{Work}
-use Rattle.scc_elab_made.specs.declared.works.Work.TheVariants as work
-use Rattle.scc_elab_made.specs.Runs.{Ends}
-use Rattle.scc_elab_made.specs.Works.{through, pass, outcome, anew, at_in, run_at, turns_of, turn_of, making_at, site_at, Stand, chosen_of, tested_in, Steps, Puts, Leaves}
+use Rattle.scc_elab_works.specs.declared.works.Work.{Work}
+use Rattle.scc_elab_works.specs.declared.works.Work.TheVariants as work
+use Rattle.scc_elab_works.specs.Runs.{Ends}
+use Rattle.scc_elab_works.specs.Works.{through, pass, outcome, anew, at_in, run_at, turns_of, turn_of, making_at, site_at, Stand, chosen_of, tested_in, Steps, Puts, Leaves}
 
 pub pass_last : (p : Plain) (ws : List Work) (w : Work) (x : Ran) → pass p (ws ++ w ∷ []) x ≡ pass p ws (through p w x)
 pass_last p [] w x = refl
@@ -47,7 +47,6 @@ through_halts p work.Shut z = refl
 through_halts p (work.Again l) z = refl
 through_halts p (work.Turn l) z = refl
 through_halts p (work.Lead l) z = refl
-through_halts p (work.Members m) z = refl
 through_halts p (work.Array a) z = refl
 through_halts p (work.Elements e) z = refl
 through_halts p (work.Vector v) z = refl
@@ -75,9 +74,9 @@ steps_to p (Ok a) ws n t u e s = e ∙ s
 steps_to p (Err (stop.Refused z)) ws n t u e s = e ∙ s
 steps_to p (Err stop.NoMemory) ws n t u e s = tt
 
-pub puts_run : {A E : Type 0} (r : Result A E) (old new : List Work) (a b : At) (list : Bor (List PlainStmt)) → OnOk r (new ≡ old ++ work.Run (record { at = a; how = how.All; list = list }) ∷ []) → at_in a ≡ at_in b
+pub puts_run : {A E : Type 0} (r : Result A E) (old new : List Work) (a b : At) (list : Bor (List PlainStmt)) → OnOk r (new ≡ old ++ work.Run (record { at = a; list = list }) ∷ []) → at_in a ≡ at_in b
     → Puts r old new (λ p x. then_run x (run_at p (at_in b) (code_of list.now)))
-puts_run (Ok v) old new a b list e h = λ p x. outcome_one p old new (work.Run (record { at = a; how = how.All; list = list })) x e ∙ ap (λ s. outcome p old (then_run x (run_at p s (code_of list.now)))) h
+puts_run (Ok v) old new a b list e h = λ p x. outcome_one p old new (work.Run (record { at = a; list = list })) x e ∙ ap (λ s. outcome p old (then_run x (run_at p s (code_of list.now)))) h
 puts_run (Err v) old new a b list e h = tt
 
 pub puts_one : {A E : Type 0} (r : Result A E) (old new : List Work) (w : Work) → OnOk r (new ≡ old ++ w ∷ []) → Puts r old new (λ p x. through p w x)
@@ -164,7 +163,6 @@ left_through p (work.Again l) d n e = refl
 left_through p (work.Turn l) d n e = refl
 left_through p work.Shut d n e = cc
 left_through p (work.Lead l) d n e = cc
-left_through p (work.Members m) d n e = cc
 left_through p (work.Array a) d n e = cc
 left_through p (work.Elements x) d n e = cc
 left_through p (work.Vector v) d n e = cc
@@ -176,7 +174,6 @@ shut_through p (work.Again l) x e = cc
 shut_through p (work.Turn l) x e = cc
 shut_through p work.Shut x e = refl
 shut_through p (work.Lead l) x e = cc
-shut_through p (work.Members m) x e = cc
 shut_through p (work.Array a) x e = cc
 shut_through p (work.Elements y) x e = cc
 shut_through p (work.Vector v) x e = cc
@@ -188,7 +185,6 @@ stays_through p (work.Again l) d n e = cc
 stays_through p (work.Turn l) d n e = cc
 stays_through p work.Shut d n e = cc
 stays_through p (work.Lead l) d n e = refl
-stays_through p (work.Members m) d n e = refl
 stays_through p (work.Array a) d n e = refl
 stays_through p (work.Elements x) d n e = refl
 stays_through p (work.Vector v) d n e = refl
@@ -209,11 +205,6 @@ module _ (p : Plain) (t : Tried Grown) (ws rest : List Work) (w : Work) (left : 
   leave_stays new e f = inv ∙ outcome_one p rest ws w (Left_out left n) popped ∙ ap (outcome p rest) (stays_through p w left n (sym kind ∙ e)) ∙ sym (outcome_one p rest new w (Fell n) f)
 
 -- ---- statements
-
-pub puts_rest : {A E : Type 0} (r : Result A E) (old new : List Work) (a b : At) (h : How) (list : Bor (List PlainStmt)) → OnOk r (new ≡ old ++ work.Run (record { at = a; how = h; list = list }) ∷ []) → at_in a ≡ at_in b
-    → Puts r old new (λ p x. then_run x (run_at p (at_in b) (chosen_of h (code_of list.now))))
-puts_rest (Ok v) old new a b h list e f = λ p x. outcome_one p old new (work.Run (record { at = a; how = h; list = list })) x e ∙ ap (λ s. outcome p old (then_run x (run_at p s (chosen_of h (code_of list.now))))) f
-puts_rest (Err v) old new a b h list e f = tt
 
 tested_end : (n : Now) (a b k : Now → Ran) (w : Tried ℕ) → ((m : Now) → k m ≡ Fell m) → from_tried w (λ v. then_run (choose_of v a b n) k) ≡ from_tried w (λ v. choose_of v a b n)
 tested_end n a b k (Made v) h = by (choose_of v a b n)
@@ -243,21 +234,12 @@ exit_goes p a s d ws n is = ap (λ c. outcome p ws (run_at p a c n)) (exit_is s 
 
 -- ---- lists of statements
 
-pub empty_runs : (p : Plain) (a : Stand) (h : How) (list : List PlainStmt) (ws : List Work) (n : Now) → list ≡ [] → outcome p ws (run_at p a (chosen_of h (code_of list)) n) ≡ outcome p ws (Fell n)
-empty_runs p a h list ws n e = ap (λ z. outcome p ws (run_at p a (chosen_of h (code_of z)) n)) e ∙ ap (outcome p ws) (by h)
-  where
-    by : (h : How) → run_at p a (chosen_of h End) n ≡ Fell n
-    by how.All = refl
-    by (how.Of m) = refl
-    by (how.Without m) = refl
+pub empty_runs : (p : Plain) (a : Stand) (list : List PlainStmt) (ws : List Work) (n : Now) → list ≡ [] → outcome p ws (run_at p a (code_of list) n) ≡ outcome p ws (Fell n)
+empty_runs p a list ws n e = ap (λ z. outcome p ws (run_at p a (code_of z) n)) e
 
-module _ (p : Plain) (a : Stand) (h : How) (x : PlainStmt) (xs all : List PlainStmt) (ws new : List Work) (n : Now) (b : Bool) (is : x ∷ xs ≡ all) (takes : b ≡ takes_first h (code_of all))
-    (put : (q : Plain) (z : Ran) → outcome q new z ≡ outcome q ws (then_run z (run_at q a (chosen_of h (code_of xs))))) where
-  pub taken_goes : b ≡ true → outcome p ws (run_at p a (chosen_of h (code_of all)) n) ≡ outcome p new (run_at p a (stmt_code x End) n)
-  taken_goes e = ap (λ z. outcome p ws (run_at p a (chosen_of h (code_of z)) n)) (sym is) ∙ ap (outcome p ws) (run_takes p a x xs h n (ap (λ z. takes_first h (code_of z)) is ∙ sym takes ∙ e)) ∙ sym (put p (run_at p a (stmt_code x End) n))
-
-  pub passed_goes : b ≡ false → outcome p ws (run_at p a (chosen_of h (code_of all)) n) ≡ outcome p new (Fell n)
-  passed_goes e = ap (λ z. outcome p ws (run_at p a (chosen_of h (code_of z)) n)) (sym is) ∙ ap (outcome p ws) (run_passes p a x xs h n (ap (λ z. takes_first h (code_of z)) is ∙ sym takes ∙ e)) ∙ sym (put p (Fell n))
+pub first_goes : (p : Plain) (a : Stand) (x : PlainStmt) (xs all : List PlainStmt) (ws new : List Work) (n : Now) → x ∷ xs ≡ all → ((q : Plain) (z : Ran) → outcome q new z ≡ outcome q ws (then_run z (run_at q a (code_of xs))))
+    → outcome p ws (run_at p a (code_of all) n) ≡ outcome p new (run_at p a (stmt_code x End) n)
+first_goes p a x xs all ws new n is put = ap (λ z. outcome p ws (run_at p a (code_of z) n)) (sym is) ∙ ap (outcome p ws) (run_takes p a x xs how.All n refl) ∙ sym (put p (run_at p a (stmt_code x End) n))
 
 -- ---- all of it
 

@@ -10,11 +10,11 @@ use Rattle.scc_elab_spec.specs.Made.{grown_by, over_elements, built, made_one, n
 use Rattle.scc_semantics.specs.Location.{Element}
 use Rattle.scc_elab_store.specs.Locations.{part_of}
 use Rattle.scc_plain_view.specs.Codes.{base_of}
-use Rattle.scc_elab_made.specs.declared.works.Work.{Work}
-use Rattle.scc_elab_made.specs.declared.works.Work.TheVariants as work
-use Rattle.scc_elab_made.specs.declared.works.VectorOf.{VectorOf}
-use Rattle.scc_elab_made.specs.Given.{element_made, vector_left}
-use Rattle.scc_elab_made.specs.Works.{outcome, anew, Steps}
+use Rattle.scc_elab_works.specs.declared.works.Work.{Work}
+use Rattle.scc_elab_works.specs.declared.works.Work.TheVariants as work
+use Rattle.scc_elab_works.specs.declared.works.VectorOf.{VectorOf}
+use Rattle.scc_elab_works.specs.Given.{element_made, vector_left}
+use Rattle.scc_elab_works.specs.Works.{outcome, anew, Steps}
 use Rattle.scc_elab_made.proofs.Stepping.{outcome_one, pass_halts, steps_to}
 
 pub vector_done : (p : Plain) (v : VectorOf) (ws : List Work) (n : Now) → v.count ≡ 0 → outcome p ws (vector_left p v n) ≡ outcome p ws (Fell (record { grown = n.grown; last = None }))

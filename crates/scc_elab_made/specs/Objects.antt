@@ -1,9 +1,9 @@
 -- Objects that are made step by step. This project's own.
-use Rattle.std.specs.Prelude.{◌≡◌, ℕ, Bool, ◌+◌, ◌-◌, List, [], ◌∷◌, ◌++◌, map, length, Option, Some, None, Result, Ok, Err, if◌then◌else◌, nat_eq, min}
+use Rattle.std.specs.Prelude.{◌≡◌, ℕ, Bool, ◌+◌, ◌-◌, List, [], ◌∷◌, ◌++◌, map, length, drop, Option, Some, None, Result, Ok, Err, if◌then◌else◌, nat_eq, min}
 use Rattle.std.specs.List.{range_with_len}
 use Rattle.scc_base.specs.declared.refusal.Place.{Place}
 use Rattle.scc_plain_tree.specs.declared.program.PlainMember.{PlainMember}
-use Rattle.scc_elab_made.specs.declared.works.Form.{Form}
+use Rattle.scc_elab_works.specs.declared.works.Form.{Form}
 use Rattle.scc_semantics.specs.Location.{Location, Part, Element, Root}
 use Rattle.scc_semantics.specs.Location as location
 use Rattle.scc_core_spec.specs.Resolved.{Tried, Made, Stopped, and_made}
@@ -11,11 +11,12 @@ use Rattle.scc_elab_spec.specs.Program.{Base, Class, Code, Function, Member, Pla
 use Rattle.scc_elab_spec.specs.Design as design
 use Rattle.scc_elab_spec.specs.Term.{Argument}
 use Rattle.scc_elab_spec.specs.Grown.{Grown, with_made}
-use Rattle.scc_elab_spec.specs.Inits.{inits_of}
+use Rattle.scc_elab_spec.specs.Inits.{first_make, inits_of}
 use Rattle.scc_elab_spec.specs.Worth.{Given, Site}
 use Rattle.scc_elab_spec.specs.Construct.{Now, Ran, Fell, then_run, from_tried}
-use Rattle.scc_elab_spec.specs.Made.{Building, built, function_of, grown_by, made_member, made_members, made_vector, params_given, run_rest, site_of}
-use Rattle.scc_elab_made.specs.Works.{Stand, anew, each_made, making_at, run_at, site_at}
+use Rattle.scc_elab_spec.specs.Made.{Building, built, by_arguments, function_of, grown_by, made_member, made_members, made_vector, params_given, run_rest, site_of}
+use Rattle.scc_elab_works.specs.Works.{Stand, anew, each_made, making_at, outcome, run_at, site_at}
+use Rattle.scc_elab_works.specs.declared.works.Work.{Work}
 
 -- the members of an object, what belongs to none of them, and the body of its constructor
 abbrev pub rest_made : Plain → Stand → List Member → Grown → Tried Grown
@@ -46,6 +47,18 @@ form_in k pointer = record { is_pointer = pointer; is_vector = k.shape.vector; b
 abbrev pub member_at : Plain → Stand → ℕ → Member → Code → Grown → Tried Grown
 member_at p a n m inits = made_member (built p a.levels) (site_at p a) m (a.path ++ location.Member m.name ∷ []) (inits_of (Some n) inits)
 
+-- one that is no pointer
+abbrev pub direct_at : Plain → Stand → ℕ → Member → Code → Grown → Tried Grown
+direct_at p a n m inits = by_arguments (built p a.levels) (site_at p a) m (a.path ++ location.Member m.name ∷ []) (inits_of (Some n) inits) (first_make (inits_of (Some n) inits))
+
 -- what `new` makes at the path of a pointer
 abbrev pub new_made : Plain → Stand → Form → List Argument → List Part → Grown → Tried Grown
 new_made p a form list path g = each_made p form (record { at = a; list = list }) (with_made g path) path
+
+-- of the members of an object those from one on are to be made behind what is to be done
+abbrev pub AreLeft : Stand → List Member → Code → List Work → ℕ → List Work → Type 0
+AreLeft a ms c old n ws = (p : Plain) (x : Ran) → outcome p ws x ≡ outcome p old (anew (and_made (grown_by x) (made_members (built p a.levels) (site_at p a) n (drop n ms) c)))
+
+-- what is made stays, and a block that would be left there is none
+abbrev pub IsShut : List Work → List Work → Type 0
+IsShut old ws = (p : Plain) (x : Ran) → outcome p ws x ≡ outcome p old (anew (grown_by x))

@@ -2,9 +2,9 @@
 ghost use Rattle.std.specs.Prelude.{◌≡◌, ◌++◌, ◌∷◌, [], map, true, None};
 ghost use Rattle.scc_semantics.specs.Location.{Element};
 ghost use Rattle.scc_elab_grown.specs.Grown.{grown_of};
-ghost use Rattle.scc_elab_made.specs.Paths.{rows};
-ghost use Rattle.scc_elab_made.specs.Runs.{now_of};
-ghost use Rattle.scc_elab_made.specs.Works.{Begins, anew, array_made, each_made, making_at, outcome, passed_at, passed_in, Puts, Steps};
+ghost use Rattle.scc_elab_works.specs.Paths.{rows};
+ghost use Rattle.scc_elab_works.specs.Runs.{now_of};
+ghost use Rattle.scc_elab_works.specs.Works.{Begins, anew, array_made, each_made, making_at, outcome, passed_at, passed_in, Puts, Steps};
 ghost use Rattle.scc_elab_spec.specs.Design.{Pointer};
 ghost use Rattle.scc_elab_spec.specs.Grown.{added};
 ghost use Rattle.scc_elab_spec.specs.Made.{built, elements_at, grown_by, made_vector};
@@ -13,14 +13,14 @@ ghost use Rattle.scc_elab_store.specs.Locations.{part_of};
 ghost use Rattle.scc_plain_view.specs.Codes.{base_of};
 ghost use Rattle.scc_plain_view.specs.Plains.{plain_of};
 
-use crate::elements::element_of;
-use crate::moment::Moment;
 use crate::objects::make_base;
-use crate::things::{add_at, copied, given_at, last_word};
-use crate::works::{Args, ArrayOf, ElementsOf, Form, VectorOf, Work};
 use scc_base::{NoMemory, Stop, lost, push};
 use scc_elab_grown::Node;
 use scc_elab_store::Part;
+use scc_elab_works::{
+    Args, ArrayOf, ElementsOf, Form, Moment, VectorOf, Work, add_at, copied, element_of, given_at,
+    last_word,
+};
 use scc_plain_tree::Plain;
 
 // More than there may be.

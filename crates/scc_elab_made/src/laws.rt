@@ -1,9 +1,9 @@
 //! Laws of the definitions by which constructors run.
 ghost use Rattle.std.specs.Prelude.{◌≡◌, ◌∷◌, false, List, Option, true, ℕ};
 ghost use Rattle.scc_base.specs.declared.refusal.Place.{Place};
-ghost use Rattle.scc_elab_made.specs.declared.works.How.{How};
-ghost use Rattle.scc_elab_made.specs.Firsts.{begins_if, takes_first};
-ghost use Rattle.scc_elab_made.specs.Works.{Stand, chosen_of, run_at};
+ghost use Rattle.scc_elab_works.specs.Hows.{How};
+ghost use Rattle.scc_elab_works.specs.Firsts.{begins_if, takes_first};
+ghost use Rattle.scc_elab_works.specs.Works.{Stand, chosen_of, run_at};
 ghost use Rattle.scc_elab_spec.specs.Program.{Code, Count, End, Loop, Plain};
 ghost use Rattle.scc_elab_spec.specs.Worth.{Site};
 ghost use Rattle.scc_elab_spec.specs.Construct.{Making, Now, looped, ran_in, then_run};

@@ -1,29 +1,27 @@
 //! Members of an object, in declaration order, each with its initialisers.
-ghost use Rattle.std.specs.Prelude.{◌≡◌, ◌++◌, ◌∷◌, [], false, map, IfOk, Some};
+ghost use Rattle.std.specs.Prelude.{◌≡◌, ◌++◌, ◌∷◌, [], false, List, map, IfOk, slice_get, Some, ℕ};
+ghost use Rattle.std.specs.Option.{option_copied};
 ghost use Rattle.scc_semantics.specs.Location.{Member};
-ghost use Rattle.scc_elab_grown.specs.Grown.{grown_of};
 ghost use Rattle.scc_core_spec.specs.Resolved.{and_made};
-ghost use Rattle.scc_elab_made.specs.declared.works.How.TheVariants as how;
-ghost use Rattle.scc_elab_made.specs.Objects.{form_in, member_at};
-ghost use Rattle.scc_elab_made.specs.Runs.{now_of};
-ghost use Rattle.scc_elab_made.specs.Works.{Begins, anew, array_made, at_in, chosen_of, Puts, run_at, site_at};
-ghost use Rattle.scc_elab_spec.specs.Inits.{first_make as first_make_of, inits_of};
-ghost use Rattle.scc_elab_spec.specs.Made.{built, by_arguments, elements_at, grown_by, made_members};
-ghost use Rattle.scc_elab_spec.specs.Construct.{then_run};
+ghost use Rattle.scc_elab_groups.specs.Groups.{backward, Grouped};
+ghost use Rattle.scc_elab_made.specs.Objects.{direct_at, form_in, IsShut, member_at as member_there};
+ghost use Rattle.scc_elab_works.specs.declared.works.Work.{Work as Awaiting};
+ghost use Rattle.scc_elab_made.specs.Tails.{fillers_run, tails_run};
+ghost use Rattle.scc_elab_works.specs.Works.{anew, array_made, at_in, Puts, site_at};
+ghost use Rattle.scc_elab_spec.specs.Made.{built, elements_at, grown_by, made_members};
 ghost use Rattle.scc_elab_store.specs.Locations.{part_of};
+ghost use Rattle.scc_plain_tree.specs.declared.stmt.PlainStmt.{PlainStmt as Statement};
 ghost use Rattle.scc_plain_view.specs.Codes.{code_of};
 ghost use Rattle.scc_plain_view.specs.Plains.{member_of};
 ghost use Rattle.scc_plain_view.specs.Terms.{argument_of};
 
 use crate::arrays::put_array;
-use crate::locals::is_direct;
-use crate::moment::Moment;
-use crate::objects::{put_made, put_members};
-use crate::running::put_rest;
-use crate::works::{Args, At, Form, How, MembersOf, Work};
+use crate::inits::{put_fillers, put_tails};
+use crate::objects::put_made;
 use scc_base::{NoMemory, lost, push};
-use scc_elab_inits::first_make;
+use scc_elab_groups::{Groups, last_args, tails_at};
 use scc_elab_store::Part;
+use scc_elab_works::{Args, At, Form, Work, is_direct};
 use scc_plain_tree::{PlainArg, PlainMember, PlainStmt};
 use std::alloc::Global;
 
@@ -72,16 +70,15 @@ fn put_things<'t>(
 fn put_empty<'t>(
     alloc: Global,
     at: &At<'t>,
-    number: u32,
     k: &'t PlainMember,
     is_pointer: bool,
-    inits: &'t [PlainStmt],
+    tails: &[&'t [PlainStmt]],
     works: &mut Vec<Work<'t>>,
 ) -> Result<(), NoMemory>
-    ensures { Puts result works.old.items works.new.items (λ p x. anew (grown_by (then_run (anew (and_made (grown_by x) (array_made p (form_in k.now is_pointer) (record { at = at_in at.now; list = [] }) (elements_at ((at_in at.now).path ++ Member (member_of k.now).name ∷ []) (member_of k.now).shape.sizes)))) (run_at p (at_in at.now) (chosen_of (how.Of (Some number)) (code_of inits.now)))))) }
+    ensures { Puts result works.old.items works.new.items (λ p x. anew (grown_by (tails_run p (at_in at.now) (map (λ t. t.now) tails.now) (anew (and_made (grown_by x) (array_made p (form_in k.now is_pointer) (record { at = at_in at.now; list = [] }) (elements_at ((at_in at.now).path ++ Member (member_of k.now).name ∷ []) (member_of k.now).shape.sizes))))))) }
 {
     put_made(works)?;
-    put_rest(alloc, at, How::Of(Some(number)), inits, works)?;
+    put_tails(alloc, at, tails, works)?;
     put_things(alloc, at, k, is_pointer, &[], works)
 }
 
@@ -89,72 +86,113 @@ fn put_empty<'t>(
 fn put_given<'t>(
     alloc: Global,
     at: &At<'t>,
-    number: u32,
     k: &'t PlainMember,
     args: &'t [PlainArg],
-    inits: &'t [PlainStmt],
+    tails: &[&'t [PlainStmt]],
     works: &mut Vec<Work<'t>>,
 ) -> Result<(), NoMemory>
-    ensures { Puts result works.old.items works.new.items (λ p x. anew (and_made (grown_by (then_run x (run_at p (at_in at.now) (chosen_of (how.Without number) (code_of inits.now))))) (array_made p (form_in k.now false) (record { at = at_in at.now; list = map argument_of args.now }) (elements_at ((at_in at.now).path ++ Member (member_of k.now).name ∷ []) (member_of k.now).shape.sizes)))) }
+    ensures { Puts result works.old.items works.new.items (λ p x. anew (and_made (grown_by (fillers_run p (at_in at.now) (map (λ t. t.now) tails.now) (anew (grown_by x)))) (array_made p (form_in k.now false) (record { at = at_in at.now; list = map argument_of args.now }) (elements_at ((at_in at.now).path ++ Member (member_of k.now).name ∷ []) (member_of k.now).shape.sizes)))) }
 {
     put_things(alloc, at, k, false, args, works)?;
-    put_rest(alloc, at, How::Without(number), inits, works)
+    put_fillers(alloc, at, tails, works)?;
+    put_made(works)
 }
 
-fn begin_direct<'t>(
+fn put_direct<'t>(
+    alloc: Global,
     at: &At<'t>,
-    number: u32,
     k: &'t PlainMember,
-    inits: &'t [PlainStmt],
+    tails: &[&'t [PlainStmt]],
     works: &mut Vec<Work<'t>>,
-    m: &mut Moment,
 ) -> Result<(), NoMemory>
-    ensures { Begins result works.old.items works.new.items (now_of m.new) (λ p. by_arguments (built p (at_in at.now).levels) (site_at p (at_in at.now)) (member_of k.now) ((at_in at.now).path ++ Member (member_of k.now).name ∷ []) (inits_of (Some number) (code_of inits.now)) (first_make_of (inits_of (Some number) (code_of inits.now))) (grown_of m.old.grown)) }
+    ensures { (number : ℕ) (list : List Statement) → map (λ t. t.now) tails.now ≡ backward (Some number) list → Puts result works.old.items works.new.items (λ p x. anew (and_made (grown_by x) (direct_at p (at_in at.now) number (member_of k.now) (code_of list)))) }
 {
-    m.last = None;
-    match first_make(inits, number) {
-        Some(args) => put_given(m.grown.alloc, at, number, k, args, inits, works),
-        None => put_empty(m.grown.alloc, at, number, k, false, inits, works),
+    match last_args(tails) {
+        Some(args) => put_given(alloc, at, k, args, tails, works),
+        None => put_empty(alloc, at, k, false, tails, works),
     }
 }
 
-fn begin_member<'t>(
+// A member, with its initialisers.
+fn put_member<'t>(
+    alloc: Global,
     at: &At<'t>,
-    number: u32,
     k: &'t PlainMember,
-    inits: &'t [PlainStmt],
+    tails: &[&'t [PlainStmt]],
     works: &mut Vec<Work<'t>>,
-    m: &mut Moment,
 ) -> Result<(), NoMemory>
-    ensures { Begins result works.old.items works.new.items (now_of m.new) (λ p. member_at p (at_in at.now) number (member_of k.now) (code_of inits.now) (grown_of m.old.grown)) }
+    ensures { (number : ℕ) (list : List Statement) → map (λ t. t.now) tails.now ≡ backward (Some number) list → Puts result works.old.items works.new.items (λ p x. anew (and_made (grown_by x) (member_there p (at_in at.now) number (member_of k.now) (code_of list)))) }
 {
     if is_direct(k.shape.reach) {
-        begin_direct(at, number, k, inits, works, m)
+        put_direct(alloc, at, k, tails, works)
     } else {
-        m.last = None;
-        put_empty(m.grown.alloc, at, number, k, true, inits, works)
+        put_empty(alloc, at, k, true, tails, works)
     }
 }
 
-/// The next member of an object.
-pub fn next_member<'t>(
-    ms: &MembersOf<'t>,
+// The member of a number, with its initialisers.
+fn put_one<'t>(
+    alloc: Global,
+    at: &At<'t>,
+    number: u32,
+    k: &'t PlainMember,
+    groups: &Groups<'t>,
     works: &mut Vec<Work<'t>>,
-    m: &mut Moment,
 ) -> Result<(), NoMemory>
-    ensures { Begins result works.old.items works.new.items (now_of m.new) (λ p. made_members (built p ms.now.at.levels) (site_at p (at_in ms.now.at)) ms.now.next (map member_of ms.now.members.now) (code_of ms.now.inits.now) (grown_of m.old.grown)) }
+    ensures { (list : List Statement) → Grouped list groups.now → Puts result works.old.items works.new.items (λ p x. anew (and_made (grown_by x) (member_there p (at_in at.now) number (member_of k.now) (code_of list)))) }
 {
-    match ms.members {
-        [] => {
-            m.last = None;
-            Ok(())
-        }
-        [k, rest @ ..] => {
-            if ms.next == u32::MAX {
-                return Err(lost());
-            }
-            put_members(m.grown.alloc, &ms.at, ms.next + 1, rest, ms.inits, works)?;
-            begin_member(&ms.at, ms.next, k, ms.inits, works, m)
-        }
+    match tails_at(groups, number) {
+        Some(tails) => put_member(alloc, at, k, tails, works),
+        None => Err(lost()),
     }
+}
+
+fn member_at<'t>(members: &'t [PlainMember], i: usize) -> Option<&'t PlainMember>
+    ensures { option_copied result ≡ slice_get members.now i }
+{
+    members.get(i)
+}
+
+// The member of a number, and that number.
+fn numbered<'t>(members: &'t [PlainMember], i: usize) -> Result<(u32, &'t PlainMember), NoMemory>
+    ensures { IfOk result (λ m. (m.0 ≡ i) × (slice_get members.now i ≡ Some m.1.now)) }
+{
+    match u32::try_from(i) {
+        Ok(number) => match member_at(members, i) {
+            Some(k) => Ok((number, k)),
+            None => Err(lost()),
+        },
+        Err(_) => Err(lost()),
+    }
+}
+
+// The last one first, behind what makes no more of a run than what is made.
+fn put_each<'t>(
+    alloc: Global,
+    at: &At<'t>,
+    members: &'t [PlainMember],
+    groups: &Groups<'t>,
+    works: &mut Vec<Work<'t>>,
+) -> Result<(), NoMemory>
+    ensures { (list : List Statement) → Grouped list groups.now → (before : List Awaiting) → IsShut before works.old.items → Puts result before works.new.items (λ p x. anew (and_made (grown_by x) (made_members (built p (at_in at.now).levels) (site_at p (at_in at.now)) 0 (map member_of members.now) (code_of list)))) }
+{
+    for i in 0..members.len() {
+        let member = numbered(members, members.len() - 1 - i)?;
+        put_one(alloc, at, member.0, member.1, groups, works)?;
+    }
+    Ok(())
+}
+
+/// The members of an object are to be made, in order, each with its initialisers.
+pub fn put_members<'t>(
+    alloc: Global,
+    at: &At<'t>,
+    members: &'t [PlainMember],
+    groups: &Groups<'t>,
+    works: &mut Vec<Work<'t>>,
+) -> Result<(), NoMemory>
+    ensures { (list : List Statement) → Grouped list groups.now → Puts result works.old.items works.new.items (λ p x. anew (and_made (grown_by x) (made_members (built p (at_in at.now).levels) (site_at p (at_in at.now)) 0 (map member_of members.now) (code_of list)))) }
+{
+    put_made(works)?;
+    put_each(alloc, at, members, groups, works)
 }

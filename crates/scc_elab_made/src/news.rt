@@ -2,8 +2,8 @@
 ghost use Rattle.std.specs.Prelude.{◌≡◌, false, map, IfOk, Option, option_map, Some};
 ghost use Rattle.scc_elab_grown.specs.Grown.{grown_of};
 ghost use Rattle.scc_elab_made.specs.Objects.{new_made};
-ghost use Rattle.scc_elab_made.specs.Runs.{now_of};
-ghost use Rattle.scc_elab_made.specs.Works.{at_in, led, making_at, outcome, Puts, run_at, site_at, Steps};
+ghost use Rattle.scc_elab_works.specs.Runs.{now_of};
+ghost use Rattle.scc_elab_works.specs.Works.{at_in, led, making_at, outcome, Puts, run_at, site_at, Steps};
 ghost use Rattle.scc_elab_spec.specs.Construct.{ends_in_vector as ends_there, Fell, from_tried, grow, make_at, made_at};
 ghost use Rattle.scc_elab_spec.specs.Made.{grown_by};
 ghost use Rattle.scc_elab_spec.specs.Program.{End, Make};
@@ -15,14 +15,12 @@ ghost use Rattle.scc_plain_view.specs.Plains.{plain_of};
 ghost use Rattle.scc_plain_view.specs.Terms.{argument_of, left_of};
 
 use crate::arrays::make_each;
-use crate::moment::Moment;
-use crate::things::copied;
-use crate::works::{Args, At, Form, LeadOf, Work};
 use scc_base::{Code, NoMemory, Place, Stop, lost, push};
 use scc_elab_grown::Grown;
 use scc_elab_inits::{Around, ends_in_vector};
 use scc_elab_statements::{Frame, location};
 use scc_elab_store::{Location, Part};
+use scc_elab_works::{Args, At, Form, LeadOf, Moment, Work, copied};
 use scc_plain_tree::{Base, Plain, PlainArg, PlainLeft};
 
 // Where the pointer stands. Refused as E404 and E405.

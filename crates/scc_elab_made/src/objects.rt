@@ -3,24 +3,25 @@ ghost use Rattle.std.specs.Prelude.{◌≡◌, ◌-◌, length, map, IfOk, OnOk,
 ghost use Rattle.std.specs.Option.{option_copied};
 ghost use Rattle.scc_core_spec.specs.Resolved.{and_made};
 ghost use Rattle.scc_elab_grown.specs.Grown.{grown_of};
-ghost use Rattle.scc_elab_made.specs.declared.works.How.TheVariants as how;
 ghost use Rattle.scc_elab_made.specs.Objects.{object_begun, object_filled, rest_passed, stand_of};
-ghost use Rattle.scc_elab_made.specs.Runs.{now_of};
-ghost use Rattle.scc_elab_made.specs.Works.{Begins, anew, at_in, chosen_of, function_there, outcome, passed_at, passed_in, Puts, run_at, site_at, Steps};
+ghost use Rattle.scc_elab_works.specs.Runs.{now_of};
+ghost use Rattle.scc_elab_works.specs.Works.{anew, at_in, function_there, outcome, passed_at, passed_in, Puts, run_at, site_at, Steps};
 ghost use Rattle.scc_elab_spec.specs.Construct.{Fell, then_run};
+ghost use Rattle.scc_elab_spec.specs.Inits.{inits_of};
 ghost use Rattle.scc_elab_spec.specs.Made.{built, built_in, function_of as function_in, grown_by, made_members, made_one, params_given};
 ghost use Rattle.scc_elab_store.specs.Locations.{part_of};
 ghost use Rattle.scc_elab_worth.specs.Arguments.{given_in};
 ghost use Rattle.scc_plain_view.specs.Codes.{base_of, code_of};
 ghost use Rattle.scc_plain_view.specs.Plains.{class_of, member_of, plain_of};
 
-use crate::moment::Moment;
-use crate::running::{put_rest, put_run};
-use crate::things::{add_at, copied, given_at, make_thing, pass_all};
-use crate::works::{Args, At, How, MembersOf, Work};
+use crate::inits::put_tails;
+use crate::members::put_members;
+use crate::running::put_run;
 use scc_base::{Code, NoMemory, Place, Stop, push};
+use scc_elab_groups::groups_of;
 use scc_elab_grown::{Grown, Node};
 use scc_elab_store::Part;
+use scc_elab_works::{Args, At, Moment, Work, add_at, copied, given_at, make_thing, pass_all};
 use scc_elab_worth::Given;
 use scc_plain_tree::{Base, Plain, PlainClass, PlainFunction, PlainMember, PlainStmt};
 use std::alloc::Global;
@@ -65,29 +66,6 @@ pub fn put_made<'t>(works: &mut Vec<Work<'t>>) -> Result<(), NoMemory>
     push(works, Work::Made)
 }
 
-/// The members of an object's class from one on are to be made.
-pub fn put_members<'t>(
-    alloc: Global,
-    at: &At<'t>,
-    next: u32,
-    members: &'t [PlainMember],
-    inits: &'t [PlainStmt],
-    works: &mut Vec<Work<'t>>,
-) -> Result<(), NoMemory>
-    ensures { Puts result works.old.items works.new.items (λ p x. anew (and_made (grown_by x) (made_members (built p (at_in at.now).levels) (site_at p (at_in at.now)) next (map member_of members.now) (code_of inits.now)))) }
-{
-    let at = at.copied(alloc)?;
-    push(
-        works,
-        Work::Members(MembersOf {
-            at,
-            next,
-            members,
-            inits,
-        }),
-    )
-}
-
 // All that is to be done for an object.
 fn put_all<'t>(
     alloc: Global,
@@ -97,12 +75,13 @@ fn put_all<'t>(
     body: &'t [PlainStmt],
     works: &mut Vec<Work<'t>>,
 ) -> Result<(), NoMemory>
-    ensures { Puts result works.old.items works.new.items (λ p x. anew (grown_by (then_run (then_run (anew (and_made (grown_by x) (made_members (built p (at_in at.now).levels) (site_at p (at_in at.now)) 0 (map member_of members.now) (code_of inits.now)))) (run_at p (at_in at.now) (chosen_of (how.Of None) (code_of inits.now)))) (run_at p (at_in at.now) (code_of body.now))))) }
+    ensures { Puts result works.old.items works.new.items (λ p x. anew (grown_by (then_run (then_run (anew (and_made (grown_by x) (made_members (built p (at_in at.now).levels) (site_at p (at_in at.now)) 0 (map member_of members.now) (code_of inits.now)))) (run_at p (at_in at.now) (inits_of None (code_of inits.now)))) (run_at p (at_in at.now) (code_of body.now))))) }
 {
+    let groups = groups_of(alloc, inits, members.len())?;
     put_made(works)?;
     put_run(alloc, at, body, works)?;
-    put_rest(alloc, at, How::Of(None), inits, works)?;
-    put_members(alloc, at, 0, members, inits, works)
+    put_tails(alloc, at, groups.none.tails.as_slice(), works)?;
+    put_members(alloc, at, members, &groups, works)
 }
 
 fn put_object<'t>(

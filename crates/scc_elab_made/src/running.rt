@@ -1,12 +1,14 @@
 //! Statements of constructors, one after another.
-ghost use Rattle.std.specs.Prelude.{◌≡◌, ◌≤◌, IfOk, length, map, OnOk, Option, take};
+ghost use Rattle.std.specs.Prelude.{◌≡◌, length, map, OnOk, Option, slice_get};
+ghost use Rattle.std.specs.Option.{option_copied};
 ghost use Rattle.scc_elab_store.specs.Locations.{part_of};
 ghost use Rattle.scc_elab_grown.specs.Grown.{grown_of};
-ghost use Rattle.scc_elab_made.specs.Firsts.{IsParts, takes_first};
+ghost use Rattle.scc_elab_works.specs.Firsts.{IsParts};
+ghost use Rattle.scc_elab_made.specs.Goes.{Goes};
 ghost use Rattle.scc_elab_made.specs.Passings.{passing_of};
-ghost use Rattle.scc_elab_made.specs.Runs.{now_of};
-ghost use Rattle.scc_elab_made.specs.Works.{at_in, chosen_of, Leaves, led, making_at, outcome, Puts, run_at, site_at, Steps, tested_in, through, turns_of, turn_of};
-ghost use Rattle.scc_elab_made.specs.declared.works.Work.TheVariants as work;
+ghost use Rattle.scc_elab_works.specs.Runs.{now_of};
+ghost use Rattle.scc_elab_works.specs.Works.{at_in, Leaves, led, making_at, outcome, Puts, run_at, site_at, Steps, tested_in, through, turns_of, turn_of};
+ghost use Rattle.scc_elab_works.specs.declared.works.Work.TheVariants as work;
 ghost use Rattle.scc_elab_spec.specs.Construct.{Fell, Left_out, ran_in, shut, then_run};
 ghost use Rattle.scc_elab_spec.specs.Program.{Count, End, Loop};
 ghost use Rattle.scc_plain_view.specs.Codes.{code_of, stmt_code};
@@ -14,24 +16,20 @@ ghost use Rattle.scc_plain_view.specs.Plains.{plain_of};
 ghost use Rattle.scc_plain_view.specs.Terms.{term_of};
 
 use crate::arrays::{begin_array, next_of_array};
-use crate::inits::{is_if, makes_first};
-use crate::members::next_member;
-use crate::moment::Moment;
 use crate::news::make_new;
-use crate::places::{simple_at, value_at};
 use crate::vectors::next_of_vector;
-use crate::works::{At, How, LeadOf, LoopOf, RunOf, Work};
 use scc_base::{Code, NoMemory, Place, Stop, lost, push};
-use scc_elab_inits::{belongs, is_make, owner_of};
+use scc_elab_groups::{first_alone, from};
+use scc_elab_inits::is_make;
 use scc_elab_store::Location;
+use scc_elab_works::{At, LeadOf, LoopOf, Moment, RunOf, Work, is_if, simple_at, value_at};
 use scc_plain_tree::{Plain, PlainExpr, PlainNode, PlainStmt};
 use std::alloc::Global;
 
 // One more than there may be in all.
 const MOST_TURNS: u32 = 65_537;
 
-/// All of some statements are to be run.
-pub fn put_run<'t>(
+fn put_some<'t>(
     alloc: Global,
     at: &At<'t>,
     list: &'t [PlainStmt],
@@ -40,14 +38,22 @@ pub fn put_run<'t>(
     ensures { Puts result works.old.items works.new.items (λ p x. then_run x (run_at p (at_in at.now) (code_of list.now))) }
 {
     let at = at.copied(alloc)?;
-    push(
-        works,
-        Work::Run(RunOf {
-            at,
-            how: How::All,
-            list,
-        }),
-    )
+    push(works, Work::Run(RunOf { at, list }))
+}
+
+/// All of some statements are to be run; where there are none, nothing more is to be done.
+pub fn put_run<'t>(
+    alloc: Global,
+    at: &At<'t>,
+    list: &'t [PlainStmt],
+    works: &mut Vec<Work<'t>>,
+) -> Result<(), NoMemory>
+    ensures { Puts result works.old.items works.new.items (λ p x. then_run x (run_at p (at_in at.now) (code_of list.now))) }
+{
+    match list {
+        [] => Ok(()),
+        [_s, _rest @ ..] => put_some(alloc, at, list, works),
+    }
 }
 
 // One of two branches.
@@ -89,13 +95,6 @@ fn begin_block<'t>(
 pub struct LoopParts<'t> {
     pub test: &'t [PlainStmt],
     pub turn: &'t [PlainStmt],
-}
-
-fn first_alone(list: &[PlainStmt]) -> &[PlainStmt]
-    requires { 1 ≤ length list.now }
-    ensures { result.now ≡ take 1 list.now }
-{
-    &list[..1]
 }
 
 // A loop whose body begins with an `if` tests by it.
@@ -210,7 +209,6 @@ fn kind_of(w: &Work) -> Passing
         Work::Turn(_) => Passing::Left,
         Work::Shut => Passing::Shut,
         Work::Lead(_) => Passing::Stays,
-        Work::Members(_) => Passing::Stays,
         Work::Array(_) => Passing::Stays,
         Work::Elements(_) => Passing::Stays,
         Work::Vector(_) => Passing::Stays,
@@ -239,20 +237,6 @@ fn leave<'t>(p: &Plain, works: &mut Vec<Work<'t>>, m: &Moment, depth: u32) -> Re
         }
     }
     Err(Stop::from(lost()))
-}
-
-/// Those of some statements are to be run that are meant.
-pub fn put_rest<'t>(
-    alloc: Global,
-    at: &At<'t>,
-    how: How,
-    list: &'t [PlainStmt],
-    works: &mut Vec<Work<'t>>,
-) -> Result<(), NoMemory>
-    ensures { Puts result works.old.items works.new.items (λ p x. then_run x (run_at p (at_in at.now) (chosen_of how (code_of list.now)))) }
-{
-    let at = at.copied(alloc)?;
-    push(works, Work::Run(RunOf { at, how, list }))
 }
 
 // Whether a statement holds others or makes objects.
@@ -338,14 +322,46 @@ fn statement<'t>(
     }
 }
 
-// Whether the first of some statements is run.
-fn takes(how: How, list: &[PlainStmt]) -> bool
-    ensures { result ≡ takes_first how (code_of list.now) }
+fn statement_at(list: &[PlainStmt], i: usize) -> Option<&PlainStmt>
+    ensures { option_copied result ≡ slice_get list.now i }
 {
-    match how {
-        How::All => true,
-        How::Of(member) => belongs(member, owner_of(list)),
-        How::Without(member) => belongs(Some(member), owner_of(list)) && !makes_first(list),
+    list.get(i)
+}
+
+// Statements that hold no others and make no objects run one after another, up to one that doesn't: how many they are.
+fn run_simple(p: &Plain, at: &At, list: &[PlainStmt], m: &mut Moment) -> Result<usize, Stop>
+    ensures { Goes (plain_of p.now) (at_in at.now) list.now (now_of m.old) (now_of m.new) result }
+{
+    for i in 0..list.len() {
+        let Some(s) = statement_at(list, i) else {
+            return Err(Stop::from(lost()));
+        };
+        if is_nested(s) {
+            return Ok(i);
+        }
+        if let Err(stop) = simple_at(p, at, m, s, MOST_TURNS) {
+            return Err(stop);
+        }
+    }
+    Ok(list.len())
+}
+
+// The first of some statements, behind which the others come.
+fn put_first<'t>(
+    p: &'t Plain,
+    at: &At<'t>,
+    list: &'t [PlainStmt],
+    works: &mut Vec<Work<'t>>,
+    m: &mut Moment,
+) -> Result<(), Stop>
+    ensures { Steps (plain_of p.now) result works.new.items (now_of m.new) (outcome (plain_of p.now) works.old.items (run_at (plain_of p.now) (at_in at.now) (code_of list.now) (now_of m.old))) }
+{
+    match list {
+        [] => Ok(()),
+        [s, rest @ ..] => {
+            put_run(m.grown.alloc, at, rest, works)?;
+            statement(p, at, s, works, m)
+        }
     }
 }
 
@@ -355,19 +371,11 @@ fn next_statement<'t>(
     works: &mut Vec<Work<'t>>,
     m: &mut Moment,
 ) -> Result<(), Stop>
-    ensures { Steps (plain_of p.now) result works.new.items (now_of m.new) (outcome (plain_of p.now) works.old.items (run_at (plain_of p.now) (at_in r.now.at) (chosen_of r.now.how (code_of r.now.list.now)) (now_of m.old))) }
+    ensures { Steps (plain_of p.now) result works.new.items (now_of m.new) (outcome (plain_of p.now) works.old.items (run_at (plain_of p.now) (at_in r.now.at) (code_of r.now.list.now) (now_of m.old))) }
 {
-    match r.list {
-        [] => Ok(()),
-        [s, rest @ ..] => {
-            let taken = takes(r.how, r.list);
-            put_rest(m.grown.alloc, &r.at, r.how, rest, works)?;
-            if taken {
-                statement(p, &r.at, s, works, m)
-            } else {
-                Ok(())
-            }
-        }
+    match run_simple(p, &r.at, r.list, m) {
+        Ok(k) => put_first(p, &r.at, from(r.list, k), works, m),
+        Err(stop) => Err(stop),
     }
 }
 
@@ -397,7 +405,6 @@ fn step<'t>(
         Work::Again(l) => again(p, l, works, m),
         Work::Turn(l) => turn(p, l, works, m),
         Work::Lead(l) => Ok(lead(l, m)?),
-        Work::Members(ms) => Ok(next_member(ms, works, m)?),
         Work::Array(a) => begin_array(p, a, works, m),
         Work::Elements(e) => next_of_array(p, e, works, m),
         Work::Vector(v) => next_of_vector(p, v, works, m),

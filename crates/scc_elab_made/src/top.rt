@@ -1,15 +1,14 @@
 //! The run of the top's constructor.
 ghost use Rattle.std.specs.Prelude.{◌≡◌, []};
 ghost use Rattle.scc_elab_grown.specs.Grown.{grown_of};
-ghost use Rattle.scc_elab_made.specs.Works.{Leaves};
+ghost use Rattle.scc_elab_works.specs.Works.{Leaves};
 ghost use Rattle.scc_elab_spec.specs.Made.{built, none_given};
 ghost use Rattle.scc_plain_view.specs.Plains.{plain_of};
 
-use crate::moment::Moment;
 use crate::objects::make_object;
 use crate::running::run;
-use crate::works::{Args, At};
 use scc_base::{Place, Stop};
+use scc_elab_works::{Args, At, Moment};
 use scc_plain_tree::Plain;
 
 /// Makes the top and all that its constructor makes, with constructors at most so deep in one another. Refused as E402 to E406 and

@@ -1,17 +1,14 @@
 //! Vectors, element by element.
 ghost use Rattle.std.specs.Prelude.{◌≡◌};
 ghost use Rattle.scc_elab_grown.specs.Grown.{grown_of};
-ghost use Rattle.scc_elab_made.specs.Given.{element_made, vector_left};
-ghost use Rattle.scc_elab_made.specs.Runs.{now_of};
-ghost use Rattle.scc_elab_made.specs.Works.{anew, outcome, Steps};
+ghost use Rattle.scc_elab_works.specs.Given.{element_made, vector_left};
+ghost use Rattle.scc_elab_works.specs.Runs.{now_of};
+ghost use Rattle.scc_elab_works.specs.Works.{anew, outcome, Steps};
 ghost use Rattle.scc_plain_view.specs.Plains.{plain_of};
 
-use crate::elements::element_of;
-use crate::moment::Moment;
 use crate::objects::make_base;
-use crate::things::copied;
-use crate::works::{Args, At, VectorOf, Work};
 use scc_base::{Stop, lost, push};
+use scc_elab_works::{Args, At, Moment, VectorOf, Work, copied, element_of};
 use scc_plain_tree::Plain;
 
 // An element of a vector, without arguments.

@@ -2,11 +2,11 @@ use Rattle.std.proofs.Common.{◌≡◌, refl, sym, ap, subst, ◌∙◌, ◌+�
 use Rattle.scc_plain_view.specs.Plains.{plain_of}
 use Rattle.scc_elab_store.specs.Locations.{part_of}
 use Rattle.scc_elab_grown.specs.Grown.{grown_of}
-use Rattle.scc_elab_made.specs.Runs.{now_of}
-use Rattle.scc_elab_made.specs.Works.{passed_in, outcome, anew, each_made, array_made}
+use Rattle.scc_elab_works.specs.Runs.{now_of}
+use Rattle.scc_elab_works.specs.Works.{passed_in, outcome, anew, each_made, array_made}
 use Rattle.scc_elab_spec.specs.Made.{elements_at}
 use Rattle.scc_elab_made.proofs.Making.{array_one, array_rows}
-use Rattle.scc_elab_made.proofs.Rows.{empty_is, first_is}
+use Rattle.scc_elab_works.proofs.Rows.{empty_is, first_is}
 use Rattle.scc_elab_made.proofs.Stepping.{steps_to}
 use Rattle.scc_elab_made.proofs.arrays.begin_array.Goals as goal
 

@@ -2,11 +2,11 @@ use Rattle.scc_elab_worth.specs.declared.args.Given.{Given}
 use Rattle.std.proofs.Common.{◌≡◌, refl, sym, ap, subst, ◌∙◌, ◌+◌, ◌-◌, length, take, drop, map, Vec, Global, true, false, None, Some, [], ◌∷◌, ◌++◌, List}
 use Rattle.scc_plain_view.specs.Plains.{plain_of}
 use Rattle.scc_elab_store.specs.Locations.{part_of}
-use Rattle.scc_elab_made.specs.Runs.{now_of}
+use Rattle.scc_elab_works.specs.Runs.{now_of}
 use Rattle.scc_elab_grown.specs.Grown.{grown_of}
 use Rattle.scc_plain_view.specs.Codes.{base_of}
 use Rattle.scc_elab_spec.specs.Made.{built, made_vector, last_word}
-use Rattle.scc_elab_made.specs.Works.{passed_in, passed_at}
+use Rattle.scc_elab_works.specs.Works.{passed_in, passed_at}
 use Rattle.scc_elab_made.proofs.Making.{given_stops}
 use Rattle.scc_elab_made.proofs.arrays.begin_vector.Goals as goal
 

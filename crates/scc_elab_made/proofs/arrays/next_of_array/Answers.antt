@@ -1,8 +1,8 @@
 use Rattle.std.proofs.Common.{◌≡◌, refl, sym, ap, subst, ◌∙◌, ◌+◌, ◌-◌, length, take, drop, map, true, false, None, Some, [], ◌∷◌, ◌++◌, List}
 use Rattle.scc_plain_view.specs.Plains.{plain_of}
 use Rattle.scc_elab_store.specs.Locations.{part_of}
-use Rattle.scc_elab_made.specs.Runs.{now_of}
-use Rattle.scc_elab_made.specs.Works.{passed_in}
+use Rattle.scc_elab_works.specs.Runs.{now_of}
+use Rattle.scc_elab_works.specs.Works.{passed_in}
 use Rattle.scc_elab_made.proofs.Making.{rows_go}
 use Rattle.scc_elab_made.proofs.Stepping.{one_less}
 use Rattle.scc_elab_made.proofs.arrays.next_of_array.Goals as goal

@@ -1,6 +1,6 @@
 use Rattle.std.proofs.Common.{◌≡◌, refl, sym, ap, subst, ◌∙◌, ◌+◌, ◌-◌, length, take, drop, map, true, false, None, Some, [], ◌∷◌, ◌++◌, List}
 use Rattle.scc_elab_store.specs.Locations.{part_of}
-use Rattle.scc_elab_made.specs.Works.{passed_in}
+use Rattle.scc_elab_works.specs.Works.{passed_in}
 use Rattle.scc_elab_made.proofs.Making.{elements_put}
 use Rattle.scc_elab_made.proofs.arrays.put_elements.Goals as goal
 

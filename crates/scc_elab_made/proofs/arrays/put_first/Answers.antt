@@ -2,7 +2,7 @@ use Rattle.std.proofs.Common.{◌≡◌, refl, sym, ap, subst, ◌∙◌, ◌+�
 use Rattle.scc_elab_store.specs.Locations.{part_of}
 use Rattle.scc_semantics.specs.Location.{Element}
 use Rattle.scc_elab_spec.specs.Made.{elements_at}
-use Rattle.scc_elab_made.specs.Works.{passed_in}
+use Rattle.scc_elab_works.specs.Works.{passed_in}
 use Rattle.scc_elab_made.proofs.Making.{things_as}
 use Rattle.scc_elab_made.proofs.arrays.put_first.Goals as goal
 

@@ -1,4 +1,4 @@
-use Rattle.scc_elab_made.proofs.Leading.{stmt_leads}
+use Rattle.scc_elab_works.proofs.Leading.{stmt_leads}
 use Rattle.scc_elab_made.proofs.laws.statements_run_in_order.Goals as goal
 
 pub returns : goal.returns

@@ -1,17 +1,16 @@
-use Rattle.std.proofs.Common.{◌≡◌, refl, sym, ap, subst, ◌∙◌, ◌+◌, ◌-◌, length, take, drop, map, true, false, None, Some, [], ◌∷◌, ◌++◌, List}
-use Rattle.scc_elab_spec.specs.Construct.{then_run}
+use Rattle.std.proofs.Common.{map, [], ◌∷◌, ◌++◌}
 use Rattle.scc_elab_spec.specs.Made.{grown_by, elements_at}
 use Rattle.scc_core_spec.specs.Resolved.{and_made}
-use Rattle.scc_plain_view.specs.Codes.{code_of}
 use Rattle.scc_plain_view.specs.Plains.{member_of}
-use Rattle.scc_elab_made.specs.Works.{at_in, anew, run_at, chosen_of, array_made}
+use Rattle.scc_elab_works.specs.Works.{at_in, anew, array_made}
 use Rattle.scc_elab_made.specs.Objects.{form_in}
+use Rattle.scc_elab_made.specs.Tails.{tails_run}
 use Rattle.scc_semantics.specs.Location.{Member}
-use Rattle.scc_elab_made.specs.declared.works.How.TheVariants as how
+use Rattle.std.proofs.Common.{◌∙◌}
 use Rattle.scc_elab_made.proofs.Making.{puts_after}
 use Rattle.scc_elab_made.proofs.members.put_empty.Goals as goal
 
 pub returns : goal.returns
-returns c = puts_after c.put_things.result c.args.works.now.items c.put_rest.new.works.items c.put_things.new.works.items (λ p x. anew (grown_by (then_run x (run_at p (at_in c.args.at.now) (chosen_of (how.Of (Some c.args.number)) (code_of c.args.inits.now))))))
+returns c = puts_after c.put_things.result c.args.works.now.items c.put_tails.new.works.items c.put_things.new.works.items (λ p x. anew (grown_by (tails_run p (at_in c.args.at.now) (map (λ t. t.now) c.args.tails.now) x)))
     (λ p x. anew (and_made (grown_by x) (array_made p (form_in c.args.k.now c.args.is_pointer) (record { at = at_in c.args.at.now; list = [] }) (elements_at ((at_in c.args.at.now).path ++ Member (member_of c.args.k.now).name ∷ []) (member_of c.args.k.now).shape.sizes))))
-    (λ p x. c.in_ok-put_rest.ensures p x ∙ c.in_ok-put_made.ensures p (then_run x (run_at p (at_in c.args.at.now) (chosen_of (how.Of (Some c.args.number)) (code_of c.args.inits.now))))) c.put_things.ensures
+    (λ p x. c.in_ok-put_tails.ensures p x ∙ c.in_ok-put_made.ensures p (tails_run p (at_in c.args.at.now) (map (λ t. t.now) c.args.tails.now) x)) c.put_things.ensures

@@ -4,7 +4,7 @@ use Rattle.std.proofs.Common.{◌≡◌, refl, sym, ap, subst, ◌∙◌, ◌+�
 use Rattle.scc_elab_store.specs.Locations.{part_of}
 use Rattle.scc_elab_spec.specs.Made.{elements_at}
 use Rattle.scc_plain_view.specs.Plains.{member_of}
-use Rattle.scc_elab_made.specs.Works.{at_in, passed_in}
+use Rattle.scc_elab_works.specs.Works.{at_in, passed_in}
 use Rattle.scc_elab_made.specs.Objects.{form_in}
 use Rattle.scc_elab_made.proofs.Making.{things_as}
 use Rattle.scc_elab_made.proofs.members.put_things.Goals as goal

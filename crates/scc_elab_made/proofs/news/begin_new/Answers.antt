@@ -4,9 +4,9 @@ use Rattle.std.proofs.Common.{◌≡◌, refl, sym, ap, subst, ◌∙◌, ◌+�
 use Rattle.scc_plain_view.specs.Plains.{plain_of}
 use Rattle.scc_elab_store.specs.Locations.{part_of}
 use Rattle.scc_elab_grown.specs.Grown.{grown_of}
-use Rattle.scc_elab_made.specs.Runs.{now_of}
+use Rattle.scc_elab_works.specs.Runs.{now_of}
 use Rattle.scc_plain_view.specs.Terms.{argument_of}
-use Rattle.scc_elab_made.specs.Works.{at_in, outcome, anew, each_made, led}
+use Rattle.scc_elab_works.specs.Works.{at_in, outcome, anew, each_made, led}
 use Rattle.scc_elab_made.specs.Objects.{new_made}
 use Rattle.scc_elab_spec.specs.Construct.{from_tried, Fell}
 use Rattle.scc_elab_made.proofs.Leadings.{new_goes}

@@ -5,14 +5,14 @@ use Rattle.scc_elab_spec.specs.Worth.{at_now}
 use Rattle.scc_elab_store.specs.Locations.{location_of}
 use Rattle.scc_plain_view.specs.Codes.{base_of}
 use Rattle.scc_plain_view.specs.Terms.{left_of}
-use Rattle.scc_elab_made.specs.declared.works.Form.{Form}
+use Rattle.scc_elab_works.specs.declared.works.Form.{Form}
 use Rattle.scc_elab_made.proofs.Stepping.{steps_to}
 use Rattle.std.proofs.Common.{◌≡◌, refl, sym, ap, subst, ◌∙◌, ◌+◌, ◌-◌, length, take, drop, map, option_map, true, false, None, Some, [], ◌∷◌, ◌++◌, List}
 use Rattle.scc_plain_view.specs.Plains.{plain_of}
 use Rattle.scc_elab_grown.specs.Grown.{grown_of}
-use Rattle.scc_elab_made.specs.Runs.{now_of}
+use Rattle.scc_elab_works.specs.Runs.{now_of}
 use Rattle.scc_plain_view.specs.Terms.{argument_of}
-use Rattle.scc_elab_made.specs.Works.{at_in, making_at, outcome, run_at, site_at}
+use Rattle.scc_elab_works.specs.Works.{at_in, making_at, outcome, run_at, site_at}
 use Rattle.scc_elab_made.proofs.Leadings.{made_new, new_stops}
 use Rattle.scc_elab_made.proofs.news.make_new.Goals as goal
 

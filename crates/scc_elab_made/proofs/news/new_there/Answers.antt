@@ -10,9 +10,9 @@ use Rattle.scc_elab_made.proofs.Stepping.{steps_refused, steps_to}
 use Rattle.std.proofs.Common.{◌≡◌, refl, sym, ap, subst, ◌∙◌, ◌+◌, ◌-◌, length, take, drop, map, is_some, true, false, None, Some, [], ◌∷◌, ◌++◌, List}
 use Rattle.scc_plain_view.specs.Plains.{plain_of}
 use Rattle.scc_elab_grown.specs.Grown.{grown_of}
-use Rattle.scc_elab_made.specs.Runs.{now_of}
+use Rattle.scc_elab_works.specs.Runs.{now_of}
 use Rattle.scc_plain_view.specs.Terms.{argument_of}
-use Rattle.scc_elab_made.specs.Works.{at_in, led, making_at, outcome, site_at}
+use Rattle.scc_elab_works.specs.Works.{at_in, led, making_at, outcome, site_at}
 use Rattle.scc_elab_made.proofs.Leadings.{local_new, new_twice, new_begins}
 use Rattle.scc_elab_made.proofs.news.new_there.Goals as goal
 

@@ -4,8 +4,8 @@ use Rattle.scc_plain_view.specs.Plains.{plain_of, class_of}
 use Rattle.scc_elab_store.specs.Locations.{part_of}
 use Rattle.scc_elab_grown.specs.Grown.{grown_of}
 use Rattle.scc_elab_worth.specs.Arguments.{given_in}
-use Rattle.scc_elab_made.specs.Runs.{now_of}
-use Rattle.scc_elab_made.specs.Works.{at_in, function_there}
+use Rattle.scc_elab_works.specs.Runs.{now_of}
+use Rattle.scc_elab_works.specs.Works.{at_in, function_there}
 use Rattle.scc_elab_made.proofs.Making.{object_begins}
 use Rattle.scc_elab_made.proofs.objects.begin_members.Goals as goal
 

@@ -1,12 +1,12 @@
 use Rattle.std.proofs.Common.{◌≡◌, refl, sym, ap, subst, ◌∙◌, ◌+◌, ◌-◌, length, take, drop, map, true, false, None, Some, [], ◌∷◌, ◌++◌, List}
 use Rattle.scc_plain_view.specs.Plains.{plain_of, class_of}
 use Rattle.scc_elab_store.specs.Locations.{part_of}
-use Rattle.scc_elab_made.specs.Runs.{now_of}
+use Rattle.scc_elab_works.specs.Runs.{now_of}
 use Rattle.scc_elab_grown.specs.Grown.{grown_of}
 use Rattle.scc_elab_spec.specs.Grown.{added}
 use Rattle.scc_elab_spec.specs.Made.{built, built_in}
 use Rattle.scc_core_spec.specs.Resolved.{and_made}
-use Rattle.scc_elab_made.specs.Works.{passed_in, passed_at, outcome, anew}
+use Rattle.scc_elab_works.specs.Works.{passed_in, passed_at, outcome, anew}
 use Rattle.scc_elab_made.specs.Objects.{object_filled}
 use Rattle.scc_elab_spec.specs.Design as design
 use Rattle.scc_elab_made.proofs.Making.{filled_is, grows_stops, stopped_as}

@@ -5,8 +5,8 @@ use Rattle.std.proofs.Common.{◌≡◌, refl, sym, ap, subst, ◌∙◌, ◌+�
 use Rattle.scc_plain_view.specs.Plains.{plain_of}
 use Rattle.scc_elab_store.specs.Locations.{part_of}
 use Rattle.scc_elab_grown.specs.Grown.{grown_of}
-use Rattle.scc_elab_made.specs.Runs.{now_of}
-use Rattle.scc_elab_made.specs.Works.{passed_in, passed_at, outcome, anew}
+use Rattle.scc_elab_works.specs.Runs.{now_of}
+use Rattle.scc_elab_works.specs.Works.{passed_in, passed_at, outcome, anew}
 use Rattle.scc_base.specs.declared.code.Code.TheVariants as reason
 use Rattle.scc_core_spec.specs.First.{refused}
 use Rattle.scc_elab_made.proofs.Making.{built_zero, built_some, built_none}

@@ -4,7 +4,7 @@ use Rattle.scc_elab_grown.specs.Grown.{grown_of}
 use Rattle.scc_elab_store.specs.Locations.{part_of}
 use Rattle.scc_plain_view.specs.Codes.{base_of}
 use Rattle.scc_elab_spec.specs.Made.{made_one, built}
-use Rattle.scc_elab_made.specs.Works.{passed_in, passed_at}
+use Rattle.scc_elab_works.specs.Works.{passed_in, passed_at}
 use Rattle.scc_elab_made.proofs.Making.{grows_anew}
 use Rattle.scc_elab_made.proofs.objects.make_plain.Goals as goal
 

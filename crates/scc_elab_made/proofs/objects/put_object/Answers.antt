@@ -3,7 +3,7 @@ use Rattle.scc_elab_spec.specs.Program.{End}
 use Rattle.std.proofs.Common.{◌≡◌, refl, sym, ap, subst, ◌∙◌, ◌+◌, ◌-◌, length, take, drop, map, true, false, None, Some, [], ◌∷◌, ◌++◌, List}
 use Rattle.scc_plain_view.specs.Codes.{code_of}
 use Rattle.scc_plain_view.specs.Plains.{member_of, function_of}
-use Rattle.scc_elab_made.specs.Works.{at_in, function_there}
+use Rattle.scc_elab_works.specs.Works.{at_in, function_there}
 use Rattle.scc_elab_made.proofs.Making.{object_put}
 use Rattle.scc_elab_made.proofs.objects.put_object.Goals as goal
 

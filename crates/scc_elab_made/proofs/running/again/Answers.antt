@@ -1,8 +1,8 @@
 use Rattle.std.proofs.Common.{refl, ◌-◌}
 use Rattle.scc_base.specs.declared.code.Code.TheVariants as reason
 use Rattle.scc_core_spec.specs.First.{refused}
-use Rattle.scc_elab_made.specs.Runs.{now_of}
-use Rattle.scc_elab_made.specs.Works.{outcome, turns_of}
+use Rattle.scc_elab_works.specs.Runs.{now_of}
+use Rattle.scc_elab_works.specs.Works.{outcome, turns_of}
 use Rattle.scc_plain_view.specs.Plains.{plain_of}
 use Rattle.scc_elab_made.proofs.Stepping.{again_none, again_goes, steps_refused, one_less}
 use Rattle.scc_elab_made.proofs.running.again.Goals as goal

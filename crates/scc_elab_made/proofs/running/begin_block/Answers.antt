@@ -1,6 +1,6 @@
 use Rattle.scc_elab_spec.specs.Construct.{then_run}
-use Rattle.scc_elab_made.specs.declared.works.Work.TheVariants as work
-use Rattle.scc_elab_made.specs.Works.{at_in, run_at}
+use Rattle.scc_elab_works.specs.declared.works.Work.TheVariants as work
+use Rattle.scc_elab_works.specs.Works.{at_in, run_at}
 use Rattle.scc_plain_view.specs.Codes.{code_of}
 use Rattle.scc_elab_made.proofs.Stepping.{puts_over}
 use Rattle.scc_elab_made.proofs.running.begin_block.Goals as goal

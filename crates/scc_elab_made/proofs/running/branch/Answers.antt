@@ -1,6 +1,6 @@
 use Rattle.scc_elab_grown.specs.Grown.{grown_of}
-use Rattle.scc_elab_made.specs.Runs.{now_of}
-use Rattle.scc_elab_made.specs.Works.{at_in, run_at, site_at}
+use Rattle.scc_elab_works.specs.Runs.{now_of}
+use Rattle.scc_elab_works.specs.Works.{at_in, run_at, site_at}
 use Rattle.scc_elab_spec.specs.Construct.{choose_of}
 use Rattle.scc_elab_spec.specs.Worth.{at_now}
 use Rattle.scc_plain_view.specs.Codes.{code_of}

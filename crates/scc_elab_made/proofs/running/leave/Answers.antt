@@ -1,6 +1,6 @@
 use Rattle.scc_elab_spec.specs.Construct.{Left_out}
-use Rattle.scc_elab_made.specs.Runs.{now_of}
-use Rattle.scc_elab_made.specs.Works.{outcome}
+use Rattle.scc_elab_works.specs.Runs.{now_of}
+use Rattle.scc_elab_works.specs.Works.{outcome}
 use Rattle.scc_plain_view.specs.Plains.{plain_of}
 use Rattle.scc_elab_made.proofs.Stepping.{leave_left, leave_shut, leave_on, leave_stays}
 use Rattle.scc_elab_made.proofs.running.leave.Goals.{in-Left, in-Shut+else-left-eq0}

@@ -1,7 +1,7 @@
 use Rattle.std.proofs.Common.{◌≡◌}
 use Rattle.scc_elab_spec.specs.Construct.{Left_out}
-use Rattle.scc_elab_made.specs.Runs.{now_of}
-use Rattle.scc_elab_made.specs.Works.{outcome}
+use Rattle.scc_elab_works.specs.Runs.{now_of}
+use Rattle.scc_elab_works.specs.Works.{outcome}
 use Rattle.scc_plain_view.specs.Plains.{plain_of}
 use Rattle.scc_elab_made.proofs.running.leave.Given as goal
 

@@ -4,11 +4,11 @@ use Rattle.scc_plain_view.specs.Codes.{base_of}
 use Rattle.scc_plain_view.specs.Terms.{argument_of, left_of}
 use Rattle.std.proofs.Common.{◌≡◌, refl, sym, ap, subst, ◌∙◌, ◌+◌, ◌-◌, length, take, drop, map, true, false, None, Some, [], ◌∷◌, ◌++◌, List}
 use Rattle.scc_plain_view.specs.Plains.{plain_of}
-use Rattle.scc_elab_made.specs.Runs.{now_of}
+use Rattle.scc_elab_works.specs.Runs.{now_of}
 use Rattle.scc_elab_spec.specs.Program.{End}
-use Rattle.scc_elab_made.specs.Works.{at_in, Steps, outcome, run_at}
+use Rattle.scc_elab_works.specs.Works.{at_in, Steps, outcome, run_at}
 use Rattle.scc_elab_spec.specs.Program.{Code}
-use Rattle.scc_elab_made.proofs.Nodes.{make_is}
+use Rattle.scc_elab_works.proofs.Nodes.{make_is}
 use Rattle.scc_elab_made.proofs.running.maker.Goals as goal
 
 pub returns-in-Make : goal.returns-in-Make

@@ -1,6 +1,6 @@
 use Rattle.scc_elab_spec.specs.Program.{End}
-use Rattle.scc_elab_made.specs.Runs.{now_of}
-use Rattle.scc_elab_made.specs.Works.{at_in, chosen_of, outcome, run_at, Steps, tested_in, through}
+use Rattle.scc_elab_works.specs.Runs.{now_of}
+use Rattle.scc_elab_works.specs.Works.{at_in, chosen_of, outcome, run_at, Steps, tested_in, through}
 use Rattle.scc_elab_spec.specs.Construct.{Fell}
 use Rattle.scc_elab_grown.specs.Grown.{grown_of}
 use Rattle.scc_plain_view.specs.Codes.{code_of, stmt_code}

@@ -1,6 +1,6 @@
 use Rattle.std.proofs.Common.{length, take, drop, ◌-◌, refl, sym, ◌∙◌}
 use Rattle.scc_elab_made.proofs.Picking.{parts_none, parts_tested, parts_whole}
-use Rattle.scc_elab_made.proofs.Rows.{empty_is, slice_is}
+use Rattle.scc_elab_works.proofs.Rows.{empty_is, slice_is}
 use Rattle.scc_elab_made.proofs.running.parts_of.Goals as goal
 
 pub returns-in-empty : goal.returns-in-empty

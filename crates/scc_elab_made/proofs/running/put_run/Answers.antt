@@ -1,5 +1,7 @@
-use Rattle.scc_elab_made.proofs.Stepping.{puts_run}
+use Rattle.scc_elab_works.specs.Works.{at_in}
+use Rattle.scc_elab_works.proofs.Rows.{empty_is}
+use Rattle.scc_elab_made.proofs.Going.{puts_none}
 use Rattle.scc_elab_made.proofs.running.put_run.Goals as goal
 
-pub returns : goal.returns
-returns c = puts_run c.push.result c.args.works.now.items c.push.new.items.items c.in_ok-at.at c.args.at.now c.args.list c.push.ensures.ok c.in_ok-at.ensures
+pub returns-in-empty : goal.returns-in-empty
+returns-in-empty c = λ p x. puts_none c.args.works.now.items (at_in c.args.at.now) c.args.list.now (empty_is c.args.list.now c.in-empty.len_below) p x

@@ -1,13 +1,13 @@
 use Rattle.scc_elab_spec.specs.Program.{End}
-use Rattle.scc_elab_made.specs.Runs.{now_of}
-use Rattle.scc_elab_made.specs.Works.{at_in, chosen_of, outcome, run_at, Steps, tested_in, through}
+use Rattle.scc_elab_works.specs.Runs.{now_of}
+use Rattle.scc_elab_works.specs.Works.{at_in, chosen_of, outcome, run_at, Steps, tested_in, through}
 use Rattle.scc_elab_spec.specs.Construct.{Fell}
 use Rattle.scc_elab_grown.specs.Grown.{grown_of}
 use Rattle.scc_plain_view.specs.Codes.{code_of, stmt_code}
 use Rattle.scc_plain_view.specs.Plains.{plain_of}
 use Rattle.scc_plain_view.specs.Terms.{term_of}
 use Rattle.std.proofs.Common.{sym, subst, refl}
-use Rattle.scc_elab_made.specs.declared.works.Work.{Work}
+use Rattle.scc_elab_works.specs.declared.works.Work.{Work}
 use Rattle.scc_elab_made.proofs.running.step.Goals as goal
 
 pub returns-in-Run : goal.returns-in-Run

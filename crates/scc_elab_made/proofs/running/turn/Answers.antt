@@ -3,8 +3,8 @@ use Rattle.scc_base.specs.declared.code.Code.TheVariants as reason
 use Rattle.scc_core_spec.specs.First.{refused}
 use Rattle.scc_elab_spec.specs.Grown.{with_turn}
 use Rattle.scc_elab_grown.specs.Grown.{grown_of}
-use Rattle.scc_elab_made.specs.Runs.{now_of}
-use Rattle.scc_elab_made.specs.Works.{outcome, turn_of}
+use Rattle.scc_elab_works.specs.Runs.{now_of}
+use Rattle.scc_elab_works.specs.Works.{outcome, turn_of}
 use Rattle.scc_plain_view.specs.Plains.{plain_of}
 use Rattle.scc_elab_made.proofs.Stepping.{turn_none, turn_goes, steps_refused, may_not, may_so, turned_now}
 use Rattle.scc_elab_made.proofs.running.turn.Goals as goal

@@ -3,8 +3,8 @@ use Rattle.scc_elab_grown.specs.Grown.{grown_of}
 use Rattle.scc_elab_spec.specs.Construct.{Fell}
 use Rattle.scc_elab_spec.specs.Made.{built, none_given}
 use Rattle.scc_plain_view.specs.Plains.{plain_of}
-use Rattle.scc_elab_made.specs.Runs.{now_of}
-use Rattle.scc_elab_made.specs.Works.{anew, outcome}
+use Rattle.scc_elab_works.specs.Runs.{now_of}
+use Rattle.scc_elab_works.specs.Works.{anew, outcome}
 use Rattle.scc_elab_made.proofs.Making.{anew_grown, leaves_as}
 use Rattle.scc_elab_made.proofs.top.make_top.Goals as goal
 

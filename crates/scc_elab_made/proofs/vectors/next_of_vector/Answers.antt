@@ -1,6 +1,6 @@
 use Rattle.std.proofs.Common.{refl, ◌+◌, ◌-◌, ◌∙◌}
 use Rattle.scc_elab_grown.specs.Grown.{grown_of}
-use Rattle.scc_elab_made.specs.Runs.{now_of}
+use Rattle.scc_elab_works.specs.Runs.{now_of}
 use Rattle.scc_plain_view.specs.Plains.{plain_of}
 use Rattle.scc_elab_made.proofs.Stepping.{one_less}
 use Rattle.scc_elab_made.proofs.Vectoring.{vector_done, same_elements, element_goes}

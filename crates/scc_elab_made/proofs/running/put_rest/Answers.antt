@@ -1,5 +1,0 @@
-use Rattle.scc_elab_made.proofs.Stepping.{puts_rest}
-use Rattle.scc_elab_made.proofs.running.put_rest.Goals as goal
-
-pub returns : goal.returns
-returns c = puts_rest c.push.result c.args.works.now.items c.push.new.items.items c.in_ok-at.at c.args.at.now c.args.how c.args.list c.push.ensures.ok c.in_ok-at.ensures

@@ -1,0 +1,9 @@
+pub mod Clearing
+pub mod Rows
+pub mod Endings
+pub mod Nodes
+pub mod Leading
+pub mod Standing
+pub mod Params
+pub mod Anywhere
+pub mod Declaring
