@@ -14,7 +14,8 @@ ghost use Rattle.scc_pointers_spec.specs.Freed.{freed};
 ghost use Rattle.scc_pointers_walk.specs.Led.{Gives, leads_of, target_of};
 ghost use Rattle.scc_pointers_walk.specs.Pointers.{IsOfPointers};
 ghost use Rattle.scc_pointers_walk.specs.Walked.{expr_in, walked_in};
-ghost use Rattle.scc_pointers_laws.specs.Asked.{AreAsked, asked, asked_count};
+ghost use Rattle.scc_pointers_laws.specs.Asked.{AreAsked};
+ghost use Rattle.scc_unroll_asked.specs.Items.{asked, asked_count};
 ghost use Rattle.scc_pointers_laws.specs.Stated.{Begins, Refuses, alias_in, count_in, empty_block, put_in};
 ghost use Rattle.scc_pointers_laws.specs.Turned.{Turns};
 

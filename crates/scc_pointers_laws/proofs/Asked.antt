@@ -9,7 +9,8 @@ use Rattle.scc_core.specs.declared.stmt.CoreNode.{CoreNode, fold-CoreNode, fold-
 use Rattle.scc_core.specs.declared.stmt.CoreNode.TheVariants as node
 use Rattle.scc_core.specs.declared.stmt.CoreNode.TheOpen as tree
 use Rattle.scc_pointers_walk.specs.declared.held.Resolver.{Resolver}
-use Rattle.scc_pointers_laws.specs.Asked.{AreAll, AreAsked, Asks, IsBeside, Item, Place, Value, asked, asked_count, asked_in, asked_node, asked_step, asked_to}
+use Rattle.scc_pointers_laws.specs.Asked.{AreAsked, IsBeside}
+use Rattle.scc_unroll_asked.specs.Items.{AreAll, Item, Place, Value, asked, asked_count, asked_in, asked_node, asked_step, asked_to}
 
 abbrev by_node : CoreNode → List Item
 by_node = fold-CoreNode (List Item) (List Item) asked_node asked_step

@@ -1,7 +1,6 @@
 -- Processes one after another, and what is asked of a core where each begins.
 use denote.Ref.{Bor}
-use Rattle.std.proofs.Common.{◌≡◌, refl, sym, ap, subst, ◌∙◌, ℕ, List, [], ◌∷◌, ◌++◌, map, Option, Some, None, Result, Ok, Err, unwrap_or}
-use Rattle.std.specs.Prelude.{filter}
+use Rattle.std.proofs.Common.{◌≡◌, sym, ap, subst, ◌∙◌, List, [], ◌∷◌, ◌++◌, map, Some, None, Result, Ok, Err}
 use Rattle.scc_base.specs.declared.refusal.Refusal.{Refusal}
 use Rattle.scc_base.specs.declared.refusal.Stop.{Stop}
 use Rattle.scc_core.specs.declared.places.Places.{Places}
@@ -9,21 +8,18 @@ use Rattle.scc_core.specs.declared.program.Core.{Core}
 use Rattle.scc_core.specs.declared.program.CoreProcess.{CoreProcess}
 use Rattle.scc_core.specs.declared.program.VectorSize2.{VectorSize2}
 use Rattle.scc_core.specs.declared.statics.Known.{Known}
-use Rattle.scc_core.specs.declared.stmt.CoreStmt.{CoreStmt}
 use Rattle.scc_core.specs.Tables.{IsTable}
 use Rattle.scc_core_spec.specs.Code.{Code}
 use Rattle.scc_core_spec.specs.Program.{Process, Program}
 use Rattle.scc_core_spec.specs.Renumbered.{new_number, renamed_process}
-use Rattle.scc_core_spec.specs.Resolved.{Leads, Tried, Made, Stopped, and_made, made_map}
+use Rattle.scc_core_spec.specs.Resolved.{Tried, Made, Stopped, and_made, made_map}
 use Rattle.scc_core_spec.specs.Unpointed.{at_first}
 use Rattle.scc_core_view.specs.Codes.{code_of}
-use Rattle.scc_core_view.specs.Programs.{cell_of, process_of, program_of, vector_of}
-use Rattle.scc_pointers_spec.specs.Freed.{all_freed, freed, freed_program}
+use Rattle.scc_core_view.specs.Programs.{cell_of, process_of, vector_of}
+use Rattle.scc_pointers_spec.specs.Freed.{all_freed, freed}
 use Rattle.scc_pointers_walk.specs.declared.held.Resolver.{Resolver}
-use Rattle.scc_pointers_walk.specs.Led.{Gives, leads_of, local_of}
-use Rattle.scc_pointers_laws.specs.Asked.{AreAsked, asked}
-use Rattle.scc_pointers_laws.specs.Followed.{IsKnown}
-use Rattle.scc_pointers_laws.specs.Ready.{AreBodies, AreReady, IsAccepted, IsAsked, IsFresh, IsOfCore, IsOver, first_leads}
+use Rattle.scc_pointers_walk.specs.Led.{leads_of}
+use Rattle.scc_pointers_laws.specs.Ready.{AreBodies, IsAccepted, IsAsked, IsFresh, IsOfCore, IsOver, first_leads}
 use Rattle.scc_pointers_laws.proofs.Sound.{same_some}
 
 -- where no local pointer is declared

@@ -1,6 +1,6 @@
 -- Statements without pointers, one by one, before what follows them.
 use denote.Ref.{Bor}
-use Rattle.std.proofs.Common.{◌≡◌, ◌⊎◌, inl, inr, refl, sym, ap, subst, ◌∙◌, arith, ℕ, ◌+◌, ◌<◌, Bool, true, false, nat_eq, if◌then◌else◌, List, [], ◌∷◌, ◌++◌, map, drop, get_or, length, Option, Some, None, option_map, Result, Ok, Err}
+use Rattle.std.proofs.Common.{◌≡◌, ◌⊎◌, inl, inr, refl, sym, ap, subst, ◌∙◌, ℕ, ◌+◌, ◌<◌, Bool, true, false, nat_eq, if◌then◌else◌, List, [], ◌∷◌, ◌++◌, map, drop, get_or, length, Option, Some, None, option_map, Result, Ok, Err}
 use Rattle.std.specs.Prelude.{IfOk, OnOk}
 use Rattle.std.specs.HashMap.{get_by}
 use Rattle.std.specs.Map.{lookup}
@@ -29,11 +29,10 @@ use Rattle.scc_core.specs.Tables.{IsTable}
 use Rattle.scc_core_spec.specs.Code.{Code, Count, Declared, Assigned, End, Put, Aim, If, Block, Loop, Exit, Wait}
 use Rattle.scc_core_spec.specs.First.{refused}
 use Rattle.scc_core_spec.specs.Fold.{static_index}
-use Rattle.scc_core_spec.specs.Resolved.{Leads, Tried, Made, Stopped, and_made, made_map, resolved, walked}
-use Rattle.scc_core_spec.specs.Term.{Left, Pick, Term}
+use Rattle.scc_core_spec.specs.Resolved.{Leads, Tried, Made, Stopped, and_made, made_map, resolved}
 use Rattle.scc_core_spec.specs.Unpointed.{aimed, declares, leading, of_assigned, or_same, resolved_count}
 use Rattle.scc_core_static_laws.specs.Indices.{Finds}
-use Rattle.scc_core_view.specs.Codes.{code_of, count_of, counted, pointed_of, stmt_code}
+use Rattle.scc_core_view.specs.Codes.{code_of, counted, pointed_of, stmt_code}
 use Rattle.scc_core_view.specs.Programs.{cell_of, vector_of}
 use Rattle.scc_core_view.specs.Terms.{taken_of, term_of}
 use Rattle.scc_pointers_spec.specs.Freed.{freed}
@@ -41,15 +40,16 @@ use Rattle.scc_pointers_walk.specs.declared.held.Resolver.{Resolver}
 use Rattle.scc_pointers_walk.specs.Led.{Gives, leads_of, left_of, looks_of, target_of}
 use Rattle.scc_pointers_walk.specs.Read.{AreFound}
 use Rattle.scc_pointers_walk.specs.Walked.{expr_in, loaded_in, target_in, walked_in}
-use Rattle.scc_pointers_laws.specs.Asked.{AreAsked, IsBeside, Item, Place as At, Value, asked, asked_count, asked_to}
+use Rattle.scc_pointers_laws.specs.Asked.{AreAsked, IsBeside}
+use Rattle.scc_unroll_asked.specs.Items.{Item, Place as At, Value, asked_count, asked_to}
 use Rattle.scc_pointers_laws.specs.Followed.{IsFollowed, IsFollowedLeft, IsKnown, IsSound}
 use Rattle.scc_pointers_laws.specs.Stated.{alias_in, count_in, empty_block, put_in}
 use Rattle.scc_pointers_laws.specs.Turned.{Turns}
-use Rattle.scc_pointers_laws.proofs.Asked.{all_back, all_front, asked_beside, itself}
+use Rattle.scc_pointers_laws.proofs.Asked.{all_front, asked_beside, itself}
 use Rattle.scc_pointers_laws.proofs.Sound.{same_made, same_some}
 use Rattle.scc_pointers_laws.proofs.Walks.{expr_is, left_agrees_is, put_is, target_is, target_sound}
 use Rattle.scc_unroll_laws.proofs.Heads.{from_here as code_from}
-use Rattle.scc_unroll_laws.proofs.Stmts.{as_aim, as_block, as_exit, as_if, as_loop, as_put, as_wait}
+use Rattle.scc_unroll_laws.proofs.Stmts.{as_block, as_exit, as_if, as_loop, as_put, as_wait}
 use Rattle.scc_unroll_laws.proofs.Writing.{set_one}
 use Rattle.scc_unroll_laws.specs.Writing.{set_before}
 

@@ -1,7 +1,5 @@
 -- Whole cores meet what is asked.
-use denote.Ref.{Bor}
-use Rattle.std.proofs.Common.{◌≡◌, refl, sym, ap, subst, ◌∙◌, ℕ, nat_eq, List, [], ◌∷◌, ◌++◌, map, slice_get, Option, Some, None, option_map}
-use Rattle.std.specs.HashMap.{get_by}
+use Rattle.std.proofs.Common.{◌≡◌, sym, ap, subst, ◌∙◌, List, [], ◌∷◌, map, slice_get, Option, Some, None, option_map}
 use Rattle.scc_core.specs.declared.expr.CoreBase.{CoreBase}
 use Rattle.scc_core.specs.declared.expr.CoreExpr.{CoreExpr}
 use Rattle.scc_core.specs.declared.expr.CoreLeft.{CoreLeft}
@@ -9,7 +7,6 @@ use Rattle.scc_core.specs.declared.expr.CorePart.{CorePart}
 use Rattle.scc_core.specs.declared.expr.CorePick.{CorePick}
 use Rattle.scc_core.specs.declared.program.Cell.{Cell}
 use Rattle.scc_core.specs.declared.program.Core.{Core}
-use Rattle.scc_core.specs.declared.program.VectorSize2.{VectorSize2}
 use Rattle.scc_core.specs.declared.statics.Known.{Known}
 use Rattle.scc_core.specs.Known.{counted as counter_number, facts_in}
 use Rattle.scc_core.specs.Statics.{value_in}
@@ -24,7 +21,8 @@ use Rattle.scc_core_view.specs.Whole.{AreWholeCells, IsWhole}
 use Rattle.scc_pointers_walk.specs.declared.held.Resolver.{Resolver}
 use Rattle.scc_pointers_walk.specs.Led.{target_of}
 use Rattle.scc_pointers_walk.specs.Read.{HaveNoTargets, HaveSmallNames, HaveSmallPaths, IsFound}
-use Rattle.scc_pointers_laws.specs.Asked.{AreAll, AreAsked, Asks, IsBeside, IsItem, Item, Place, Value, asked}
+use Rattle.scc_pointers_laws.specs.Asked.{AreAsked, IsBeside, IsItem}
+use Rattle.scc_unroll_asked.specs.Items.{AreAll, Item, Place, Value, asked}
 use Rattle.scc_pointers_laws.specs.Followed.{FollowAll, FollowParts, Follows, FollowsBase, FollowsLeft, FollowsPick, FollowsSome, HaveSmallSizes, IsKnown, binary, bit, cell, choose, convert, follow, index, join, last, left, literal, load, member, next, none, null, pick, prefix, range, read, some, unary, whole}
 use Rattle.scc_pointers_laws.specs.Ready.{IsAsked, IsOfCore, IsSeen, IsWholeCore, IsWholeItem}
 
@@ -68,16 +66,16 @@ module _ (r : Resolver) (P Q : CoreExpr → Type 0) (h : (x : CoreExpr) → P x 
     parts_so (member n w) = member n (parts_so w)
     parts_so (index size g v f w) = index size g (expr_so v) (λ x e. h x (f x e)) (parts_so w)
 
-all_items : (r : Resolver) (cells : List Cell) → ((x : CoreExpr) → IsWhole cells x → IsFound r x) → (xs : List Item) → AreAll (IsWholeItem r cells) xs → AreAll (IsItem r) xs
+pub all_items : (r : Resolver) (cells : List Cell) → ((x : CoreExpr) → IsWhole cells x → IsFound r x) → (xs : List Item) → AreAll (IsWholeItem r cells) xs → AreAll (IsItem r) xs
 all_items r cells h [] w = tt
 all_items r cells h (Value e ∷ xs) w = (expr_so r (IsWhole cells) (IsFound r) h w.0, all_items r cells h xs w.1)
 all_items r cells h (Place l ∷ xs) w = (left_so r (IsWhole cells) (IsFound r) h w.0, all_items r cells h xs w.1)
 
-asked_so : (r : Resolver) (xs : List Item) → ((s : Resolver) → IsBeside s r → IsKnown s → AreAll (IsItem s) xs) → AreAsked r xs
+pub asked_so : (r : Resolver) (xs : List Item) → ((s : Resolver) → IsBeside s r → IsKnown s → AreAll (IsItem s) xs) → AreAsked r xs
 asked_so r [] h = tt
 asked_so r (x ∷ xs) h = ((λ s b k. (h s b k).0), asked_so r xs (λ s b k. (h s b k).1))
 
-seen_beside : (c : Core) (r s : Resolver) → IsBeside s r → IsSeen c r → IsSeen c s
+pub seen_beside : (c : Core) (r s : Resolver) → IsBeside s r → IsSeen c r → IsSeen c s
 seen_beside c r s b o = record {
   cells = ap (λ k. k.cells.now) b.known ∙ o.cells;
   vectors = ap (λ v. v.now) b.vectors ∙ o.vectors;
@@ -87,7 +85,7 @@ seen_beside c r s b o = record {
 }
 
 module _ (law : (known : Known) (cells : List Cell) (vectors : List Vector) (e : CoreExpr) → Knows known cells [] → AreWholeCells cells → IsWhole cells e → Finds (value_in (facts_in known) e) (static_index (map cell_of cells) vectors (term_of e))) where
-  found_so : (c : Core) (r : Resolver) → AreWholeCells c.cells → IsSeen c r → (x : CoreExpr) → IsWhole c.cells x → IsFound r x
+  pub found_so : (c : Core) (r : Resolver) → AreWholeCells c.cells → IsSeen c r → (x : CoreExpr) → IsWhole c.cells x → IsFound r x
   found_so c r w o x h =
       let knows : Knows r.known c.cells [] = record {
         cells_are = o.cells;
@@ -96,7 +94,7 @@ module _ (law : (known : Known) (cells : List Cell) (vectors : List Vector) (e :
         counters = λ n. ap (λ z. counter_number z n) o.counters;
       } in subst (λ cs. Finds (value_in (facts_in r.known) x) (static_index (map cell_of cs) (map vector_of r.vectors.now) (term_of x))) (sym o.cells) (law r.known c.cells (map vector_of r.vectors.now) x knows w h)
 
-  known_so : (c : Core) (r : Resolver) → IsWholeCore c → IsOfCore c r → IsKnown r
+  pub known_so : (c : Core) (r : Resolver) → IsWholeCore c → IsOfCore c r → IsKnown r
   known_so c r w o = record {
     table = subst (λ vs. IsTable r.places.now r.known.cells.now vs) (sym o.seen.vectors) (subst (λ cs. IsTable r.places.now cs c.vectors) (sym o.seen.cells) o.seen.table);
     cells = subst HaveSmallNames (sym o.seen.cells) w.names;

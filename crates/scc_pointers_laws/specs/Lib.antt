@@ -1,4 +1,5 @@
 pub mod Asked
+pub mod Counted
 pub mod Followed
 pub mod Ready
 pub mod Stated

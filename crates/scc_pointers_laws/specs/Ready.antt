@@ -1,6 +1,6 @@
 -- What is asked of a core so that its bodies are resolved as the definition has them. It speaks of the core alone. This project's own.
 use denote.Ref.{Bor}
-use Rattle.std.specs.Prelude.{◌≡◌, ℕ, List, [], ◌∷◌, ◌++◌, map, Option, Some, None}
+use Rattle.std.specs.Prelude.{◌≡◌, ℕ, List, ◌∷◌, ◌++◌, map, Some, None}
 use Rattle.scc_core.specs.declared.places.Places.{Places}
 use Rattle.scc_core.specs.declared.program.Cell.{Cell}
 use Rattle.scc_core.specs.declared.program.Core.{Core}
@@ -16,7 +16,8 @@ use Rattle.scc_core_view.specs.Whole.{AreWholeCells, IsWhole}
 use Rattle.scc_pointers_walk.specs.declared.held.Resolver.{Resolver}
 use Rattle.scc_pointers_walk.specs.Led.{local_of}
 use Rattle.scc_pointers_walk.specs.Read.{HaveNoTargets, HaveSmallNames, HaveSmallPaths}
-use Rattle.scc_pointers_laws.specs.Asked.{AreAll, AreAsked, Item, Place, Value, asked}
+use Rattle.scc_pointers_laws.specs.Asked.{AreAsked}
+use Rattle.scc_unroll_asked.specs.Items.{AreAll, Item, Place, Value, asked}
 use Rattle.scc_pointers_laws.specs.Followed.{Follows, FollowsLeft, HaveSmallSizes, IsKnown}
 
 -- what is known of a core: its cells by tables of their names, and no counters

@@ -14,7 +14,9 @@ ghost use Rattle.scc_pointers_walk.specs.Walked.{expr_in, loaded_in, target_in, 
 ghost use Rattle.scc_pointers_walk.specs.Located.{element_in, member_in, pointed_in};
 ghost use Rattle.scc_pointers_walk.specs.Read.{IsFound};
 ghost use Rattle.scc_core.specs.declared.program.Core.{Core};
+ghost use Rattle.scc_pointers_laws.specs.Counted.{IsAskedCounted, IsWholeCounted};
 ghost use Rattle.scc_pointers_laws.specs.Ready.{IsAsked, IsWholeCore};
+ghost use Rattle.scc_unroll_asked.specs.Copied.{HaveCopies};
 ghost use Rattle.scc_pointers_laws.specs.Followed.{IsFollowed, IsFollowedLeft, IsKnown, IsSound};
 
 use scc_core_static_laws::whole_indices_are_found;
@@ -43,6 +45,19 @@ pub fn what_is_assigned_is_the_definitions()
 /// A core meets what is asked where its cells are whole, and the indices in its bodies are whole where their pointers are gone.
 pub fn whole_cores_are_asked()
     ensures { (c : Core) → IsWholeCore c → IsAsked c }
+{
+    whole_indices_are_found();
+}
+
+/// A core that has copies of the expressions and locations of another, with counters as literals, meets what is asked where the other
+/// one meets it with counters. So does an unrolled core.
+pub fn copies_of_asked_cores_are_asked()
+    ensures { (c m : Core) → m.cells ≡ c.cells → m.vectors ≡ c.vectors → HaveCopies c.cells c.processes m.processes → IsAskedCounted c → IsAsked m }
+{}
+
+/// A core meets what is asked with counters where its cells are whole, and the indices in its bodies are whole with any counters.
+pub fn whole_cores_are_asked_with_counters()
+    ensures { (c : Core) → IsWholeCounted c → IsAskedCounted c }
 {
     whole_indices_are_found();
 }

@@ -3,4 +3,8 @@
 
 mod laws;
 
-pub use laws::{a_walk_is_the_definitions, walks_stay_sound, what_is_assigned_is_the_definitions};
+pub use laws::{
+    a_walk_is_the_definitions, copies_of_asked_cores_are_asked, walks_stay_sound,
+    what_is_assigned_is_the_definitions, whole_cores_are_asked,
+    whole_cores_are_asked_with_counters,
+};

@@ -190,7 +190,7 @@ module _ (s : Leads) where
       else (if unwrap_or (option_map is_open (pattern s.cells m)) true then Stopped (refused reason.StaticIndex (place_at l)) else Made (Some m)) in
       on (walk-alike true l) f f (λ m. as_walked (f m))
 
-  counts-same : (c : Option Count) → option_map (resolved_count s) c ≡ option_map (resolved_count s2) c
+  pub counts-same : (c : Option Count) → option_map (resolved_count s) c ≡ option_map (resolved_count s2) c
   counts-same None = refl
   counts-same (Some c) = λ i. Some (record { cell = c.cell; start = or_same_is (term-alike c.start) c.start i; compare = c.compare; bound = or_same_is (term-alike c.bound) c.bound i; step_op = c.step_op; step = or_same_is (term-alike c.step) c.step i })
 

@@ -3,4 +3,4 @@
 
 mod laws;
 
-pub use laws::declared_pointers_are_resolved_alike;
+pub use laws::{declared_pointers_are_resolved_alike, pointers_declared_first_are_resolved_alike};

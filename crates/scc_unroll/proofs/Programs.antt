@@ -9,7 +9,8 @@ use Rattle.scc_core.specs.Tables.{IsTable}
 use Rattle.scc_core_spec.specs.Program.{Process, Program}
 use Rattle.scc_core_spec.specs.Unrolled.{unrolled_program, with_body}
 use Rattle.scc_core_view.specs.Programs.{cells_of, process_of, program_of, vector_of}
-use Rattle.scc_unroll.specs.Unrolled.{IsKnown, body_of}
+use Rattle.scc_unroll.specs.Unrolled.{body_of}
+use Rattle.scc_unroll_asked.specs.Cores.{IsKnown}
 
 pub program_is : (c : Core) (ps : List CoreProcess) → map process_of ps ≡ map (with_body (body_of (cells_of c))) (map process_of c.processes)
     → program_of (record { top = c.top; cells = c.cells; processes = ps; vectors = c.vectors }) ≡ unrolled_program (program_of c)

@@ -1,8 +1,6 @@
-pub mod Asked
 pub mod Budgets
 pub mod Shape
 pub mod Spots
 pub mod Turns
 pub mod Unrolled
 pub mod Used
-pub mod Wholes

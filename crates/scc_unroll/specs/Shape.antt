@@ -20,7 +20,7 @@ use Rattle.scc_unroll.specs.declared.counted.Counted.{Counted}
 use Rattle.scc_unroll.specs.declared.shape.Stand.{Stand}
 use Rattle.scc_unroll.specs.declared.shape.Stand.TheVariants as stand
 use Rattle.scc_unroll.specs.declared.shape.Turning.{Turning}
-use Rattle.scc_unroll_laws.specs.Counters.{counters_of}
+use Rattle.scc_unroll_asked.specs.Read.{AreCounters, IsRead}
 use Rattle.scc_unroll.specs.Used.{used}
 
 abbrev pub turned : Turning → spec.Turning
@@ -51,27 +51,12 @@ setting_of at b = record { cells = cells_at at; path = path_of at.path.now; body
 abbrev pub Knows : At → Code → Type 0
 Knows at b = (o : ℕ) → used at.uses.now o ≡ uses (cells_at at) o b
 
--- a counter has a number of its cell's kind
-pub record IsCounter (cells : List Cell) (c : Held) : Type 0 where
-  pub cell : Cell
-  pub there : slice_get cells c.cell ≡ Some cell
-  pub kind : c.now.kind ≡ cell.kind
-  pub is_valid : IsValid c.now.kind
-  pub fits : Fits c.now.kind c.now.word
-
-abbrev pub AreCounters : List Cell → List Held → Type 0
-AreCounters cells [] = Unit {0}
-AreCounters cells (c ∷ ns) = IsCounter cells c × AreCounters cells ns
-
 -- What is known around statements of that body, in which these counters stand as literals.
 pub record Around (at : At) (b : Code) (ns : List Held) : Type 0 where
   pub knows : Knows at b
   pub counters : AreCounters at.known.cells.now ns
 
--- the word that the code finds for an expression where these counters stand as literals
-abbrev pub read : Known → List Held → CoreExpr → Option ℕ
-read known ns e = option_map (λ v. v.word) (value_in (facts_in known) (counted ns e))
-
--- it is the static value
-abbrev pub IsRead : Known → CoreExpr → Type 0
-IsRead known e = (ns : List Held) → AreCounters known.cells.now ns → read known ns e ≡ static (map cell_of known.cells.now) (counting (counters_of ns) (term_of e))
+-- what is assigned before a statement has the value that the code finds for it
+abbrev pub StandIsRead : Known → Stand → Type 0
+StandIsRead known (stand.Behind l e) = IsRead known e.now
+StandIsRead known _ = Unit {0}

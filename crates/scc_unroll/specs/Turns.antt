@@ -10,7 +10,7 @@ use Rattle.scc_unroll.specs.declared.turns.Turn.{Turn as HeldTurn}
 use Rattle.scc_unroll.specs.declared.turns.Turns.{Turns as HeldTurns}
 use Rattle.scc_unroll.specs.declared.turns.Going.{Going}
 use Rattle.scc_unroll.specs.declared.turns.Going.TheVariants as going
-use Rattle.scc_unroll.specs.Shape.{AreCounters, IsRead}
+use Rattle.scc_unroll_asked.specs.Read.{AreCounters, IsRead}
 
 abbrev pub turn_of : HeldTurn → Turn
 turn_of t = record { now = t.now.bits; next = t.next.bits }

@@ -20,7 +20,8 @@ use Rattle.scc_core_spec.specs.Program.{Process}
 use Rattle.scc_core_spec.specs.Static.{Cells}
 use Rattle.scc_core_spec.specs.Unrolled.{earlier, first_spot, run_turns, setting_of, uncounted, unrolled, unrolled_program, unrolling_refuses}
 use Rattle.scc_core_view.specs.Programs.{program_of}
-use Rattle.scc_unroll.specs.Asked.{AreTaken, asked}
+use Rattle.scc_unroll_asked.specs.Copied.{HaveCopies}
+use Rattle.scc_unroll_asked.specs.Cores.{IsAsked}
 
 -- a process but for its body
 pub record Head : Type 0 where
@@ -55,25 +56,12 @@ refusal_in s p c = or_else
 abbrev pub body_of : Cells → Process → Code
 body_of cs q = unrolled (setting_of cs q) [] Elsewhere q.body
 
--- ---- what is asked of a core
-
--- its cells by a table of their names, and no counters
-pub record IsKnown (known : Known) (c : Core) : Type 0 where
-  pub cells : known.cells.now ≡ c.cells
-  pub places : (p : Bor Places) → known.places ≡ Some p → IsTable p.now c.cells c.vectors
-  pub counters : known.counters ≡ None
-
-abbrev pub AreBodies : Known → List CoreProcess → Type 0
-AreBodies known ps = (front back : List CoreProcess) (p : CoreProcess) → ps ≡ front ++ p ∷ back → AreTaken known (asked p.body)
-
--- what is found by what is known of it for each value that is asked of its bodies is the static one
-abbrev pub IsAsked : Core → Type 0
-IsAsked c = (known : Known) → IsKnown known c → AreBodies known c.processes
-
 -- ---- what is given, and what is refused
 
+-- The expressions and locations of each body are copies of those of the body before, in which counters stand as literals, or literals.
 pub record IsUnrolled (c m : Core) : Type 0 where
   pub keeps : KeepsAllButBodies c m
+  pub copies : HaveCopies c.cells c.processes m.processes
   pub accepted : IsAsked c → unrolling_refuses (program_of c) ≡ None
   pub program : IsAsked c → program_of m ≡ unrolled_program (program_of c)
 

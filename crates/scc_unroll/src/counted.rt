@@ -1,5 +1,5 @@
 //! Which loops are counted, and what stands in them as literals.
-ghost use Rattle.std.specs.Prelude.{◌≡◌, ◌&&◌, ◌∷◌, not, nat_le, map, slice_get, IfOk, IfSome, Some, None, option_map, is_some};
+ghost use Rattle.std.specs.Prelude.{List, ◌≡◌, ◌&&◌, ◌∷◌, not, nat_le, map, slice_get, IfOk, IfSome, Some, None, option_map, is_some};
 ghost use Rattle.scc_core_spec.specs.Code.{Code};
 ghost use Rattle.scc_core_spec.specs.Term.{Term};
 ghost use Rattle.scc_core_spec.specs.Counted as spec;
@@ -8,9 +8,12 @@ ghost use Rattle.scc_core_view.specs.Codes.{code_of, count_of, counted};
 ghost use Rattle.scc_core_view.specs.Programs.{cell_of, path_of};
 ghost use Rattle.scc_core_view.specs.Terms.{taken_of, term_of};
 ghost use Rattle.scc_semantics.specs.Location.{same_path};
-ghost use Rattle.scc_unroll.specs.Asked.{AreAll, AreRead, IsItself, StandIsRead, asked, asked_count};
+ghost use Rattle.scc_unroll.specs.Shape.{StandIsRead, Around, HasParts, Knows, cells_at, counting_of, setting_of, stand_of};
+ghost use Rattle.scc_unroll_asked.specs.Copied.{AreWithin, IsWithin};
+ghost use Rattle.scc_unroll_asked.specs.Items.{Item};
+ghost use Rattle.scc_unroll_asked.specs.Asked.{AreAll, AreRead, IsItself, asked, asked_count};
 ghost use Rattle.scc_unroll_laws.specs.Counters.{counter_of, counters_of};
-ghost use Rattle.scc_unroll.specs.Shape.{AreCounters, Around, HasParts, IsCounter, IsRead, Knows, cells_at, counting_of, read, setting_of, stand_of};
+ghost use Rattle.scc_unroll_asked.specs.Read.{AreCounters, IsCounter, IsRead, read};
 ghost use Rattle.scc_unroll.specs.Turns.{IsTold};
 ghost use Rattle.scc_unroll.specs.Used.{used};
 
@@ -206,6 +209,7 @@ fn counted_from<'a>(
     ensures told { AreCounters at.now.known.cells.now counters.now → IsRead at.now.known value.now → AreRead at.now.known (asked body.now) → IfOk result (λ o. IfSome o (λ g. IsTold at.now counters.now g)) }
     ensures itself { AreAll IsItself (asked body.now) → IfOk result (λ o. IfSome o (λ g. IsItself g.turning.step.now)) }
     ensures parts { IfOk result (λ o. IfSome o (λ g. HasParts g.turning (code_of body.now))) }
+    ensures within { (xs : List Item) → AreWithin xs body.now → IfOk result (λ o. IfSome o (λ g. IsWithin xs g.turning.step_left.now)) }
 {
     let counted = counts(at, counters, left, count, body, last)?;
     if !counted {
@@ -234,6 +238,7 @@ pub fn counted_by<'a>(
     ensures told { AreCounters at.now.known.cells.now counters.now → StandIsRead at.now.known stand.entry → AreRead at.now.known (asked body.now) → IfOk result (λ o. IfSome o (λ g. IsTold at.now counters.now g)) }
     ensures itself { AreAll IsItself (asked body.now) → IfOk result (λ o. IfSome o (λ g. IsItself g.turning.step.now)) }
     ensures parts { IfOk result (λ o. IfSome o (λ g. HasParts g.turning (code_of body.now))) }
+    ensures within { (xs : List Item) → AreWithin xs body.now → IfOk result (λ o. IfSome o (λ g. IsWithin xs g.turning.step_left.now)) }
 {
     match (stand, count) {
         (Stand::Behind { left, value }, Some(count)) => {

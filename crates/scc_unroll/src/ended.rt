@@ -1,10 +1,12 @@
 //! Which loops are written out: those that are counted and whose turns come to an end.
-ghost use Rattle.std.specs.Prelude.{◌≡◌, IfOk, IfSome, Some, option_map};
+ghost use Rattle.std.specs.Prelude.{List, ◌≡◌, IfOk, IfSome, Some, option_map};
 ghost use Rattle.scc_core_spec.specs.Code.{Code};
 ghost use Rattle.scc_core_spec.specs.Counted as spec;
 ghost use Rattle.scc_core_view.specs.Codes.{code_of, counted};
-ghost use Rattle.scc_unroll.specs.Asked.{AreAll, AreRead, IsItself, StandIsRead, asked, asked_count};
-ghost use Rattle.scc_unroll.specs.Shape.{Around, HasParts, cells_at, counting_of, setting_of, stand_of};
+ghost use Rattle.scc_unroll.specs.Shape.{StandIsRead, Around, HasParts, cells_at, counting_of, setting_of, stand_of};
+ghost use Rattle.scc_unroll_asked.specs.Copied.{AreWithin, IsWithin};
+ghost use Rattle.scc_unroll_asked.specs.Items.{Item};
+ghost use Rattle.scc_unroll_asked.specs.Asked.{AreAll, AreRead, IsItself, asked, asked_count};
 ghost use Rattle.scc_unroll.specs.Turns.{IsTold, ended_of};
 ghost use Rattle.scc_unroll_laws.specs.Counters.{counters_of};
 
@@ -34,6 +36,7 @@ pub fn ended_by<'a>(
     ensures ended { (b r : Code) → Around at.now b counters.now → AreRead at.now.known (asked_count count.now) → AreRead at.now.known (asked body.now) → StandIsRead at.now.known stand.entry → spec.is_end r ≡ last → IfOk result (λ o. option_map ended_of o ≡ spec.ended (spec.counted_by (setting_of at.now b) (counters_of counters.now) (stand_of stand.entry) (counted count.now) (code_of body.now) r)) }
     ensures itself { AreAll IsItself (asked body.now) → IfOk result (λ o. IfSome o (λ e. IsItself e.turning.step.now)) }
     ensures parts { IfOk result (λ o. IfSome o (λ e. HasParts e.turning (code_of body.now))) }
+    ensures within { (xs : List Item) → AreWithin xs body.now → IfOk result (λ o. IfSome o (λ e. IsWithin xs e.turning.step_left.now)) }
 {
     let of = counted_by(at, counters, stand, count, body, last)?;
     match of {
@@ -54,6 +57,7 @@ fn ended_from<'a>(
     ensures ended { IsTold at.now counters.now of.now → IfOk result (λ o. option_map ended_of o ≡ spec.ended (Some (counting_of (cells_at at.now) (counters_of counters.now) of.now))) }
     ensures itself { IsItself of.now.turning.step.now → IfOk result (λ o. IfSome o (λ e. IsItself e.turning.step.now)) }
     ensures parts { (c : Code) → HasParts of.now.turning c → IfOk result (λ o. IfSome o (λ e. HasParts e.turning c)) }
+    ensures within { (xs : List Item) → IsWithin xs of.now.turning.step_left.now → IfOk result (λ o. IfSome o (λ e. IsWithin xs e.turning.step_left.now)) }
 {
     let turns = turns_by(at, counters, of)?;
     if turns.ends {

@@ -9,7 +9,6 @@
 mod built;
 mod counted;
 mod ended;
-pub mod laws;
 mod limits;
 mod look;
 mod loops;

@@ -4,11 +4,11 @@ ghost use Rattle.scc_core_spec.specs.Code.{Code};
 ghost use Rattle.scc_core_spec.specs.Counted as spec;
 ghost use Rattle.scc_core_spec.specs.Unrolled.{run_turns};
 ghost use Rattle.scc_core_view.specs.Codes.{code_of, stmt_code};
-ghost use Rattle.scc_unroll.specs.Asked.{AreRead, asked, StandIsRead};
+ghost use Rattle.scc_unroll.specs.Shape.{StandIsRead, Around, cells_at, counting_of, setting_of, stand_of};
+ghost use Rattle.scc_unroll_asked.specs.Asked.{AreRead, asked};
 ghost use Rattle.scc_unroll.specs.Budgets.{after, budget_of, took, turn_spots};
 ghost use Rattle.scc_unroll_laws.specs.Counters.{counters_of};
 ghost use Rattle.scc_unroll_laws.specs.Heads.{has_loops, head_size, stand_behind};
-ghost use Rattle.scc_unroll.specs.Shape.{Around, cells_at, counting_of, setting_of, stand_of};
 ghost use Rattle.scc_unroll.specs.Spots.{spot_of};
 ghost use Rattle.scc_unroll.specs.Turns.{IsTold, turn_of};
 

@@ -5,7 +5,7 @@ ghost use Rattle.scc_core_spec.specs.Counted as spec;
 ghost use Rattle.scc_core_spec.specs.First.{or_else};
 ghost use Rattle.scc_core_spec.specs.Unrolled.{first_spot, uncounted};
 ghost use Rattle.scc_core_view.specs.Codes.{code_of, counted, stmt_code};
-ghost use Rattle.scc_unroll.specs.Asked.{AreRead, asked, asked_count};
+ghost use Rattle.scc_unroll_asked.specs.Asked.{AreRead, asked, asked_count};
 ghost use Rattle.scc_unroll_laws.specs.Counters.{counters_of};
 ghost use Rattle.scc_unroll_laws.specs.Heads.{head_size, stand_behind};
 ghost use Rattle.scc_unroll.specs.Shape.{Around, setting_of, stand_of};

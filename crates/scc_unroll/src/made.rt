@@ -1,11 +1,13 @@
 //! Statements of an unrolled body.
-ghost use Rattle.std.specs.Prelude.{◌≡◌, IfOk, OnOk, Some, true, option_map};
+ghost use Rattle.std.specs.Prelude.{◌≡◌, [], ◌∷◌, ◌++◌, map, IfOk, OnOk, Some, true, option_map};
 ghost use Rattle.scc_core_spec.specs.Code.{Code, Put, Aim, If, Loop};
 ghost use Rattle.scc_core_spec.specs.Counted.{counting, counting_left, counting_pick, is_whole};
 ghost use Rattle.scc_core_spec.specs.Unrolled.{counting_count, counting_to, stepped};
 ghost use Rattle.scc_core_view.specs.Codes.{code_of, counted, pointed_of, stmt_code};
 ghost use Rattle.scc_core_view.specs.Terms.{taken_of, term_of};
-ghost use Rattle.scc_unroll.specs.Asked.{IsItself};
+ghost use Rattle.scc_unroll_asked.specs.Copied.{copied, of_aim, of_choice, of_loop, of_put, of_step};
+ghost use Rattle.scc_unroll_asked.specs.Items.{asked, asked_count};
+ghost use Rattle.scc_unroll_asked.specs.Asked.{IsItself};
 ghost use Rattle.scc_unroll.specs.Shape.{turned};
 ghost use Rattle.scc_unroll_laws.specs.Counters.{counters_of};
 ghost use Rattle.scc_unroll_laws.specs.Writing.{set_before};
@@ -26,7 +28,8 @@ pub fn put(
     left: &CoreLeft,
     value: &CoreExpr,
 ) -> Result<CoreStmt, NoMemory>
-    ensures { IfOk result (λ z. (r : Code) → stmt_code z r ≡ Put place (counting_left (counters_of counters.now) (taken_of left.now).left) (counting_pick (counters_of counters.now) (taken_of left.now).pick) (counting (counters_of counters.now) (term_of value.now)) r) }
+    ensures code { IfOk result (λ z. (r : Code) → stmt_code z r ≡ Put place (counting_left (counters_of counters.now) (taken_of left.now).left) (counting_pick (counters_of counters.now) (taken_of left.now).pick) (counting (counters_of counters.now) (term_of value.now)) r) }
+    ensures items { IfOk result (λ z. asked (z ∷ []) ≡ map (copied counters.now) (of_put left.now value.now)) }
 {
     let copies = Copies::with(alloc, counters);
     let left = copies.left(left)?;
@@ -43,7 +46,8 @@ pub fn aim(
     to: &Pointed,
     target: &CoreLeft,
 ) -> Result<CoreStmt, NoMemory>
-    ensures { IfOk result (λ z. (r : Code) → stmt_code z r ≡ Aim place (counting_to (counters_of counters.now) (pointed_of to.now)) (counting_left (counters_of counters.now) (taken_of target.now).left) r) }
+    ensures code { IfOk result (λ z. (r : Code) → stmt_code z r ≡ Aim place (counting_to (counters_of counters.now) (pointed_of to.now)) (counting_left (counters_of counters.now) (taken_of target.now).left) r) }
+    ensures items { IfOk result (λ z. asked (z ∷ []) ≡ map (copied counters.now) (of_aim to.now target.now)) }
 {
     let copies = Copies::with(alloc, counters);
     let to = copies.pointed(to)?;
@@ -61,7 +65,8 @@ pub fn choice(
     yes: List<CoreStmt>,
     no: List<CoreStmt>,
 ) -> Result<CoreStmt, NoMemory>
-    ensures { IfOk result (λ z. (r : Code) → stmt_code z r ≡ If place (counting (counters_of counters.now) (term_of test.now)) (code_of yes) (code_of no) r) }
+    ensures code { IfOk result (λ z. (r : Code) → stmt_code z r ≡ If place (counting (counters_of counters.now) (term_of test.now)) (code_of yes) (code_of no) r) }
+    ensures items { IfOk result (λ z. asked (z ∷ []) ≡ of_choice counters.now test.now yes no) }
 {
     let test = Copies::with(alloc, counters).expr(test)?;
     let node = CoreNode::If { test, yes, no };
@@ -76,7 +81,8 @@ pub fn kept(
     count: &Option<Count>,
     body: List<CoreStmt>,
 ) -> Result<CoreStmt, NoMemory>
-    ensures { IfOk result (λ z. (r : Code) → stmt_code z r ≡ Loop place (option_map (counting_count (counters_of counters.now)) (counted count.now)) (code_of body) r) }
+    ensures code { IfOk result (λ z. (r : Code) → stmt_code z r ≡ Loop place (option_map (counting_count (counters_of counters.now)) (counted count.now)) (code_of body) r) }
+    ensures items { IfOk result (λ z. asked (z ∷ []) ≡ of_loop counters.now count.now body) }
 {
     let count = count_copied(alloc, counters, count)?;
     let node = CoreNode::Loop { count, body };
@@ -89,7 +95,8 @@ fn count_copied(
     counters: &[Counter],
     count: &Option<Count>,
 ) -> Result<Option<Count>, NoMemory>
-    ensures { IfOk result (λ o. counted o ≡ option_map (counting_count (counters_of counters.now)) (counted count.now)) }
+    ensures code { IfOk result (λ o. counted o ≡ option_map (counting_count (counters_of counters.now)) (counted count.now)) }
+    ensures items { IfOk result (λ o. asked_count o ≡ map (copied counters.now) (asked_count count.now)) }
 {
     match count {
         Some(count) => {
@@ -108,7 +115,8 @@ pub fn push_turn(
     next: Word,
     out: &mut List<CoreStmt>,
 ) -> Result<(), NoMemory>
-    ensures { IsItself turning.now.step.now → is_whole (taken_of turning.now.step_left.now).pick ≡ true → OnOk result ((r : Code) → set_before out.new r ≡ set_before out.old (stmt_code block (stepped (Some (turned turning.now)) next.bits r))) }
+    ensures code { IsItself turning.now.step.now → is_whole (taken_of turning.now.step_left.now).pick ≡ true → OnOk result ((r : Code) → set_before out.new r ≡ set_before out.old (stmt_code block (stepped (Some (turned turning.now)) next.bits r))) }
+    ensures items { OnOk result (asked out.new ≡ asked out.old ++ (asked (block ∷ []) ++ of_step turning.now.step_left.now turning.now.step.now next)) }
 {
     out.push(block)?;
     let step = step(alloc, turning, next)?;
@@ -117,7 +125,8 @@ pub fn push_turn(
 
 // The counter's next number, assigned where its step stood.
 fn step(alloc: Global, turning: &Turning<'_>, next: Word) -> Result<CoreStmt, NoMemory>
-    ensures { IsItself turning.now.step.now → is_whole (taken_of turning.now.step_left.now).pick ≡ true → IfOk result (λ z. (r : Code) → stmt_code z r ≡ stepped (Some (turned turning.now)) next.bits r) }
+    ensures code { IsItself turning.now.step.now → is_whole (taken_of turning.now.step_left.now).pick ≡ true → IfOk result (λ z. (r : Code) → stmt_code z r ≡ stepped (Some (turned turning.now)) next.bits r) }
+    ensures items { IfOk result (λ z. asked (z ∷ []) ≡ of_step turning.now.step_left.now turning.now.step.now next) }
 {
     let place = turning.step_place;
     let left = Copies::plain(alloc).left(turning.step_left)?;

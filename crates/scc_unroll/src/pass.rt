@@ -9,11 +9,14 @@ ghost use Rattle.scc_core_spec.specs.First.{first_of, refused, when};
 ghost use Rattle.scc_core_spec.specs.Unrolled.{earlier, first_unrolled, run_turns, unrolled, with_body};
 ghost use Rattle.scc_core_view.specs.Codes.{code_of};
 ghost use Rattle.scc_core_view.specs.Programs.{cell_of, process_of};
-ghost use Rattle.scc_unroll.specs.Asked.{AreRead, AreTaken, asked};
+ghost use Rattle.scc_unroll_asked.specs.Copied.{AreCopies, HaveCopies};
+ghost use Rattle.scc_unroll_asked.specs.Items.{asked as items};
+ghost use Rattle.scc_unroll_asked.specs.Asked.{AreRead, AreTaken, asked};
 ghost use Rattle.scc_unroll.specs.Shape.{Around, setting_of};
 ghost use Rattle.scc_unroll.specs.Spots.{spot_of};
 ghost use Rattle.scc_unroll.specs.Used.{used};
-ghost use Rattle.scc_unroll.specs.Unrolled.{AreBodies, IsOfUnrolling, IsRefused, IsUnrolled, body_of, head_of, refusal_in};
+ghost use Rattle.scc_unroll.specs.Unrolled.{IsOfUnrolling, IsRefused, IsUnrolled, body_of, head_of, refusal_in};
+ghost use Rattle.scc_unroll_asked.specs.Cores.{AreBodies};
 
 use crate::built::unrolled;
 use crate::counted::At;
@@ -64,6 +67,7 @@ fn all(
     ensures refused { (r : Refusal) → AreBodies known.entry processes → result ≡ Err (stop.Refused r) → first_of (first_unrolled (map cell_of known.entry.cells.now)) (map process_of processes) ≡ Some r }
     ensures passed { AreBodies known.entry processes → IfOk result (λ ps. first_of (first_unrolled (map cell_of known.entry.cells.now)) (map process_of processes) ≡ None) }
     ensures given { AreBodies known.entry processes → IfOk result (λ ps. map process_of ps ≡ map (with_body (body_of (map cell_of known.entry.cells.now))) (map process_of processes)) }
+    ensures copies { IfOk result (λ ps. HaveCopies known.entry.cells.now processes ps) }
 {
     let mut out = List::new(alloc);
     for p in processes.into_vec() {
@@ -79,6 +83,7 @@ fn process(alloc: Global, known: Known<'_>, p: CoreProcess) -> Result<CoreProces
     ensures refused { (r : Refusal) → AreTaken known.entry (asked p.body) → result ≡ Err (stop.Refused r) → first_unrolled (map cell_of known.entry.cells.now) (process_of p) ≡ Some r }
     ensures passed { AreTaken known.entry (asked p.body) → IfOk result (λ q. first_unrolled (map cell_of known.entry.cells.now) (process_of p) ≡ None) }
     ensures given { AreTaken known.entry (asked p.body) → IfOk result (λ q. process_of q ≡ with_body (body_of (map cell_of known.entry.cells.now)) (process_of p)) }
+    ensures copies { IfOk result (λ q. AreCopies known.entry.cells.now (items p.body) q.body) }
 {
     let mut p = p;
     p.body = new_body(alloc, known, &p)?;
@@ -91,6 +96,7 @@ fn new_body(alloc: Global, known: Known<'_>, p: &CoreProcess) -> Result<List<Cor
     ensures refused { (r : Refusal) → AreTaken known.entry (asked p.now.body) → result ≡ Err (stop.Refused r) → first_unrolled (map cell_of known.entry.cells.now) (process_of p.now) ≡ Some r }
     ensures passed { AreTaken known.entry (asked p.now.body) → IfOk result (λ l. first_unrolled (map cell_of known.entry.cells.now) (process_of p.now) ≡ None) }
     ensures given { AreTaken known.entry (asked p.now.body) → IfOk result (λ l. code_of l ≡ body_of (map cell_of known.entry.cells.now) (process_of p.now)) }
+    ensures copies { IfOk result (λ l. AreCopies known.entry.cells.now (items p.now.body) l) }
 {
     let uses = uses_of(alloc, known, p.body.as_slice())?;
     let at = At {
@@ -115,6 +121,7 @@ fn body_at(at: &At<'_>, place: Place, body: &[CoreStmt]) -> Result<List<CoreStmt
     ensures refused { (b : Statements) (r : Refusal) → Around at.now b [] → AreTaken at.now.known (asked body.now) → result ≡ Err (stop.Refused r) → refusal_in (setting_of at.now b) place (code_of body.now) ≡ Some r }
     ensures passed { (b : Statements) → Around at.now b [] → AreTaken at.now.known (asked body.now) → IfOk result (λ l. refusal_in (setting_of at.now b) place (code_of body.now) ≡ None) }
     ensures given { (b : Statements) → Around at.now b [] → AreTaken at.now.known (asked body.now) → IfOk result (λ l. code_of l ≡ unrolled (setting_of at.now b) [] Elsewhere (code_of body.now)) }
+    ensures copies { IfOk result (λ l. AreCopies at.now.known.cells.now (items body.now) l) }
 {
     let refusal = refusal_of(at, place, body)?;
     match refusal {

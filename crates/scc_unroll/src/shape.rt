@@ -1,13 +1,16 @@
 //! What statements are: their number, their waits, and the form of a counted loop's body.
-ghost use Rattle.std.specs.Prelude.{◌≡◌, nat_eq, length, ◌+◌, ◌&&◌, ◌||◌, IfOk, IfSome, [], ◌∷◌, None, true, option_map, if◌then◌else◌};
+ghost use Rattle.std.specs.Prelude.{List, ◌≡◌, nat_eq, length, ◌+◌, ◌&&◌, ◌||◌, IfOk, IfSome, [], ◌∷◌, None, true, option_map, if◌then◌else◌};
 ghost use Rattle.scc_core.specs.declared.statics.Known.{Known};
 ghost use Rattle.scc_core_spec.specs.Code as code;
 ghost use Rattle.scc_core_spec.specs.Counted as spec;
 ghost use Rattle.scc_core_view.specs.Codes.{code_of};
 ghost use Rattle.scc_core_view.specs.Terms.{taken_of, term_of};
-ghost use Rattle.scc_unroll.specs.Asked.{AreAll, AreRead, IsItself, StandIsRead, asked};
+ghost use Rattle.scc_unroll.specs.Shape.{StandIsRead, stand_of, turned};
+ghost use Rattle.scc_unroll_asked.specs.Copied.{AreWithin, IsWithin};
+ghost use Rattle.scc_unroll_asked.specs.Items.{Item};
+ghost use Rattle.scc_unroll_asked.specs.Asked.{AreAll, AreRead, IsItself, asked};
 ghost use Rattle.scc_unroll_laws.specs.Heads.{simple, stand_behind};
-ghost use Rattle.scc_unroll.specs.Shape.{IsRead, stand_of, turned};
+ghost use Rattle.scc_unroll_asked.specs.Read.{IsRead};
 
 use scc_base::{NoMemory, Place, lost};
 use scc_core::{CoreBase, CoreExpr, CoreLeft, CoreNode, CoreStmt};
@@ -172,6 +175,7 @@ pub fn turning_in(cell: u32, body: &[CoreStmt]) -> Option<Turning<'_>>
     ensures read { (known : Known) → AreRead known (asked body.now) → IfSome result (λ t. IsRead known t.test.now × IsRead known t.step.now) }
     ensures itself { AreAll IsItself (asked body.now) → IfSome result (λ t. IsItself t.step.now) }
     ensures whole { IfSome result (λ t. spec.is_whole (taken_of t.step_left.now).pick ≡ true) }
+    ensures within { (xs : List Item) → AreWithin xs body.now → IfSome result (λ t. IsWithin xs t.step_left.now) }
 {
     let [first, rest @ ..] = body else {
         return None;
@@ -205,6 +209,7 @@ fn turn<'a>(cell: u32, test: &'a CoreExpr, body: &'a [CoreStmt]) -> Option<Turni
     ensures read { (known : Known) → IsRead known test.now → AreRead known (asked body.now) → IfSome result (λ t. IsRead known t.test.now × IsRead known t.step.now) }
     ensures itself { AreAll IsItself (asked body.now) → IfSome result (λ t. IsItself t.step.now) }
     ensures whole { IfSome result (λ t. spec.is_whole (taken_of t.step_left.now).pick ≡ true) }
+    ensures within { (xs : List Item) → AreWithin xs body.now → IfSome result (λ t. IsWithin xs t.step_left.now) }
 {
     let [block, rest @ ..] = body else {
         return None;
@@ -226,6 +231,7 @@ fn step<'a>(
     ensures read { (known : Known) → IsRead known test.now → AreRead known (asked body.now) → IfSome result (λ t. IsRead known t.test.now × IsRead known t.step.now) }
     ensures itself { AreAll IsItself (asked body.now) → IfSome result (λ t. IsItself t.step.now) }
     ensures whole { IfSome result (λ t. spec.is_whole (taken_of t.step_left.now).pick ≡ true) }
+    ensures within { (xs : List Item) → AreWithin xs body.now → IfSome result (λ t. IsWithin xs t.step_left.now) }
 {
     let [s, rest @ ..] = body else {
         return None;

@@ -3,7 +3,8 @@ ghost use Rattle.std.specs.Prelude.{◌≡◌, ℕ, suc, IfOk, option_map, unwra
 ghost use Rattle.scc_core_spec.specs.Counted as spec;
 ghost use Rattle.scc_core_spec.specs.Static.{is_true};
 ghost use Rattle.scc_unroll_laws.specs.Counters.{counters_of};
-ghost use Rattle.scc_unroll.specs.Shape.{cells_at, counting_of, read, turned};
+ghost use Rattle.scc_unroll.specs.Shape.{cells_at, counting_of, turned};
+ghost use Rattle.scc_unroll_asked.specs.Read.{read};
 ghost use Rattle.scc_unroll.specs.Turns.{IsTold, going_by, turns_of, went};
 
 use crate::counted::{At, Counted, counters_in, number};

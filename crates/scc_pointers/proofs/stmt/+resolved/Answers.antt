@@ -9,7 +9,8 @@ use Rattle.scc_pointers_spec.specs.Freed.{freed}
 use Rattle.scc_pointers_walk.specs.Led.{leads_of}
 use Rattle.scc_pointers_walk.specs.Walked.{expr_in}
 use Rattle.scc_pointers_walk.specs.declared.held.Resolver.{Resolver}
-use Rattle.scc_pointers_laws.specs.Asked.{AreAsked, Asks, IsBeside, asked, asked_count}
+use Rattle.scc_pointers_laws.specs.Asked.{AreAsked, Asks, IsBeside}
+use Rattle.scc_unroll_asked.specs.Items.{asked, asked_count}
 use Rattle.scc_pointers_laws.specs.Followed.{IsKnown}
 use Rattle.scc_pointers_laws.proofs.Asked.{all_aim, all_back, all_block, all_first, all_front, all_if, all_loop, all_put, all_rest, asked_beside}
 use Rattle.scc_pointers_laws.proofs.Turning.{alias_known, alias_turns, behind_ok, exit_gives, exit_turns, if_made, if_no, if_test, if_yes, known_on, leads_behind, list_more, list_stops, loop_behind, put_turns, turns_by}

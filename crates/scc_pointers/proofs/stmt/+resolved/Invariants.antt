@@ -1,7 +1,8 @@
 use Rattle.std.proofs.Common.{◌≡◌, drop}
 use Rattle.scc_core_spec.specs.Resolved.{made_map}
 use Rattle.scc_core_view.specs.Codes.{code_of}
-use Rattle.scc_pointers_laws.specs.Asked.{AreAsked, asked}
+use Rattle.scc_pointers_laws.specs.Asked.{AreAsked}
+use Rattle.scc_unroll_asked.specs.Items.{asked}
 use Rattle.scc_pointers_laws.specs.Followed.{IsKnown}
 use Rattle.scc_pointers_laws.specs.Stated.{Begins}
 use Rattle.scc_pointers_spec.specs.Freed.{freed}

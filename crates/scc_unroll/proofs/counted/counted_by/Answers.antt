@@ -4,9 +4,9 @@ use Rattle.scc_core.specs.declared.stmt.Count.{Count}
 use Rattle.scc_core_spec.specs.Counted as spec
 use Rattle.scc_core_view.specs.Codes.{code_of, counted}
 use Rattle.scc_unroll.specs.declared.shape.Stand.TheVariants as stand
-use Rattle.scc_unroll.specs.Asked.{AreRead, StandIsRead, asked_count}
+use Rattle.scc_unroll.specs.Shape.{StandIsRead, cells_at, counting_of, setting_of, stand_of}
+use Rattle.scc_unroll_asked.specs.Asked.{AreRead, asked_count}
 use Rattle.scc_unroll_laws.specs.Counters.{counters_of}
-use Rattle.scc_unroll.specs.Shape.{cells_at, counting_of, setting_of, stand_of}
 use Rattle.scc_unroll.proofs.counted.counted_by.Goals as goal
 
 pub returns-in-Behind-Some-clause-counted : goal.returns-in-Behind-Some-clause-counted

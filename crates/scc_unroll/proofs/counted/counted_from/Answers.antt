@@ -4,7 +4,8 @@ use Rattle.scc_core_view.specs.Codes.{code_of}
 use Rattle.scc_core_view.specs.Terms.{term_of}
 use Rattle.scc_core_spec.specs.Counted as spec
 use Rattle.scc_unroll_laws.specs.Counters.{counters_of}
-use Rattle.scc_unroll.specs.Shape.{IsRead, cells_at, turned}
+use Rattle.scc_unroll.specs.Shape.{cells_at, turned}
+use Rattle.scc_unroll_asked.specs.Read.{IsRead}
 use Rattle.scc_unroll.proofs.Forms.{not_counted, is_counted, parts_found}
 use Rattle.scc_unroll.proofs.counted.counted_from.Goals as goal
 

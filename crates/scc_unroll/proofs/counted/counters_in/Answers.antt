@@ -1,6 +1,6 @@
 use Rattle.std.proofs.Common.{sym, ap, subst, ◌∙◌, ◌∷◌}
 use Rattle.scc_unroll_laws.specs.Counters.{counters_of}
-use Rattle.scc_unroll.specs.Shape.{AreCounters, IsCounter}
+use Rattle.scc_unroll_asked.specs.Read.{AreCounters, IsCounter}
 use Rattle.scc_unroll.proofs.counted.counters_in.Goals as goal
 
 pub returns-clause-is : goal.returns-clause-is

@@ -7,14 +7,14 @@ use Rattle.scc_core_spec.specs.Counted as spec
 use Rattle.scc_core_spec.specs.Unrolled.{Spot, run_turns}
 use Rattle.scc_core_view.specs.Codes.{code_of, counted}
 use Rattle.scc_core_view.specs.Terms.{term_of}
-use Rattle.scc_unroll.specs.Asked.{AreRead, asked}
+use Rattle.scc_unroll_asked.specs.Asked.{AreRead, asked}
 use Rattle.scc_unroll.specs.Budgets.{after, budget_of, took, turn_spots}
 use Rattle.scc_unroll_laws.specs.Counters.{counters_of}
 use Rattle.scc_unroll_laws.specs.Heads.{head_size, stand_behind}
 use Rattle.scc_unroll.specs.Shape.{cells_at, counting_of, setting_of, stand_of}
 use Rattle.scc_unroll.specs.Spots.{spot_of}
 use Rattle.scc_unroll.specs.Turns.{IsTold, turn_of}
-use Rattle.scc_unroll.proofs.Asked.{first_read, rest_read, yes_read, no_read, block_read, count_read, loop_read}
+use Rattle.scc_unroll_asked.proofs.Asked.{first_read, rest_read, yes_read, no_read, block_read, count_read, loop_read}
 use Rattle.scc_unroll.proofs.Budgets.{stays_over, no_turns, simple_turns, turns_more, turns_if, turns_block, turns_loop, turns_counted}
 use Rattle.scc_unroll_laws.proofs.Heads.{from_here, head_sized, last_is}
 use Rattle.scc_unroll_laws.proofs.Stmts.{as_if, as_block, as_loop}

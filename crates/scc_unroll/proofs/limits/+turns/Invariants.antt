@@ -3,10 +3,10 @@ use Rattle.std.specs.Prelude.{flat_map}
 use Rattle.scc_core_spec.specs.Code.{Code}
 use Rattle.scc_core_spec.specs.Unrolled.{run_turns}
 use Rattle.scc_core_view.specs.Codes.{code_of}
-use Rattle.scc_unroll.specs.Asked.{AreRead, StandIsRead, asked}
+use Rattle.scc_unroll.specs.Shape.{StandIsRead, Around, setting_of, stand_of}
+use Rattle.scc_unroll_asked.specs.Asked.{AreRead, asked}
 use Rattle.scc_unroll.specs.Budgets.{after, budget_of, turn_spots}
 use Rattle.scc_unroll_laws.specs.Counters.{counters_of}
-use Rattle.scc_unroll.specs.Shape.{Around, setting_of, stand_of}
 use Rattle.scc_unroll.specs.Spots.{spot_of}
 use Rattle.scc_unroll.specs.Turns.{turn_of}
 use Rattle.scc_unroll.proofs.limits.+turns.Given as goal

@@ -6,13 +6,13 @@ use Rattle.scc_core_spec.specs.First.{or_else}
 use Rattle.scc_core_spec.specs.Unrolled.{Spot, first_spot, uncounted}
 use Rattle.scc_core_view.specs.Codes.{code_of, counted}
 use Rattle.scc_core_view.specs.Terms.{term_of}
-use Rattle.scc_unroll.specs.Asked.{AreRead, asked}
+use Rattle.scc_unroll_asked.specs.Asked.{AreRead, asked}
 use Rattle.scc_unroll_laws.specs.Counters.{counters_of}
 use Rattle.scc_unroll_laws.specs.Heads.{head_size, stand_behind}
 use Rattle.scc_unroll.specs.Shape.{setting_of, stand_of}
 use Rattle.scc_unroll.specs.Spots.{spot_of}
 use Rattle.scc_unroll_laws.specs.Spots.{looked_into}
-use Rattle.scc_unroll.proofs.Asked.{first_read, rest_read, yes_read, no_read, count_read, loop_read}
+use Rattle.scc_unroll_asked.proofs.Asked.{first_read, rest_read, yes_read, no_read, count_read, loop_read}
 use Rattle.scc_unroll_laws.proofs.Heads.{from_here, head_sized, last_is}
 use Rattle.scc_unroll_laws.proofs.Looks.{simple_look, look_if, look_loop}
 use Rattle.scc_unroll_laws.proofs.Stmts.{as_if, as_loop}

@@ -2,7 +2,7 @@ use Rattle.std.proofs.Common.{◌≡◌, drop}
 use Rattle.scc_core_spec.specs.Code.{Code}
 use Rattle.scc_core_spec.specs.Unrolled.{first_spot, uncounted}
 use Rattle.scc_core_view.specs.Codes.{code_of}
-use Rattle.scc_unroll.specs.Asked.{AreRead, asked}
+use Rattle.scc_unroll_asked.specs.Asked.{AreRead, asked}
 use Rattle.scc_unroll_laws.specs.Counters.{counters_of}
 use Rattle.scc_unroll.specs.Shape.{Around, setting_of, stand_of}
 use Rattle.scc_unroll.proofs.look.+looked.Given as goal

@@ -7,8 +7,10 @@ use Rattle.scc_core_spec.specs.Counted.{Elsewhere, uses}
 use Rattle.scc_core_spec.specs.Unrolled.{unrolled}
 use Rattle.scc_core_view.specs.Codes.{code_of}
 use Rattle.scc_core_view.specs.Programs.{cell_of, path_of}
-use Rattle.scc_unroll.specs.Asked.{AreTaken, asked}
+use Rattle.scc_unroll_asked.specs.Asked.{AreTaken, asked}
 use Rattle.scc_unroll.specs.Unrolled.{refusal_in}
+use Rattle.scc_unroll_asked.specs.Copied.{AreCopies}
+use Rattle.scc_unroll_asked.specs.Items.{asked as items}
 use Rattle.scc_unroll.proofs.pass.new_body.Goals as goal
 
 pub returns-clause-refused : goal.returns-clause-refused
@@ -45,3 +47,7 @@ returns-clause-given c = λ taken.
     let Body : List PathPart → List CoreStmt → Code = λ x y. unrolled (record { cells = cs; path = path_of x; body = b }) [] Elsewhere (code_of y) in
     IfOk-weaker c.body_at.result (λ l. code_of l ≡ Body c.as_slice-2.result.now c.as_slice-3.result.now) (λ l. code_of l ≡ Body p.name.path p.body)
     (λ l h. subst (λ x. code_of l ≡ Body x p.body) c.as_slice-2.ensures.parts (subst (λ y. code_of l ≡ Body c.as_slice-2.result.now y) one h)) here
+
+pub returns-clause-copies : goal.returns-clause-copies
+returns-clause-copies c =
+    IfOk-weaker c.body_at.result _ _ (λ l h. subst (λ x. AreCopies c.args.known.cells.now (items x) l) c.as_slice-3.ensures.elements h) c.body_at.ensures.copies

@@ -1,6 +1,8 @@
 use Rattle.std.proofs.Common.{◌<◌, arith, length}
-use Rattle.scc_unroll.specs.Asked.{IsItself}
-use Rattle.scc_unroll.proofs.Asked.{all_few, first_read, rest_taken, test_read}
+use Rattle.scc_unroll_asked.specs.Asked.{IsItself}
+use Rattle.scc_unroll_asked.proofs.Asked.{all_few, first_read, rest_taken, test_read}
+use Rattle.scc_unroll_asked.specs.Copied.{OneOf}
+use Rattle.scc_unroll_asked.proofs.Items.{all_few as few_items}
 use Rattle.scc_unroll.proofs.shape.turning_in.Goals as goal
 
 pub returns-then-leaves_block-clause-read : goal.returns-then-leaves_block-clause-read
@@ -11,3 +13,6 @@ returns-then-leaves_block-clause-read c = λ known reads.
 
 pub returns-then-leaves_block-clause-itself : goal.returns-then-leaves_block-clause-itself
 returns-then-leaves_block-clause-itself c = λ all. c.turn.ensures.itself (all_few IsItself c.args.body.now _ all)
+
+pub returns-then-leaves_block-clause-within : goal.returns-then-leaves_block-clause-within
+returns-then-leaves_block-clause-within c = λ xs all. c.turn.ensures.within xs (few_items (λ x. OneOf x xs) c.args.body.now _ all)

@@ -6,10 +6,10 @@ use Rattle.scc_core_spec.specs.Counted as spec
 use Rattle.scc_core_spec.specs.Unrolled.{unrolled, written_out}
 use Rattle.scc_core_view.specs.Codes.{code_of, counted}
 use Rattle.scc_core_view.specs.Terms.{term_of}
-use Rattle.scc_unroll.specs.Asked.{AreRead, asked}
+use Rattle.scc_unroll_asked.specs.Asked.{AreRead, asked}
 use Rattle.scc_unroll.specs.Shape.{HasParts, setting_of, stand_of, turned}
 use Rattle.scc_unroll.specs.Turns.{ended_of, turn_of}
-use Rattle.scc_unroll.proofs.Asked.{first_read, rest_read, yes_read, no_read, block_read, count_read, loop_read, middle_read}
+use Rattle.scc_unroll_asked.proofs.Asked.{first_read, rest_read, yes_read, no_read, block_read, count_read, loop_read, middle_read}
 use Rattle.scc_unroll_laws.specs.Counters.{counters_of}
 use Rattle.scc_unroll_laws.specs.Heads.{stand_behind}
 use Rattle.scc_unroll_laws.specs.Sizes.{more, sum_of}

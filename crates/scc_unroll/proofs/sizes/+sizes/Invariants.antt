@@ -4,8 +4,8 @@ use Rattle.scc_core_spec.specs.Code.{Code, size}
 use Rattle.scc_core_spec.specs.Counted.{Turning}
 use Rattle.scc_core_spec.specs.Unrolled.{unrolled}
 use Rattle.scc_core_view.specs.Codes.{code_of}
-use Rattle.scc_unroll.specs.Asked.{AreRead, StandIsRead, asked}
-use Rattle.scc_unroll.specs.Shape.{Around, setting_of, stand_of}
+use Rattle.scc_unroll.specs.Shape.{StandIsRead, Around, setting_of, stand_of}
+use Rattle.scc_unroll_asked.specs.Asked.{AreRead, asked}
 use Rattle.scc_unroll.specs.Turns.{turn_of}
 use Rattle.scc_unroll_laws.specs.Counters.{counters_of}
 use Rattle.scc_unroll_laws.specs.Sizes.{more, sum_of}

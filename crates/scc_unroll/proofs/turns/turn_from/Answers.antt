@@ -3,7 +3,8 @@ use Rattle.scc_core_spec.specs.Counted.{Counter, counter, counting}
 use Rattle.scc_core_spec.specs.Static.{is_true, static}
 use Rattle.scc_core_view.specs.Terms.{term_of}
 use Rattle.scc_unroll_laws.specs.Counters.{counters_of}
-use Rattle.scc_unroll.specs.Shape.{cells_at, read, turned}
+use Rattle.scc_unroll.specs.Shape.{cells_at, turned}
+use Rattle.scc_unroll_asked.specs.Read.{read}
 use Rattle.scc_unroll.proofs.EachTurn.{turn_is}
 use Rattle.scc_unroll.proofs.turns.turn_from.Goals as goal
 

@@ -7,8 +7,8 @@ use Rattle.scc_core.specs.Counters.{counted}
 use Rattle.scc_core.specs.declared.program.Core.{Core}
 use Rattle.scc_core.specs.declared.program.CoreProcess.{CoreProcess}
 use Rattle.scc_core_view.specs.Whole.{AreWholeCells, IsWhole}
-use Rattle.scc_unroll.specs.Asked.{AreAll, IsItself, asked}
-use Rattle.scc_unroll.specs.Shape.{AreCounters}
+use Rattle.scc_unroll_asked.specs.Asked.{AreAll, IsItself, asked}
+use Rattle.scc_unroll_asked.specs.Read.{AreCounters}
 
 -- each number is one of its cell's kind; where a divisor is a counter the expression isn't whole, since the counter may be 0
 abbrev pub AreWholeCounted : List Cell → List CoreExpr → Type 0

@@ -14,11 +14,11 @@ use Rattle.scc_core_static_laws.specs.Held.{Knows}
 use Rattle.scc_core_view.specs.Programs.{cell_of}
 use Rattle.scc_core_view.specs.Terms.{term_of}
 use Rattle.scc_core_view.specs.Whole.{AreWholeCells, IsWhole}
-use Rattle.scc_unroll.specs.Asked.{AreAll, AreRead, AreTaken, IsItself, asked}
-use Rattle.scc_unroll.specs.Unrolled.{IsAsked, IsKnown}
+use Rattle.scc_unroll_asked.specs.Asked.{AreAll, AreRead, AreTaken, IsItself, asked}
+use Rattle.scc_unroll_asked.specs.Cores.{IsAsked, IsKnown}
 use Rattle.scc_unroll_laws.specs.Counters.{counters_of}
-use Rattle.scc_unroll.specs.Shape.{AreCounters, IsRead}
-use Rattle.scc_unroll.specs.Wholes.{AreWholeCounted, IsWholeCore}
+use Rattle.scc_unroll_asked.specs.Read.{AreCounters, IsRead}
+use Rattle.scc_unroll_asked.specs.Wholes.{AreWholeCounted, IsWholeCore}
 use Rattle.scc_unroll_laws.proofs.Counting.{copy_says}
 
 module _ (known : Known) (cells : List Cell) (k : Knows known cells [])

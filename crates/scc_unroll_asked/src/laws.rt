@@ -6,9 +6,9 @@ ghost use Rattle.scc_core.specs.declared.program.Core.{Core};
 ghost use Rattle.scc_core.specs.declared.statics.Known.{Known};
 ghost use Rattle.scc_core_static_laws.specs.Held.{Knows};
 ghost use Rattle.scc_core_view.specs.Whole.{AreWholeCells};
-ghost use Rattle.scc_unroll.specs.Asked.{AreRead};
-ghost use Rattle.scc_unroll.specs.Unrolled.{IsAsked};
-ghost use Rattle.scc_unroll.specs.Wholes.{AreWholeCounted, IsWholeCore};
+ghost use Rattle.scc_unroll_asked.specs.Asked.{AreRead};
+ghost use Rattle.scc_unroll_asked.specs.Cores.{IsAsked};
+ghost use Rattle.scc_unroll_asked.specs.Wholes.{AreWholeCounted, IsWholeCore};
 
 use scc_core_static_laws::static_values_by_a_table_are_those_of_terms;
 

@@ -8,9 +8,7 @@ use Rattle.scc_core.specs.declared.stmt.CoreNode.TheOpen as node
 use Rattle.scc_core.specs.declared.stmt.Count.{Count}
 use Rattle.scc_core_spec.specs.Term.{kind_of, place_of}
 use Rattle.scc_core_view.specs.Terms.{term_of}
-use Rattle.scc_unroll.specs.declared.shape.Stand.{Stand}
-use Rattle.scc_unroll.specs.declared.shape.Stand.TheVariants as stand
-use Rattle.scc_unroll.specs.Shape.{IsRead}
+use Rattle.scc_unroll_asked.specs.Read.{IsRead}
 
 abbrev pub asked_count : Option Count → List CoreExpr
 asked_count None = []
@@ -57,8 +55,3 @@ pub record IsTaken (known : Known) (e : CoreExpr) : Type 0 where
 
 abbrev pub AreTaken : Known → List CoreExpr → Type 0
 AreTaken known = AreAll (IsTaken known)
-
--- what is assigned before a statement has it, too
-abbrev pub StandIsRead : Known → Stand → Type 0
-StandIsRead known (stand.Behind l e) = IsRead known e.now
-StandIsRead known _ = Unit {0}

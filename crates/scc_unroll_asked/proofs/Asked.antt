@@ -8,8 +8,8 @@ use Rattle.scc_core.specs.declared.stmt.CoreStmt.{CoreStmt, fold-roll-CoreStmt}
 use Rattle.scc_core.specs.declared.stmt.CoreNode.{CoreNode, fold-CoreNode, fold-roll-CoreNode}
 use Rattle.scc_core.specs.declared.stmt.CoreNode.TheVariants as node
 use Rattle.scc_core.specs.declared.stmt.CoreNode.TheOpen as tree
-use Rattle.scc_unroll.specs.Asked.{asked_count, asked_node, asked_step, asked_in, asked, AreAll, AreRead, AreTaken, IsItself}
-use Rattle.scc_unroll.specs.Shape.{IsRead}
+use Rattle.scc_unroll_asked.specs.Asked.{asked_count, asked_node, asked_step, asked_in, asked, AreAll, AreRead, AreTaken, IsItself}
+use Rattle.scc_unroll_asked.specs.Read.{IsRead}
 
 abbrev by_node : CoreNode → List CoreExpr
 by_node = fold-CoreNode (List CoreExpr) (List CoreExpr) asked_node asked_step

@@ -1,0 +1,6 @@
+pub mod Asked
+pub mod Copied
+pub mod Cores
+pub mod Items
+pub mod Read
+pub mod Wholes
