@@ -1,5 +1,5 @@
 -- What stands first in lists stays, and the headings of processes in order.
-use Rattle.std.proofs.Common.{◌≡◌, refl, sym, ap, subst, ◌∙◌, arith, ℕ, zero, suc, ◌+◌, List, [], ◌∷◌, ◌++◌, map, drop, take, length, Option, Some, None, option_map, slice_get, unwrap_or, append_assoc}
+use Rattle.std.proofs.Common.{◌≡◌, refl, sym, ap, subst, ◌∙◌, arith, ℕ, suc, ◌+◌, List, [], ◌∷◌, ◌++◌, map, drop, take, length, Option, Some, option_map, slice_get, unwrap_or, append_assoc}
 use Rattle.std.proofs.lemmas.Option.{slice_get-map}
 use Rattle.scc_core.specs.declared.program.Cell.{Cell}
 use Rattle.scc_core.specs.declared.program.CoreProcess.{CoreProcess}
@@ -21,7 +21,7 @@ use Rattle.scc_plain_view.specs.Designs.{process_of}
 use Rattle.scc_plain_view.specs.Plains.{plain_of, class_of}
 use Rattle.scc_inline_spec.specs.Inlined.{copied_from, copied_process}
 use Rattle.scc_inline.specs.Headings.{without_body}
-use Rattle.scc_inline.specs.Begun.{Begins, IsBegun, IsHeading, Keeps, are_headings, copied_headings, heading_of, top_in}
+use Rattle.scc_inline.specs.Begun.{IsBegun, IsHeading, Keeps, are_headings, copied_headings, heading_of, top_in}
 use Rattle.scc_inline.proofs.Titled.{drop_at, map_both}
 
 pub first_stays : {A : Type 0} (front cells more : List A) → take (length front) cells ≡ front → take (length front) (cells ++ more) ≡ front

@@ -1,5 +1,5 @@
 -- Processes without their bodies are those of the definition.
-use Rattle.std.proofs.Common.{Result, Ok, Err, ◌≡◌, refl, sym, ap, ◌∙◌, arith, ℕ, zero, suc, ◌+◌, Bool, List, [], ◌∷◌, ◌++◌, map, drop, Option, Some, None, option_map, slice_get, unwrap_or, append_assoc}
+use Rattle.std.proofs.Common.{Result, Ok, Err, ◌≡◌, refl, sym, ap, ◌∙◌, arith, ℕ, zero, suc, ◌+◌, List, [], ◌∷◌, ◌++◌, map, drop, Option, Some, option_map, slice_get, unwrap_or, append_assoc}
 use Rattle.std.proofs.lemmas.Option.{slice_get-map}
 use Rattle.scc_base.specs.declared.path.PathPart.{PathPart}
 use Rattle.scc_base.specs.declared.path.PathPart.TheVariants as path_part
@@ -17,7 +17,7 @@ use Rattle.scc_elab_spec.specs.Design.{Design, Object}
 use Rattle.scc_elab_spec.specs.Cells.{cell_number}
 use Rattle.scc_inline_cells.specs.Listed.{counted}
 use Rattle.scc_inline_cells.proofs.Numbers.{number_is}
-use Rattle.scc_plain_view.specs.Designs.{design_of, object_of, process_of, part_of, path_of}
+use Rattle.scc_plain_view.specs.Designs.{design_of, object_of, process_of, part_of}
 use Rattle.scc_plain_view.specs.Plains.{plain_of, function_of}
 use Rattle.scc_inline_cells.proofs.Views.{path_is}
 use Rattle.scc_inline_spec.specs.Inlined.{process_path}

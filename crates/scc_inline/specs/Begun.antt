@@ -9,7 +9,7 @@ use Rattle.scc_elab_spec.specs.Cells.{object_cells}
 use Rattle.scc_elab_spec.specs.Design as design
 use Rattle.scc_elab_spec.specs.Design.{Design}
 use Rattle.scc_elab_spec.specs.Program.{Plain}
-use Rattle.scc_inline_spec.specs.Inlined.{copied_from, copied_process, copied_program, core_vectors}
+use Rattle.scc_inline_spec.specs.Inlined.{copied_from, copied_process, copied_program}
 use Rattle.scc_inline.specs.declared.scope.Growing.{Growing}
 use Rattle.scc_inline.specs.Headings.{without_body}
 

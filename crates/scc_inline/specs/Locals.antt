@@ -1,5 +1,5 @@
 -- The cells of a process's locals and results. This project's own.
-use Rattle.std.specs.Prelude.{◌≡◌, ℕ, suc, List, [], ◌∷◌, ◌++◌, map, Option, Some, None, if◌then◌else◌}
+use Rattle.std.specs.Prelude.{◌≡◌, ℕ, suc, List, [], ◌∷◌, ◌++◌, map, Some, None, if◌then◌else◌}
 use Rattle.scc_base.specs.declared.refusal.Place.{Place}
 use Rattle.scc_bits_kinds.specs.declared.kind.Kind.{Kind}
 use Rattle.scc_core.specs.declared.program.Cell.{Cell}

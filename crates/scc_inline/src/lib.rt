@@ -8,9 +8,11 @@
 
 mod elements;
 mod heading;
+mod laws;
 mod locate;
 mod process;
 mod scope;
 mod stmt;
 
+pub use laws::{locals_are_named_statement_by_statement, locals_are_numbered_one_by_one};
 pub use process::inline;

@@ -1,11 +1,17 @@
 //! The core of a design.
-ghost use Rattle.std.specs.Prelude.{◌≡◌, IfErr, IfOk, OnOk};
+ghost use Rattle.std.specs.Prelude.{◌≡◌, ℕ, IfErr, IfOk, OnOk};
+ghost use Rattle.scc_base.specs.declared.code.Code.TheVariants as reason;
+ghost use Rattle.scc_core_spec.specs.First.{refused, when};
+ghost use Rattle.scc_elab_spec.specs.Design.{Design as Standing};
+ghost use Rattle.scc_inline_facts.specs.Known.{AreFacts};
+ghost use Rattle.scc_inline_size_laws.specs.Counts.{passes};
+ghost use Rattle.scc_inline_spec.specs.Inlined.{too_large};
 ghost use Rattle.scc_core_view.specs.Programs.{program_of};
 ghost use Rattle.scc_inline_cells.specs.Listed.{counted};
 ghost use Rattle.scc_plain_view.specs.Designs.{design_of, process_of};
 ghost use Rattle.scc_plain_view.specs.Plains.{plain_of};
 ghost use Rattle.scc_inline.specs.Begun.{IsBegun, IsHeading, Keeps, are_headings, copied_headings, heading_of, top_in};
-ghost use Rattle.scc_inline.specs.Refusals.{MayStop};
+ghost use Rattle.scc_inline.specs.Refusals.{AreSized, IsSized, Judges, MayChoose, MayStop};
 
 use crate::heading::heading;
 use crate::scope::{Growing, Here, Scope, Source, This};
@@ -13,7 +19,7 @@ use scc_base::{Code, List, Name, NoMemory, Path, PathPart, Place, Stop, lost};
 use scc_core::{CellName, Core, CoreBase, CoreLeft, CoreNode, CoreProcess, CoreStmt, numbered};
 use scc_elab_design::{Design, Process};
 use scc_inline_cells::{object_cells, vectors};
-use scc_inline_facts::{DEPTH, Facts, all_facts};
+use scc_inline_facts::{DEPTH, Facts, all_facts, facts_at};
 use scc_plain_tree::Plain;
 use std::alloc::Global;
 
@@ -22,6 +28,7 @@ use std::alloc::Global;
 /// object of a call is chosen, under an index that isn't static. The first of the first process that has one.
 pub fn inline(alloc: Global, p: &Plain, d: &Design) -> Result<Core, Stop>
     ensures stop { IfErr result MayStop }
+    ensures sized { AreSized (plain_of p.now) (design_of d.now) result }
     ensures begun { IfOk result (λ c. IsBegun (plain_of p.now) (design_of d.now) (program_of c)) }
 {
     let top = top_of(p)?;
@@ -62,6 +69,7 @@ impl Growing {
     ) -> Result<List<CoreProcess>, Stop>
         ensures stop { IfErr result MayStop }
         ensures keeps { OnOk result (Keeps self.old self.new) }
+        ensures sized { AreFacts (plain_of source.entry.plain.now) source.entry.facts.now → AreSized (plain_of source.entry.plain.now) (design_of d.now) result }
         ensures headings { cells.now ≡ counted 0 (design_of d.now).objects → IfOk result (λ qs. are_headings qs ≡ copied_headings (plain_of source.entry.plain.now) (design_of d.now)) }
     {
         let mut made = List::new(self.alloc);
@@ -70,7 +78,10 @@ impl Growing {
                 return Err(lost().into());
             };
             self.number = numbered(number)?;
-            let copied = self.process(source, d, process, cells)?;
+            let copied = match self.process(source, d, process, cells) {
+                Ok(copied) => copied,
+                Err(stop) => return Err(stop),
+            };
             made.push(copied)?;
         }
         Ok(made)
@@ -85,6 +96,25 @@ impl Growing {
     ) -> Result<CoreProcess, Stop>
         ensures stop { IfErr result MayStop }
         ensures keeps { OnOk result (Keeps self.old self.new) }
+        ensures sized { AreFacts (plain_of source.entry.plain.now) source.entry.facts.now → (i : ℕ) → IsSized (too_large (plain_of source.entry.plain.now) (design_of d.now) i (process_of process.now)) result }
+        ensures headings { cells.now ≡ counted 0 (design_of d.now).objects → IfOk result (λ q. IsHeading (plain_of source.entry.plain.now) (design_of d.now) (process_of process.now) q) }
+    {
+        match judged(source, process) {
+            Ok(()) => self.fitting(source, d, process, cells),
+            Err(stop) => Err(stop),
+        }
+    }
+
+    // A process that passes no limit.
+    fn fitting(
+        &mut self,
+        source: Source,
+        d: &Design,
+        process: &Process,
+        cells: &List<Option<u32>>,
+    ) -> Result<CoreProcess, Stop>
+        ensures stop { IfErr result MayChoose }
+        ensures keeps { OnOk result (Keeps self.old self.new) }
         ensures headings { cells.now ≡ counted 0 (design_of d.now).objects → IfOk result (λ q. IsHeading (plain_of source.entry.plain.now) (design_of d.now) (process_of process.now) q) }
     {
         let function = source
@@ -92,12 +122,7 @@ impl Growing {
             .functions
             .get(process.function as usize)
             .ok_or(lost())?;
-        let Some(Some(facts)) = source.facts.get(process.function as usize) else {
-            return Err(lost().into());
-        };
-        if is_too_large(facts) {
-            return Err(Stop::refused(Code::TooLarge, process.place)); // E601
-        }
+        let facts = facts_at(source.facts, process.function)?;
         let object = d.objects.get(process.object as usize).ok_or(lost())?;
         let here = Here {
             source,
@@ -127,7 +152,7 @@ impl Growing {
         here: &Here,
         place: Place,
     ) -> Result<List<CoreStmt>, Stop>
-        ensures stop { IfErr result MayStop }
+        ensures stop { IfErr result MayChoose }
         ensures keeps { OnOk result (Keeps self.old self.new) }
     {
         let this = This {
@@ -159,9 +184,26 @@ fn with_body(heading: CoreProcess, body: List<CoreStmt>) -> CoreProcess
     made
 }
 
-// Whether a body with its calls copied, in its one block, passes a limit.
-fn is_too_large(facts: &Facts) -> bool {
-    facts.size.plus(1).is_over() || facts.height >= DEPTH
+// E601 of a process.
+fn judged(source: Source, process: &Process) -> Result<(), Stop>
+    ensures stop { IfErr result MayStop }
+    ensures judges { AreFacts (plain_of source.entry.plain.now) source.entry.facts.now → (d : Standing) (i : ℕ) → Judges (too_large (plain_of source.entry.plain.now) d i (process_of process.now)) result }
+{
+    match facts_at(source.facts, process.function) {
+        Ok(facts) => fits(facts, process),
+        Err(_) => Err(Stop::NoMemory),
+    }
+}
+
+// E601 where a body with its calls copied passes a limit.
+fn fits(facts: &Facts, process: &Process) -> Result<(), Stop>
+    ensures stop { IfErr result MayStop }
+    ensures judges { Judges (when (passes facts.now.extent.size facts.now.extent.height) (refused reason.TooLarge process.now.place)) result }
+{
+    if facts.extent.is_too_large() {
+        return Err(Stop::refused(Code::TooLarge, process.place)); // E601
+    }
+    Ok(())
 }
 
 pub fn named(alloc: Global, path: &[PathPart]) -> Result<CellName, NoMemory> {

@@ -1,5 +1,12 @@
 //! What a copy of a function works with.
-ghost use Rattle.std.specs.Prelude.{◌≡◌, [], ◌∷◌, ◌++◌, IfOk, OnOk};
+ghost use Rattle.std.specs.Prelude.{◌≡◌, ℕ, List, [], ◌∷◌, ◌++◌, length, Some, IfOk, OnOk};
+ghost use Rattle.scc_core_spec.specs.Program.{Cell as CellOf};
+ghost use Rattle.scc_elab_spec.specs.Numbering.{first_locals, whole_local};
+ghost use Rattle.scc_plain_view.specs.Terms.{left_of};
+ghost use Rattle.scc_elab_spec.specs.Program.{Plain as ProgramOf};
+ghost use Rattle.scc_semantics.specs.Location as location;
+ghost use Rattle.scc_semantics.specs.Location.{Root};
+ghost use Rattle.scc_inline.specs.Named.{IsHere, IsKept, IsNew, IsNumbered, IsPut, Stands, added, has_cell, is_given, one_more};
 ghost use Rattle.scc_inline_spec.specs.Inlined.{answer_member};
 ghost use Rattle.scc_core_view.specs.Programs.{sort_of as core_sort};
 ghost use Rattle.scc_elab_spec.specs.Bodies.{elements as elements_in, number_kind};
@@ -16,8 +23,8 @@ use scc_core::{
     Cell, CellName, CellSort, CoreBase, CoreExpr, CoreExprNode, CoreLeft, CoreNode, CoreStmt,
     Counters, Known, Places, Spot, VectorSize2, numbered,
 };
-use scc_inline_facts::Facts;
-use scc_plain_tree::{Base, Plain, PlainFunction, PlainMember, Reach};
+use scc_inline_facts::{Facts, alone};
+use scc_plain_tree::{Base, Plain, PlainFunction, PlainLeft, PlainMember, Reach};
 use std::alloc::Global;
 
 /// What is copied from.
@@ -110,7 +117,9 @@ impl Scope {
         alloc: Global,
         function: &PlainFunction,
         this: Option<This>,
-    ) -> Result<Scope, NoMemory> {
+    ) -> Result<Scope, NoMemory>
+        ensures { IfOk result IsNew }
+    {
         let mut scope = Scope {
             this,
             locals: Vec::new(alloc),
@@ -134,9 +143,35 @@ impl Scope {
         cell.ok_or(lost())
     }
 
+    // Whether a local has its number.
+    fn has(&self, local: u32) -> bool
+        ensures { result ≡ is_given self.now local }
+    {
+        match self.locals.get(local as usize) {
+            Some(slot) => is_some(slot),
+            None => false,
+        }
+    }
+
+    // A local has its first cell and its number.
+    fn set(&mut self, local: u32, cell: u32, number: u32) -> Result<(), NoMemory>
+        ensures { OnOk result (IsNumbered self.old self.new local cell number) }
+    {
+        put_cell(&mut self.locals, local, cell)?;
+        put_number(&mut self.numbers, local, number)
+    }
+
     /// The number of a local in its process.
     pub fn number(&self, local: u32) -> Result<u32, NoMemory> {
         self.numbers.get(local as usize).copied().ok_or(lost())
+    }
+
+    /// A call's result has this cell.
+    pub fn note_answer(&mut self, call: u32, cell: u32) -> Result<(), NoMemory>
+        ensures { OnOk result (IsKept self.old self.new) }
+    {
+        self.answers.insert(call, cell)?;
+        Ok(())
     }
 
     /// The number of the next loop in text order.
@@ -147,7 +182,9 @@ impl Scope {
     }
 
     /// Whether a local is given what it leads to for the first time.
-    pub fn points_first(&mut self, local: u32) -> bool {
+    pub fn points_first(&mut self, local: u32) -> bool
+        ensures { IsKept self.old self.new }
+    {
         match self.pointed.get_mut(local as usize) {
             Some(pointed) => {
                 let first = !*pointed;
@@ -214,26 +251,42 @@ impl Growing {
         local: u32,
     ) -> Result<(), NoMemory>
         ensures keeps { OnOk result (Keeps self.old self.new) }
+        ensures names { (p : ProgramOf) (f : ℕ) (front : List CellOf) (cs : List ℕ) (i : ℕ) (roots : List Root) → IsHere p f cs (function_of function.now) → Stands p f front cs i self.old scope.old roots
+            → OnOk result (Stands p f front cs i self.new scope.new (one_more roots (location.Local i cs local))) }
     {
-        let at = local as usize;
-        let member = function.locals.get(at).ok_or(lost())?;
-        if scope.locals.get(at).copied().flatten().is_some() {
+        let Some(member) = function.locals.get(local as usize) else {
+            return Err(lost());
+        };
+        if scope.has(local) {
             return Ok(());
         }
         let number = self.next;
         let first = self.add_local(member, number)?;
-        if let Some(slot) = scope.locals.get_mut(at) {
-            *slot = Some(first);
+        scope.set(local, first, number)
+    }
+
+    /// Gives the local that a location names as a whole its number and its cells, unless it has them.
+    pub fn give_whole(
+        &mut self,
+        scope: &mut Scope,
+        function: &PlainFunction,
+        left: &PlainLeft,
+    ) -> Result<(), NoMemory>
+        ensures keeps { OnOk result (Keeps self.old self.new) }
+        ensures names { (p : ProgramOf) (f : ℕ) (front : List CellOf) (cs : List ℕ) (i : ℕ) (roots : List Root) → IsHere p f cs (function_of function.now) → Stands p f front cs i self.old scope.old roots
+            → OnOk result (Stands p f front cs i self.new scope.new (added roots (whole_local i cs (left_of left.now)))) }
+    {
+        match alone(left) {
+            Some(local) => self.give(scope, function, local),
+            None => Ok(()),
         }
-        if let Some(slot) = scope.numbers.get_mut(at) {
-            *slot = number;
-        }
-        Ok(())
     }
 
     /// Gives the locals that no statement declared their numbers.
     pub fn give_rest(&mut self, scope: &mut Scope, function: &PlainFunction) -> Result<(), NoMemory>
         ensures keeps { OnOk result (Keeps self.old self.new) }
+        ensures names { (p : ProgramOf) (f : ℕ) (front : List CellOf) (cs : List ℕ) (i : ℕ) (roots : List Root) → IsHere p f cs (function_of function.now) → Stands p f front cs i self.old scope.old roots
+            → OnOk result (Stands p f front cs i self.new scope.new (added roots (first_locals i cs (length (function_of function.now).locals)))) }
     {
         for local in 0..function.locals.len() {
             self.give(scope, function, numbered(local)?)?;
@@ -368,6 +421,39 @@ impl Growing {
         let zero = Value::of(kind, Word { bits: 0 }).ok_or(lost())?;
         self.counters.insert(counter, zero)?;
         Ok(())
+    }
+}
+
+fn is_some(slot: &Option<u32>) -> bool
+    ensures { result ≡ has_cell (Some slot.now) }
+{
+    match slot {
+        Some(_) => true,
+        None => false,
+    }
+}
+
+fn put_cell(cells: &mut Vec<Option<u32>>, local: u32, cell: u32) -> Result<(), NoMemory>
+    ensures { OnOk result (IsPut cells.old.items cells.new.items local (Some cell)) }
+{
+    match cells.get_mut(local as usize) {
+        Some(slot) => {
+            *slot = Some(cell);
+            Ok(())
+        }
+        None => Err(lost()),
+    }
+}
+
+fn put_number(numbers: &mut Vec<u32>, local: u32, number: u32) -> Result<(), NoMemory>
+    ensures { OnOk result (IsPut numbers.old.items numbers.new.items local number) }
+{
+    match numbers.get_mut(local as usize) {
+        Some(slot) => {
+            *slot = number;
+            Ok(())
+        }
+        None => Err(lost()),
     }
 }
 

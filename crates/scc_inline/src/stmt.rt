@@ -1,14 +1,23 @@
 //! Copies of statements, calls by their bodies.
-ghost use Rattle.std.specs.Prelude.{IfErr, OnOk};
+ghost use Rattle.std.specs.Prelude.{◌≡◌, ℕ, List, ◌∷◌, false, IfErr, IfOk, OnOk};
+ghost use Rattle.std.specs.List.{list_any};
+ghost use Rattle.scc_core_spec.specs.Program.{Cell as CellOf};
+ghost use Rattle.scc_elab_spec.specs.Numbering.{first_locals, result_root, whole_local};
+ghost use Rattle.scc_elab_spec.specs.Program.{Plain as ProgramOf};
+ghost use Rattle.scc_plain_view.specs.Plains.{function_of};
+ghost use Rattle.scc_plain_view.specs.Terms.{left_of};
+ghost use Rattle.scc_semantics.specs.Location as location;
+ghost use Rattle.scc_semantics.specs.Location.{Root, same_root};
+ghost use Rattle.scc_inline.specs.Named.{IsFresh, IsHere, IsKept, Stands, added, one_more};
 ghost use Rattle.scc_inline.specs.Begun.{Keeps};
-ghost use Rattle.scc_inline.specs.Refusals.{MayStop};
+ghost use Rattle.scc_inline.specs.Refusals.{MayChoose};
 
 use crate::scope::{Growing, Here, Scope, This};
 use scc_base::{Boxed, Code, List, NoMemory, Place, Stop, lost};
 use scc_core::{
     CoreBase, CoreExpr, CoreLeft, CoreNode, CorePart, CoreStmt, Count, Pointed, deeper, pointers,
 };
-use scc_inline_facts::alone;
+use scc_inline_facts::{alone, facts_at};
 use scc_plain_tree::{
     PlainArg, PlainCount, PlainExpr, PlainFunction, PlainLeft, PlainNode, PlainStmt, PlainTarget,
     Reach,
@@ -34,7 +43,7 @@ impl Growing {
         here: &Here,
         room: u32,
     ) -> Result<List<CoreStmt>, Stop>
-        ensures stop { IfErr result MayStop }
+        ensures stop { IfErr result MayChoose }
         ensures keeps { OnOk result (Keeps self.old self.new) }
     {
         let body = self.stmts(here.function.body.as_slice(), scope, here, room, 0)?;
@@ -52,7 +61,7 @@ impl Growing {
         room: u32,
         depth: u32,
     ) -> Result<List<CoreStmt>, Stop>
-        ensures stop { IfErr result MayStop }
+        ensures stop { IfErr result MayChoose }
         ensures keeps { OnOk result (Keeps self.old self.new) }
     {
         let room = deeper(room)?;
@@ -102,14 +111,12 @@ impl Growing {
         room: u32,
         depth: u32,
     ) -> Result<CoreNode, Stop>
-        ensures stop { IfErr result MayStop }
+        ensures stop { IfErr result MayChoose }
         ensures keeps { OnOk result (Keeps self.old self.new) }
     {
         match &s.node {
             PlainNode::Assign { left, value } => {
-                if let Some(local) = alone(left) {
-                    self.give(scope, here.function, local)?;
-                }
+                self.give_whole(scope, here.function, left)?;
                 Ok(self.assignment(left, value, scope, here)?)
             }
             PlainNode::Write { to, value } => Ok(self.assignment(to, value, scope, here)?),
@@ -160,7 +167,7 @@ impl Growing {
         room: u32,
         depth: u32,
     ) -> Result<CoreNode, Stop>
-        ensures stop { IfErr result MayStop }
+        ensures stop { IfErr result MayChoose }
         ensures keeps { OnOk result (Keeps self.old self.new) }
     {
         let number = scope.next_loop();
@@ -212,7 +219,7 @@ impl Growing {
         here: &Here,
         room: u32,
     ) -> Result<CoreNode, Stop>
-        ensures stop { IfErr result MayStop }
+        ensures stop { IfErr result MayChoose }
         ensures keeps { OnOk result (Keeps self.old self.new) }
     {
         let PlainNode::Call { function, .. } = &s.node else {
@@ -224,9 +231,7 @@ impl Growing {
             .functions
             .get(*function as usize)
             .ok_or(lost())?;
-        let Some(Some(facts)) = here.source.facts.get(*function as usize) else {
-            return Err(lost().into());
-        };
+        let facts = facts_at(here.source.facts, *function)?;
         let mut begun = self.enter(s, callee, scope, here)?;
         let inner = Here {
             source: here.source,
@@ -246,7 +251,7 @@ impl Growing {
         scope: &mut Scope,
         here: &Here,
     ) -> Result<Begun, Stop>
-        ensures stop { IfErr result MayStop }
+        ensures stop { IfErr result MayChoose }
         ensures keeps { OnOk result (Keeps self.old self.new) }
     {
         let PlainNode::Call {
@@ -283,22 +288,55 @@ impl Growing {
         scope: &mut Scope,
     ) -> Result<Scope, NoMemory>
         ensures keeps { OnOk result (Keeps self.old self.new) }
+        ensures names { (p : ProgramOf) (f : ℕ) (front : List CellOf) (cs : List ℕ) (i : ℕ) (roots : List Root) → IsHere p f (call ∷ cs) (function_of callee.now) → IsFresh i (call ∷ cs) roots → Stands p f front cs i self.old scope.old roots
+            → IfOk result (λ child. Stands p f front (call ∷ cs) i self.new child (added (added roots (result_root i (call ∷ cs) callee.now.result)) (first_locals i (call ∷ cs) callee.now.params))) }
+        ensures caller { (p : ProgramOf) (f : ℕ) (front : List CellOf) (cs : List ℕ) (i : ℕ) (roots : List Root) → IsHere p f (call ∷ cs) (function_of callee.now) → IsFresh i (call ∷ cs) roots → Stands p f front cs i self.old scope.old roots
+            → OnOk result (Stands p f front cs i self.new scope.new (added (added roots (result_root i (call ∷ cs) callee.now.result)) (first_locals i (call ∷ cs) callee.now.params))) }
     {
         let mut child = Scope::new(self.alloc, callee, None)?;
-        if let Some(kind) = callee.result {
-            let cell = self.add_answer(callee, kind)?;
-            child.answer = Some(cell);
-            scope.answers.insert(call, cell)?;
-        }
-        for param in 0..callee.params {
-            self.give(&mut child, callee, param)?;
-        }
+        self.give_answer(callee, call, scope, &mut child)?;
+        self.give_params(callee, &mut child)?;
         Ok(child)
+    }
+
+    // The result of a call gets its number and its cell.
+    fn give_answer(
+        &mut self,
+        callee: &PlainFunction,
+        call: u32,
+        scope: &mut Scope,
+        child: &mut Scope,
+    ) -> Result<(), NoMemory>
+        ensures keeps { OnOk result (Keeps self.old self.new) }
+        ensures kept { OnOk result (IsKept scope.old scope.new) }
+        ensures names { (p : ProgramOf) (f : ℕ) (front : List CellOf) (cs : List ℕ) (i : ℕ) (roots : List Root) → IsHere p f cs (function_of callee.now) → list_any (same_root (location.Answer i cs)) roots ≡ false
+            → Stands p f front cs i self.old child.old roots → OnOk result (Stands p f front cs i self.new child.new (added roots (result_root i cs callee.now.result))) }
+    {
+        match callee.result {
+            Some(kind) => {
+                let cell = self.add_answer(callee, kind)?;
+                child.answer = Some(cell);
+                scope.note_answer(call, cell)
+            }
+            None => Ok(()),
+        }
+    }
+
+    // The parameters of a function get their numbers and cells.
+    fn give_params(&mut self, callee: &PlainFunction, child: &mut Scope) -> Result<(), NoMemory>
+        ensures keeps { OnOk result (Keeps self.old self.new) }
+        ensures names { (p : ProgramOf) (f : ℕ) (front : List CellOf) (cs : List ℕ) (i : ℕ) (roots : List Root) → IsHere p f cs (function_of callee.now) → Stands p f front cs i self.old child.old roots
+            → OnOk result (Stands p f front cs i self.new child.new (added roots (first_locals i cs callee.now.params))) }
+    {
+        for param in 0..callee.params {
+            self.give(child, callee, param)?;
+        }
+        Ok(())
     }
 
     // The object of a call, which no index that isn't static may choose.
     fn object(&self, object: &PlainLeft, scope: &Scope, here: &Here) -> Result<This, Stop>
-        ensures stop { IfErr result MayStop }
+        ensures stop { IfErr result MayChoose }
     {
         let left = self.left(object, scope, here, false)?;
         self.check(&left)?;
@@ -324,7 +362,7 @@ impl Growing {
         here: &Here,
         place: Place,
     ) -> Result<List<CoreStmt>, Stop>
-        ensures stop { IfErr result MayStop }
+        ensures stop { IfErr result MayChoose }
     {
         let mut out = List::new(self.alloc);
         if let Some(answer) = child.answer {
@@ -354,7 +392,7 @@ impl Growing {
 
     // Whether all indices of a location are static, the counters of the counted loops round it taken as literals.
     fn check(&self, left: &CoreLeft) -> Result<(), Stop>
-        ensures stop { IfErr result MayStop }
+        ensures stop { IfErr result MayChoose }
     {
         let known = self.known_here();
         for one in &pointers(self.alloc, left)? {
@@ -380,6 +418,8 @@ impl Growing {
         out: &mut List<CoreStmt>,
     ) -> Result<(), NoMemory>
         ensures keeps { OnOk result (Keeps self.old self.new) }
+        ensures names { (p : ProgramOf) (f : ℕ) (front : List CellOf) (cs : List ℕ) (i : ℕ) (roots : List Root) → IsHere p f cs (function_of here.now.function.now) → Stands p f front cs i self.old scope.old roots
+            → OnOk result (Stands p f front cs i self.new scope.new (one_more roots (location.Local i cs local))) }
     {
         self.give(scope, here.function, local)?;
         let shape = &here
@@ -414,18 +454,13 @@ impl Growing {
         here: &Here,
         place: Place,
     ) -> Result<CoreNode, Stop>
-        ensures stop { IfErr result MayStop }
+        ensures stop { IfErr result MayChoose }
         ensures keeps { OnOk result (Keeps self.old self.new) }
+        ensures names { (p : ProgramOf) (f : ℕ) (front : List CellOf) (cs : List ℕ) (i : ℕ) (roots : List Root) → IsHere p f cs (function_of here.now.function.now) → Stands p f front cs i self.old scope.old roots
+            → OnOk result (Stands p f front cs i self.new scope.new (added roots (whole_local i cs (left_of left.now)))) }
     {
-        let mut declares = None;
-        if let Some(local) = alone(left) {
-            self.give(scope, here.function, local)?;
-            let declared = here.facts.declared.get(local as usize).copied();
-            let own = local >= here.function.params && declared == Some(false);
-            if own && scope.points_first(local) {
-                declares = Some(scope.cell(local)?);
-            }
-        }
+        self.give_whole(scope, here.function, left)?;
+        let declares = declared_by(left, scope, here)?;
         let to = match declares {
             Some(cell) => Pointed::Declared(cell),
             None => Pointed::Assigned(self.left(left, scope, here, true)?),
@@ -464,7 +499,7 @@ impl Growing {
 // The call's statements, once its body is copied.
 #[inline(never)]
 fn finished(begun: Begun, body: List<CoreStmt>, scope: &mut Scope) -> Result<CoreNode, Stop>
-    ensures stop { IfErr result MayStop }
+    ensures stop { IfErr result MayChoose }
 {
     let Begun {
         mut child,
@@ -476,6 +511,22 @@ fn finished(begun: Begun, body: List<CoreStmt>, scope: &mut Scope) -> Result<Cor
         scope.this = child.this.take();
     }
     Ok(CoreNode::Block(before))
+}
+
+// The cell of a local pointer or reference whose declaration gives it what it leads to: the first statement that does,
+// where it is no parameter and wasn't declared without.
+fn declared_by(left: &PlainLeft, scope: &mut Scope, here: &Here) -> Result<Option<u32>, NoMemory>
+    ensures { OnOk result (IsKept scope.old scope.new) }
+{
+    let Some(local) = alone(left) else {
+        return Ok(None);
+    };
+    let declared = here.facts.declared.get(local as usize).copied();
+    let own = local >= here.function.params && declared == Some(false);
+    if own && scope.points_first(local) {
+        return Ok(Some(scope.cell(local)?));
+    }
+    Ok(None)
 }
 
 fn at(place: Place, node: CoreNode) -> CoreStmt {

@@ -1,23 +1,28 @@
 //! What is known of each function before it is copied: its size, its height, its waits and its loops.
-use crate::walk::{Met, Walk};
-use scc_base::{List, NoMemory, Tally, lost, push};
-use scc_plain_tree::{
-    Plain, PlainArg, PlainBase, PlainFunction, PlainLeft, PlainNode, PlainStmt, PlainTarget,
-};
-use std::alloc::Global;
+ghost use Rattle.std.specs.Prelude.{◌≡◌, ◌+◌, ◌<◌, ◌∷◌, ◌++◌, ℕ, List, [], length, max, slice_get, slice_set, is_some, true, IsTrue, IfOk, OnOk, Some};
+ghost use Rattle.scc_elab_spec.specs.Program.{Function as FunctionOf, Plain as ProgramOf};
+ghost use Rattle.scc_inline_size_laws.specs.Counts.{height_in, size_in};
+ghost use Rattle.scc_plain_view.specs.Codes.{code_of};
+ghost use Rattle.scc_plain_view.specs.Plains.{function_of, plain_of};
+ghost use Rattle.scc_inline_facts.specs.Extents.{reaching};
+ghost use Rattle.scc_inline_facts.specs.Known.{Agrees, AreAll, AreFacts, AreKnown, IsSet, Tells};
+ghost use Rattle.scc_inline_facts.specs.Parted.{list_height, list_size};
+ghost use Rattle.scc_inline_facts.specs.Walked.{Comes_to, task_height, task_size, waiting_height, waiting_size};
 
-/// The most statements of a process with its calls copied.
-pub const STATEMENTS: u32 = 65_536;
-/// How deep they may stand in one another.
-pub const DEPTH: u32 = 1_024;
+use crate::counts::{Site, facts_at, with_own};
+use crate::extent::Extent;
+use crate::order::ordered;
+use crate::parts::{Parts, parts_of};
+use crate::whole::alone;
+use scc_base::{List, NoMemory, lost, push};
+use scc_plain_tree::{Plain, PlainArg, PlainFunction, PlainNode, PlainStmt, PlainTarget};
+use std::alloc::Global;
 
 /// What is known of a function whose calls are copied.
 #[derive(Drop)]
 pub struct Facts {
-    /// How many statements there are at every depth.
-    pub size: Tally,
-    /// How deep they stand in one another, 0 where there is none; at most `DEPTH + 1`.
-    pub height: u32,
+    /// What its body comes to with its calls copied.
+    pub extent: Extent,
     waits: bool,
     /// Of each loop in text order whether it has a counter that nothing else changes, and no wait.
     pub loops: List<bool>,
@@ -47,13 +52,22 @@ struct Uses {
     declared: bool,
 }
 
+// What is still to be looked at: statements, each of which stands in so many others, or the end of a loop.
+#[derive(Clone, Copy)]
+enum Task<'t> {
+    Statements(&'t [PlainStmt], u32),
+    LoopEnd,
+}
+
 // A function that is looked at.
 #[derive(Drop)]
-struct Look<'a, 'b> {
-    known: &'b [Option<Facts>],
-    plain: &'a Plain,
-    size: Tally,
-    height: u32,
+struct Look {
+    extent: Extent,
+    noted: Noted,
+}
+
+#[derive(Drop)]
+struct Noted {
     /// How many waits were met.
     waits: u64,
     loops: Vec<Seen>,
@@ -62,20 +76,42 @@ struct Look<'a, 'b> {
 }
 
 /// What is known of each function. Those that a function calls are looked at before it.
-pub fn all_facts(alloc: Global, plain: &Plain) -> Result<Vec<Option<Facts>>, NoMemory> {
-    let mut known = Vec::new(alloc);
+pub fn all_facts(alloc: Global, plain: &Plain) -> Result<Vec<Option<Facts>>, NoMemory>
+    ensures { IfOk result (λ known. AreFacts (plain_of plain.now) known.items) }
+{
+    let mut known = none_known(alloc, plain)?;
     look_at_all(alloc, plain, &mut known)?;
+    if all_told(plain, known.as_slice()) {
+        Ok(known)
+    } else {
+        Err(lost())
+    }
+}
+
+// Whether each function of the program is known.
+fn all_told(plain: &Plain, known: &[Option<Facts>]) -> bool
+    ensures { IsTrue result → AreKnown (plain_of plain.now) known.now → AreFacts (plain_of plain.now) known.now }
+{
+    if known.len() == plain.functions.len() {
+        all_known(known)
+    } else {
+        false
+    }
+}
+
+fn none_known(alloc: Global, plain: &Plain) -> Result<Vec<Option<Facts>>, NoMemory>
+    ensures { IfOk result (λ known. AreKnown (plain_of plain.now) known.items) }
+{
+    let mut known = Vec::new(alloc);
+    for _ in plain.functions.as_slice() {
+        push(&mut known, None)?;
+    }
     Ok(known)
 }
 
-fn look_at_all(
-    alloc: Global,
-    plain: &Plain,
-    known: &mut Vec<Option<Facts>>,
-) -> Result<(), NoMemory> {
-    for _ in plain.functions.as_slice() {
-        push(known, None)?;
-    }
+fn look_at_all(alloc: Global, plain: &Plain, known: &mut Vec<Option<Facts>>) -> Result<(), NoMemory>
+    ensures { OnOk result (AreKnown (plain_of plain.now) known.old.items → AreKnown (plain_of plain.now) known.new.items) }
+{
     let order = ordered(alloc, plain)?;
     for number in order.as_slice() {
         look_at(alloc, plain, *number, known)?;
@@ -88,76 +124,42 @@ fn look_at(
     plain: &Plain,
     number: u32,
     known: &mut Vec<Option<Facts>>,
-) -> Result<(), NoMemory> {
-    let function = plain.functions.get(number as usize).ok_or(lost())?;
-    let own = looked_at(alloc, plain, function, known.as_slice())?;
-    if let Some(slot) = known.get_mut(number as usize) {
-        *slot = Some(own);
-    }
-    Ok(())
-}
-
-// The functions, each behind those that it calls.
-fn ordered(alloc: Global, plain: &Plain) -> Result<Vec<u32>, NoMemory> {
-    let mut calls = Vec::new(alloc);
-    let mut entered = Vec::new(alloc);
-    for function in plain.functions.as_slice() {
-        push(&mut calls, called(alloc, function)?)?;
-        push(&mut entered, false)?;
-    }
-    let mut order = Vec::new(alloc);
-    let mut stack: Vec<(u32, usize)> = Vec::new(alloc);
-    for root in 0..calls.len() {
-        let root = u32::try_from(root).map_err(|_| lost())?;
-        enter(&mut stack, entered.as_mut_slice(), root)?;
-        for _ in 0..usize::MAX {
-            let Some((function, next)) = stack.pop() else {
-                break;
-            };
-            let callees = calls.get(function as usize).ok_or(lost())?;
-            match callees.get(next) {
-                Some(callee) => {
-                    push(&mut stack, (function, next.saturating_add(1)))?;
-                    enter(&mut stack, entered.as_mut_slice(), *callee)?;
-                }
-                None => push(&mut order, function)?,
-            }
-        }
-    }
-    Ok(order)
-}
-
-// Goes to a function that was not yet gone to.
-fn enter(
-    stack: &mut Vec<(u32, usize)>,
-    entered: &mut [bool],
-    function: u32,
-) -> Result<(), NoMemory> {
-    let Some(flag) = entered.get_mut(function as usize) else {
+) -> Result<(), NoMemory>
+    ensures { OnOk result (AreKnown (plain_of plain.now) known.old.items → AreKnown (plain_of plain.now) known.new.items) }
+{
+    let Some(function) = plain.functions.get(number as usize) else {
         return Err(lost());
     };
-    if *flag {
-        return Ok(());
-    }
-    *flag = true;
-    push(stack, (function, 0))
+    let own = looked_at(alloc, plain, function, known.as_slice())?;
+    set(known, number, own)
 }
 
-// The functions that a function calls.
-fn called(alloc: Global, function: &PlainFunction) -> Result<Vec<u32>, NoMemory> {
-    let mut found = Vec::new(alloc);
-    let mut walk = Walk::new(alloc, function.body.as_slice())?;
-    for _ in 0..usize::MAX {
-        let Some(met) = walk.next()? else {
-            break;
-        };
-        if let Met::Stmt(s, _) = met
-            && let PlainNode::Call { function, .. } = &s.node
-        {
-            push(&mut found, *function)?;
+// What is known of one function more.
+fn set(known: &mut Vec<Option<Facts>>, number: u32, own: Facts) -> Result<(), NoMemory>
+    ensures { OnOk result (IsSet known.old.items known.new.items number own) }
+{
+    match known.get_mut(number as usize) {
+        Some(slot) => {
+            if slot.is_some() {
+                return Err(lost());
+            }
+            *slot = Some(own);
+            Ok(())
+        }
+        None => Err(lost()),
+    }
+}
+
+// Whether all functions are known.
+fn all_known(known: &[Option<Facts>]) -> bool
+    ensures { IsTrue result → AreAll known.now }
+{
+    for facts in known {
+        if facts.is_none() {
+            return false;
         }
     }
-    Ok(found)
+    true
 }
 
 fn looked_at(
@@ -165,65 +167,161 @@ fn looked_at(
     plain: &Plain,
     function: &PlainFunction,
     known: &[Option<Facts>],
-) -> Result<Facts, NoMemory> {
-    let mut locals = Vec::new(alloc);
-    for _ in function.locals.as_slice() {
-        let nothing = Uses {
-            writes: 0,
-            aimed: false,
-            declared: false,
-        };
-        push(&mut locals, nothing)?;
-    }
-    let mut look = Look {
+) -> Result<Facts, NoMemory>
+    ensures { IfOk result (λ x. Tells known.now (plain_of plain.now) (function_of function.now) x) }
+{
+    let site = Site {
+        alloc,
         known,
         plain,
-        size: Tally::new(STATEMENTS),
-        height: 0,
-        waits: 0,
-        loops: Vec::new(alloc),
-        open: Vec::new(alloc),
-        locals,
+        function,
     };
-    let mut walk = Walk::new(alloc, function.body.as_slice())?;
-    for _ in 0..usize::MAX {
-        match walk.next()? {
-            Some(Met::Stmt(s, depth)) => look.stmt(s, depth, function)?,
-            Some(Met::LoopEnd) => look.loop_end()?,
-            None => break,
-        }
-    }
+    let mut look = Look {
+        extent: Extent::none(),
+        noted: Noted::begun(alloc, function)?,
+    };
+    look.body(&site, function.body.as_slice())?;
     look.done(alloc)
 }
 
-impl Look<'_, '_> {
-    // So many statements at a depth, counted from 0.
-    fn count(&mut self, n: u64, depth: u32) {
-        self.size = self.size.plus(n);
-        self.height = self.height.max(depth.saturating_add(1)).min(DEPTH + 1);
+impl Look {
+    // All statements of a body, at every depth.
+    fn body(&mut self, s: &Site, body: &[PlainStmt]) -> Result<(), NoMemory>
+        ensures { (sizes heights : ℕ → ℕ) → Agrees s.now.known.now sizes heights → OnOk result (Comes_to sizes heights (plain_of s.now.plain.now) (function_of s.now.function.now) self.new.extent [] (self.old.extent.size + size_in sizes (plain_of s.now.plain.now) (function_of s.now.function.now) (code_of body.now)) (max self.old.extent.height (height_in heights (plain_of s.now.plain.now) (function_of s.now.function.now) (code_of body.now)))) }
+    {
+        let mut tasks = List::new(s.alloc);
+        tasks.push(Task::Statements(body, 0))?;
+        for _ in 0..usize::MAX {
+            let Some(task) = tasks.pop() else {
+                return Ok(());
+            };
+            self.turn(s, task, &mut tasks)?;
+        }
+        Err(lost())
     }
 
-    fn stmt(
+    fn turn<'t>(
         &mut self,
-        s: &PlainStmt,
+        s: &Site,
+        task: Task<'t>,
+        tasks: &mut List<Task<'t>>,
+    ) -> Result<(), NoMemory>
+        ensures { (sizes heights : ℕ → ℕ) → Agrees s.now.known.now sizes heights → OnOk result (Comes_to sizes heights (plain_of s.now.plain.now) (function_of s.now.function.now) self.new.extent tasks.new (self.old.extent.size + (task_size sizes (plain_of s.now.plain.now) (function_of s.now.function.now) task.entry + waiting_size sizes (plain_of s.now.plain.now) (function_of s.now.function.now) tasks.old)) (max self.old.extent.height (max (task_height heights (plain_of s.now.plain.now) (function_of s.now.function.now) task.entry) (waiting_height heights (plain_of s.now.plain.now) (function_of s.now.function.now) tasks.old)))) }
+    {
+        match task {
+            Task::Statements(list, depth) => self.statements(s, list, depth, tasks),
+            Task::LoopEnd => self.noted.loop_end(),
+        }
+    }
+
+    // The beginning of a list is looked at, behind which the rest of it comes.
+    fn statements<'t>(
+        &mut self,
+        s: &Site,
+        list: &'t [PlainStmt],
         depth: u32,
-        function: &PlainFunction,
-    ) -> Result<(), NoMemory> {
+        tasks: &mut List<Task<'t>>,
+    ) -> Result<(), NoMemory>
+        ensures { (sizes heights : ℕ → ℕ) → Agrees s.now.known.now sizes heights → OnOk result (Comes_to sizes heights (plain_of s.now.plain.now) (function_of s.now.function.now) self.new.extent tasks.new (self.old.extent.size + (size_in sizes (plain_of s.now.plain.now) (function_of s.now.function.now) (code_of list.now) + waiting_size sizes (plain_of s.now.plain.now) (function_of s.now.function.now) tasks.old)) (max self.old.extent.height (max (reaching depth (height_in heights (plain_of s.now.plain.now) (function_of s.now.function.now) (code_of list.now))) (waiting_height heights (plain_of s.now.plain.now) (function_of s.now.function.now) tasks.old)))) }
+    {
+        match list {
+            [] => Ok(()),
+            [first, rest @ ..] => {
+                tasks.push(Task::Statements(rest, depth))?;
+                let parts = parts_of(first);
+                self.extent = with_own(s, &parts, depth, self.extent)?;
+                self.noted.stmt(s, first)?;
+                enter(first, &parts, depth.saturating_add(1), tasks)
+            }
+        }
+    }
+
+    fn done(self, alloc: Global) -> Result<Facts, NoMemory>
+        ensures { IfOk result (λ x. x.extent ≡ self.extent) }
+    {
+        let Look { extent, noted } = self;
+        let declared = noted.declared(alloc)?;
+        let loops = noted.counting(alloc)?;
+        Ok(Facts {
+            extent,
+            waits: noted.waits > 0,
+            loops,
+            declared,
+        })
+    }
+}
+
+// The lists that a statement holds are to be looked at, and then the end of a loop.
+fn enter<'t>(
+    first: &PlainStmt,
+    parts: &Parts<'t>,
+    depth: u32,
+    tasks: &mut List<Task<'t>>,
+) -> Result<(), NoMemory>
+    ensures size { OnOk result ((sizes : ℕ → ℕ) (p : ProgramOf) (f : FunctionOf) → waiting_size sizes p f tasks.new ≡ (list_size sizes p f parts.now.first + list_size sizes p f parts.now.second) + waiting_size sizes p f tasks.old) }
+    ensures height { OnOk result ((heights : ℕ → ℕ) (p : ProgramOf) (f : FunctionOf) → waiting_height heights p f tasks.new ≡ max (max (reaching depth (list_height heights p f parts.now.first)) (reaching depth (list_height heights p f parts.now.second))) (waiting_height heights p f tasks.old)) }
+{
+    end(first, tasks)?;
+    put(parts.second, depth, tasks)?;
+    put(parts.first, depth, tasks)
+}
+
+fn end<'t>(first: &PlainStmt, tasks: &mut List<Task<'t>>) -> Result<(), NoMemory>
+    ensures size { OnOk result ((sizes : ℕ → ℕ) (p : ProgramOf) (f : FunctionOf) → waiting_size sizes p f tasks.new ≡ waiting_size sizes p f tasks.old) }
+    ensures height { OnOk result ((heights : ℕ → ℕ) (p : ProgramOf) (f : FunctionOf) → waiting_height heights p f tasks.new ≡ waiting_height heights p f tasks.old) }
+{
+    match &first.node {
+        PlainNode::Loop { .. } => tasks.push(Task::LoopEnd),
+        _ => Ok(()),
+    }
+}
+
+fn put<'t>(
+    list: Option<&'t [PlainStmt]>,
+    depth: u32,
+    tasks: &mut List<Task<'t>>,
+) -> Result<(), NoMemory>
+    ensures size { OnOk result ((sizes : ℕ → ℕ) (p : ProgramOf) (f : FunctionOf) → waiting_size sizes p f tasks.new ≡ list_size sizes p f list.entry + waiting_size sizes p f tasks.old) }
+    ensures height { OnOk result ((heights : ℕ → ℕ) (p : ProgramOf) (f : FunctionOf) → waiting_height heights p f tasks.new ≡ max (reaching depth (list_height heights p f list.entry)) (waiting_height heights p f tasks.old)) }
+{
+    match list {
+        Some(list) => tasks.push(Task::Statements(list, depth)),
+        None => Ok(()),
+    }
+}
+
+impl Noted {
+    fn begun(alloc: Global, function: &PlainFunction) -> Result<Noted, NoMemory> {
+        let mut locals = Vec::new(alloc);
+        for _ in function.locals.as_slice() {
+            let nothing = Uses {
+                writes: 0,
+                aimed: false,
+                declared: false,
+            };
+            push(&mut locals, nothing)?;
+        }
+        Ok(Noted {
+            waits: 0,
+            loops: Vec::new(alloc),
+            open: Vec::new(alloc),
+            locals,
+        })
+    }
+
+    fn stmt(&mut self, site: &Site, s: &PlainStmt) -> Result<(), NoMemory> {
         match &s.node {
             PlainNode::Declare(local) => {
-                self.count(elements(function, *local), depth);
                 if let Some(uses) = self.locals.get_mut(*local as usize) {
                     uses.declared = true;
                 }
             }
-            PlainNode::Return(value) => self.count(if value.is_some() { 2 } else { 1 }, depth),
             PlainNode::Call {
                 function: callee,
                 args,
                 ..
             } => {
-                self.count(1, depth);
-                self.call(*callee, depth)?;
+                self.call(site, *callee)?;
                 for arg in args.as_slice() {
                     if let PlainArg::Target(target) = arg {
                         self.aim(target);
@@ -231,7 +329,6 @@ impl Look<'_, '_> {
                 }
             }
             PlainNode::Loop { count, .. } => {
-                self.count(1, depth);
                 let number = self.loops.len();
                 let counter = count.as_ref().map(|c| c.counter);
                 push(
@@ -244,43 +341,22 @@ impl Look<'_, '_> {
                 let waits = self.waits;
                 push(&mut self.open, Open { number, waits })?;
             }
-            PlainNode::Wait(_) => {
-                self.count(1, depth);
-                self.waits = self.waits.saturating_add(1);
-            }
+            PlainNode::Wait(_) => self.waits = self.waits.saturating_add(1),
             PlainNode::Assign { left, .. } => {
-                self.count(1, depth);
                 if let Some(local) = alone(left)
                     && let Some(uses) = self.locals.get_mut(local as usize)
                 {
                     uses.writes = uses.writes.saturating_add(1);
                 }
             }
-            PlainNode::Point { target, .. } => {
-                self.count(1, depth);
-                self.aim(target);
-            }
-            _ => self.count(1, depth),
+            PlainNode::Point { target, .. } => self.aim(target),
+            _ => {}
         }
         Ok(())
     }
 
-    // The statements of a call's copy: its result, its parameters and its body.
-    fn call(&mut self, callee: u32, depth: u32) -> Result<(), NoMemory> {
-        let function = self.plain.functions.get(callee as usize).ok_or(lost())?;
-        let own = u64::from(function.params).saturating_add(u64::from(function.result.is_some()));
-        let inner = depth.saturating_add(1);
-        if own > 0 {
-            self.count(own, inner);
-        }
-        let Some(Some(known)) = self.known.get(callee as usize) else {
-            return Err(lost());
-        };
-        self.size = self.size.plus(known.size.count());
-        if known.height > 0 {
-            let height = inner.saturating_add(known.height);
-            self.height = self.height.max(height).min(DEPTH + 1);
-        }
+    fn call(&mut self, site: &Site, callee: u32) -> Result<(), NoMemory> {
+        let known = facts_at(site.known, callee)?;
         if known.waits {
             self.waits = self.waits.saturating_add(1);
         }
@@ -307,42 +383,21 @@ impl Look<'_, '_> {
         }
     }
 
-    fn done(self, alloc: Global) -> Result<Facts, NoMemory> {
+    fn declared(&self, alloc: Global) -> Result<List<bool>, NoMemory> {
         let mut declared = List::new(alloc);
         for uses in &self.locals {
             declared.push(uses.declared)?;
         }
+        Ok(declared)
+    }
+
+    // The initial value and the step are the two assignments of a counter.
+    fn counting(&self, alloc: Global) -> Result<List<bool>, NoMemory> {
         let mut loops = List::new(alloc);
         for seen in &self.loops {
             let counts = seen.counter.and_then(|c| self.locals.get(c as usize));
-            // The initial value and the step are the two assignments of a counter.
             loops.push(!seen.waits && counts.is_some_and(|u| u.writes <= 2 && !u.aimed))?;
         }
-        Ok(Facts {
-            size: self.size,
-            height: self.height,
-            waits: self.waits > 0,
-            loops,
-            declared,
-        })
+        Ok(loops)
     }
-}
-
-/// The local that a location names as a whole, bits of it aside.
-pub fn alone(left: &PlainLeft) -> Option<u32> {
-    match left.base {
-        PlainBase::Local(local) if left.parts.is_empty() => Some(local),
-        _ => None,
-    }
-}
-
-/// How many elements a local has.
-fn elements(function: &PlainFunction, local: u32) -> u64 {
-    let mut count = 1u64;
-    if let Some(local) = function.locals.get(local as usize) {
-        for size in local.shape.sizes.as_slice() {
-            count = count.saturating_mul(u64::from(*size));
-        }
-    }
-    count
 }

@@ -3,63 +3,44 @@ use scc_base::{NoMemory, push};
 use scc_plain_tree::{Base, PlainBase, PlainFunction, PlainLeft, PlainNode, PlainStmt};
 use std::alloc::Global;
 
-/// What a walk meets.
-#[derive(Clone, Copy)]
-pub enum Met<'a> {
-    /// A statement, and how many statements it stands in, 0 for those of a function's own list.
-    Stmt(&'a PlainStmt, u32),
-    /// The end of the innermost open loop.
-    LoopEnd,
-}
-
-#[derive(Clone, Copy)]
-enum Task<'a> {
-    List(&'a [PlainStmt], u32),
-    LoopEnd,
-}
-
 /// What of a list is still to be met.
 #[derive(Drop)]
 pub struct Walk<'a> {
-    tasks: Vec<Task<'a>>,
+    lists: Vec<&'a [PlainStmt]>,
 }
 
 impl<'a> Walk<'a> {
     /// All statements of a list, at every depth.
     pub fn new(alloc: Global, list: &'a [PlainStmt]) -> Result<Walk<'a>, NoMemory> {
-        let mut tasks = Vec::new(alloc);
-        push(&mut tasks, Task::List(list, 0))?;
-        Ok(Walk { tasks })
+        let mut lists = Vec::new(alloc);
+        push(&mut lists, list)?;
+        Ok(Walk { lists })
     }
 
     /// The next one; None at the end.
-    pub fn next(&mut self) -> Result<Option<Met<'a>>, NoMemory> {
+    pub fn next(&mut self) -> Result<Option<&'a PlainStmt>, NoMemory> {
         for _ in 0..usize::MAX {
-            let (list, depth) = match self.tasks.pop() {
-                None => return Ok(None),
-                Some(Task::LoopEnd) => return Ok(Some(Met::LoopEnd)),
-                Some(Task::List(list, depth)) => (list, depth),
+            let Some(list) = self.lists.pop() else {
+                return Ok(None);
             };
             if let Some((first, rest)) = list.split_first() {
-                push(&mut self.tasks, Task::List(rest, depth))?;
-                self.open(first, depth.saturating_add(1))?;
-                return Ok(Some(Met::Stmt(first, depth)));
+                push(&mut self.lists, rest)?;
+                self.open(first)?;
+                return Ok(Some(first));
             }
         }
         Ok(None)
     }
 
     // What stands in a statement comes behind it.
-    fn open(&mut self, s: &'a PlainStmt, depth: u32) -> Result<(), NoMemory> {
+    fn open(&mut self, s: &'a PlainStmt) -> Result<(), NoMemory> {
         match &s.node {
             PlainNode::If { yes, no, .. } => {
-                push(&mut self.tasks, Task::List(no.as_slice(), depth))?;
-                push(&mut self.tasks, Task::List(yes.as_slice(), depth))
+                push(&mut self.lists, no.as_slice())?;
+                push(&mut self.lists, yes.as_slice())
             }
-            PlainNode::Block(body) => push(&mut self.tasks, Task::List(body.as_slice(), depth)),
-            PlainNode::Loop { body, .. } => {
-                push(&mut self.tasks, Task::LoopEnd)?;
-                push(&mut self.tasks, Task::List(body.as_slice(), depth))
+            PlainNode::Block(body) | PlainNode::Loop { body, .. } => {
+                push(&mut self.lists, body.as_slice())
             }
             _ => Ok(()),
         }

@@ -5,7 +5,7 @@ use Rattle.scc_bits_kinds.specs.declared.kind.Kind.{Kind}
 use Rattle.scc_core_spec.specs.Term as core
 use Rattle.scc_core_spec.specs.Term.{CellName}
 use Rattle.scc_core_spec.specs.Code as stmt
-use Rattle.scc_elab_spec.specs.Term.{Term, Argument, Value, Leads, ModuleName}
+use Rattle.scc_elab_spec.specs.Term.{Argument, Value, Leads, ModuleName}
 use Rattle.scc_elab_spec.specs.Program.{Code, End, Declare, Assign, Point, Write, Call, If, Loop, Block, Exit, Return, Wait, Make, Bind, Process, Sensitive, Quiet, Reset, Function, Plain, Member}
 use Rattle.scc_elab_spec.specs.Types.{is_direct}
 use Rattle.scc_elab_spec.specs.Copied.{Here}
@@ -16,7 +16,7 @@ use Rattle.scc_elab_spec.specs.Design as design
 use Rattle.scc_elab_spec.specs.Design.{Design}
 use Rattle.scc_elab_spec.specs.Numbering.{levels}
 use Rattle.scc_inline_spec.specs.Inlined.{body_of, call_of, copied_body, here_of, too_large}
-use Rattle.scc_inline_size_laws.specs.Counts.{many, deep, declared_size, passed_size, result_size, returned_size, level, call_size, call_height, size_in, height_in, is_too_large, Comes}
+use Rattle.scc_inline_size_laws.specs.Counts.{many, deep, declared_size, passed_size, result_size, level, size_in, height_in, is_too_large, Comes}
 
 -- ---- numbers
 
@@ -101,10 +101,10 @@ zeroed_high h p cs f (Some k) r = refl
 
 -- ---- statements: with calls that come to so many statements and levels
 
-abbrev HighTo : ℕ → (ℕ → ℕ) → Calling → Type 0
+abbrev pub HighTo : ℕ → (ℕ → ℕ) → Calling → Type 0
 HighTo m heights call = (n : ℕ) (cs : List ℕ) (this : core.Left) → min (stmt.height (call cs n this)) m ≡ min (heights n) m
 
-abbrev LongTo : ℕ → (ℕ → ℕ) → (ℕ → ℕ) → Calling → Type 0
+abbrev pub LongTo : ℕ → (ℕ → ℕ) → (ℕ → ℕ) → Calling → Type 0
 LongTo m heights sizes call = (n : ℕ) (cs : List ℕ) (this : core.Left) → heights n < m → many (stmt.size (call cs n this)) ≡ many (sizes n)
 
 module _ (m : ℕ) (heights : ℕ → ℕ) (call : Calling) (h : Here) (is_high : HighTo m heights call) where

@@ -7,7 +7,7 @@ use Rattle.scc_core_spec.specs.Code as stmt
 use Rattle.scc_elab_spec.specs.Term.{Term, Argument, Value, Leads, ModuleName}
 use Rattle.scc_elab_spec.specs.Program.{Code, End, Declare, Assign, Point, Write, Call, If, Loop, Block, Exit, Return, Wait, Make, Bind, Process, Sensitive, Quiet, Reset, Function, Plain, Member}
 use Rattle.scc_elab_spec.specs.Copied.{Here}
-use Rattle.scc_elab_spec.specs.Bodies.{elements, sizes_of}
+use Rattle.scc_elab_spec.specs.Bodies.{elements}
 use Rattle.scc_inline_spec.specs.Inlined.{call_of}
 
 -- the most statements and the most levels, and one more
@@ -98,3 +98,14 @@ is_too_large sizes heights p f = nat_lt 65536 (1 + size_in sizes p f f.body) || 
 pub record Comes (p : Plain) (n size height : ℕ) : Type 0 where
   pub high : (h : Here) (m : ℕ) (cs : List ℕ) (this : core.Left) → h.plain ≡ p → m ≤ 1025 → min (stmt.height (call_of h m cs n this)) m ≡ min height m
   pub long : (h : Here) (m : ℕ) (cs : List ℕ) (this : core.Left) → h.plain ≡ p → m ≤ 1025 → height < m → many (stmt.size (call_of h m cs n this)) ≡ many size
+
+-- Counts of each function that stand still: what they say of a function is what its body comes to by them, up to the limits. What is no function has none.
+pub record StandsStill (p : Plain) (heights sizes : ℕ → ℕ) : Type 0 where
+  pub size : (n : ℕ) (f : Function) → slice_get p.functions n ≡ Some f → many (sizes n) ≡ many (size_in sizes p f f.body)
+  pub height : (n : ℕ) (f : Function) → slice_get p.functions n ≡ Some f → deep (heights n) ≡ deep (height_in heights p f f.body)
+  pub no_size : (n : ℕ) → slice_get p.functions n ≡ None → sizes n ≡ 0
+  pub no_height : (n : ℕ) → slice_get p.functions n ≡ None → heights n ≡ 0
+
+-- whether a copied body of such counts, in its one block, passes a limit
+abbrev pub passes : ℕ → ℕ → Bool
+passes size height = nat_lt 65536 (1 + size) || nat_lt 1024 (1 + height)

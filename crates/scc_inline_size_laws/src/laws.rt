@@ -10,7 +10,7 @@ ghost use Rattle.scc_elab_spec.specs.Design as design;
 ghost use Rattle.scc_elab_spec.specs.Design.{Design};
 ghost use Rattle.scc_elab_spec.specs.Program.{Code, Function, Plain};
 ghost use Rattle.scc_inline_spec.specs.Inlined.{body_of, too_large};
-ghost use Rattle.scc_inline_size_laws.specs.Counts.{Comes, deep, height_in, is_too_large, many, size_in};
+ghost use Rattle.scc_inline_size_laws.specs.Counts.{Comes, StandsStill, deep, height_in, is_too_large, many, passes, size_in};
 
 /// How deep the copy of a function's code nests, up to a level, is told by how deep the copies of called functions nest, up to the level below.
 #[tactic(auto, using(crate::proofs::Counting::high))]
@@ -40,4 +40,15 @@ pub fn counts_past_limits_are_alike()
 pub fn too_large_is_told_by_functions()
     ensures { (p : Plain) (heights sizes : ℕ → ℕ) → ((n : ℕ) → Comes p n (sizes n) (heights n)) → (d : Design) (i : ℕ) (q : design.Process) (f : Function) → slice_get p.functions q.function ≡ Some f
         → too_large p d i q ≡ when (is_too_large sizes heights p f) (refused reason.TooLarge q.place) }
+{}
+
+/// Counts of functions that stand still are what their copied bodies come to.
+pub fn counts_that_stand_still_tell()
+    ensures { (p : Plain) (heights sizes : ℕ → ℕ) → StandsStill p heights sizes → (n : ℕ) → Comes p n (sizes n) (heights n) }
+{}
+
+/// E601 is told by counts that stand still.
+pub fn too_large_is_told_by_counts_that_stand_still()
+    ensures { (p : Plain) (heights sizes : ℕ → ℕ) → StandsStill p heights sizes → (d : Design) (i : ℕ) (q : design.Process)
+        → too_large p d i q ≡ when (passes (sizes q.function) (heights q.function)) (refused reason.TooLarge q.place) }
 {}

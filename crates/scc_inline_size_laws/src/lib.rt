@@ -4,6 +4,7 @@
 mod laws;
 
 pub use laws::{
-    a_function_comes_to_what_it_calls, counts_past_limits_are_alike, heights_are_told_by_functions,
-    sizes_are_told_by_functions, too_large_is_told_by_functions,
+    a_function_comes_to_what_it_calls, counts_past_limits_are_alike, counts_that_stand_still_tell,
+    heights_are_told_by_functions, sizes_are_told_by_functions,
+    too_large_is_told_by_counts_that_stand_still, too_large_is_told_by_functions,
 };

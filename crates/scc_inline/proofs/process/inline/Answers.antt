@@ -1,4 +1,4 @@
-use Rattle.std.proofs.Common.{◌∙◌, ap, refl}
+use Rattle.std.proofs.Common.{◌∙◌, ap}
 use Rattle.scc_inline.proofs.Beginning.{begun_is}
 use Rattle.scc_inline.proofs.process.inline.Goals as goal
 

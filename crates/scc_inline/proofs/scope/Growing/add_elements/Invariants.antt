@@ -1,4 +1,4 @@
-use Rattle.std.proofs.Common.{◌≡◌, take}
+use Rattle.std.proofs.Common.{take}
 use Rattle.scc_plain_view.specs.Plains.{member_of}
 use Rattle.scc_inline.specs.Begun.{Keeps}
 use Rattle.scc_inline.specs.Locals.{AreAdded}

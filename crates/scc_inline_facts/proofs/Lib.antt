@@ -1,0 +1,4 @@
+pub mod Counted
+pub mod Walking
+pub mod Knowing
+pub mod Ending
