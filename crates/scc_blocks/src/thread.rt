@@ -1,4 +1,7 @@
 //! A thread's state and its counter of waits.
+ghost use Rattle.std.specs.Prelude.{◌≡◌, ◌<◌};
+ghost use Rattle.scc_blocks_spec.specs.Built.{IsFewest};
+
 use scc_base::{NoMemory, lost};
 use scc_states::Split;
 
@@ -12,7 +15,10 @@ pub struct Widths {
 }
 
 /// The fewest bits that hold a number, at least 1.
-pub fn fewest_bits(n: u32) -> u32 {
+pub fn fewest_bits(n: u32) -> u32
+    ensures fewest { 0 < n → IsFewest n result }
+    ensures none { n ≡ 0 → result ≡ 1 }
+{
     (32 - n.leading_zeros()).max(1)
 }
 
