@@ -1,2 +1,4 @@
 pub mod Names
 pub mod Adding
+pub mod Taking
+pub mod Texts

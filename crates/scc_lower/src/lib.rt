@@ -9,7 +9,10 @@ mod stmt;
 mod whole;
 
 pub use exits::{greatest_exit, greatest_exit_of};
-pub use laws::cells_have_texts_of_their_own;
+pub use laws::{
+    cells_have_texts_of_their_own, lowered_expressions_have_their_values,
+    lowered_statements_do_what_they_do,
+};
 pub use name::sv_name;
 pub use scc_lower_expressions::known::{cell_of, cells_of, known_word};
 pub use scc_lower_expressions::lowering::{Cells, Lowering, View};

@@ -1,4 +1,10 @@
 //! Statements, and how blocks are left: a variable holds the number of the block that is being left, 0 where none is.
+ghost use Rattle.std.specs.Prelude.{◌≡◌, [], ◌∷◌, IfOk, OnOk, length};
+ghost use Rattle.scc_svtree.specs.Code.{code_of};
+ghost use Rattle.scc_svtree.specs.Term.{term_of};
+ghost use Rattle.scc_lower_tree_laws.specs.Stating.{is_leaving, leave};
+ghost use Rattle.scc_lower.specs.Texts.{IsGuarded, IsTextOf};
+
 use crate::assign::assigned;
 use scc_base::{List, NoMemory, lost, push};
 use scc_core::{CoreExpr, CoreNode, CoreStmt};
@@ -65,16 +71,22 @@ fn leaving_is(
     k: u32,
     cells: Cells<'_>,
     cx: &Lowering<'_>,
-) -> Result<SvExpr, NoMemory> {
+) -> Result<SvExpr, NoMemory>
+    ensures { IfOk result (λ t. term_of t ≡ is_leaving (length cells.entry.cells.now) cx.now.exit k) }
+{
     let var = whole(alloc, cells.leaving()?)?;
-    let k = literal(alloc, cx.exit, u128::from(k))?;
-    binary(alloc, SvBinary::Eq, var, k)
+    let number = literal(alloc, cx.exit, u128::from(k))?;
+    binary(alloc, SvBinary::Eq, var, number)
 }
 
-fn leave(alloc: Global, k: u32, cells: Cells<'_>, cx: &Lowering<'_>) -> Result<SvStmt, NoMemory> {
+fn leave(alloc: Global, k: u32, cells: Cells<'_>, cx: &Lowering<'_>) -> Result<SvStmt, NoMemory>
+    ensures { IfOk result (λ s. code_of (s ∷ []) ≡ leave (length cells.entry.cells.now) cx.now.exit k) }
+{
+    let var = cells.leaving()?;
+    let value = literal(alloc, cx.exit, u128::from(k))?;
     Ok(SvStmt::Assign {
-        left: SvLeft::Whole(cells.leaving()?),
-        value: literal(alloc, cx.exit, u128::from(k))?,
+        left: SvLeft::Whole(var),
+        value,
     })
 }
 
@@ -118,7 +130,9 @@ fn guard(
     cells: Cells<'_>,
     cx: &Lowering<'_>,
     out: &mut List<SvStmt>,
-) -> Result<(), NoMemory> {
+) -> Result<(), NoMemory>
+    ensures { OnOk result (IsGuarded (length cells.entry.cells.now) cx.now.exit (code_of new) (code_of out.old) (code_of out.new)) }
+{
     if new.is_empty() {
         return Ok(());
     }
@@ -234,7 +248,9 @@ pub fn lowered_expr(
     e: &CoreExpr,
     cells: Cells<'_>,
     cx: &mut Lowering<'_>,
-) -> Result<SvExpr, NoMemory> {
+) -> Result<SvExpr, NoMemory>
+    ensures { IfOk result (λ t. IsTextOf cells.entry e.now cx.old t cx.new) }
+{
     let x = lowered(alloc, e, cells, cx, LEVELS)?;
     expression(alloc, x)
 }

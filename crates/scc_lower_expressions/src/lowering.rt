@@ -64,11 +64,6 @@ impl<'a> Lowering<'a> {
         }
     }
 
-    /// The variable from which a cell is read.
-    pub fn read_from(&self, cell: u32) -> Result<VarId, NoMemory> {
-        read_of(self.view(cell)?, cell)
-    }
-
     /// The variable to which a cell is written.
     pub fn written_to(&self, cell: u32) -> Result<VarId, NoMemory>
         ensures { IfOk result (λ v. IsWrittenTo (map seen_of self.now.views.now) cell v.0) }

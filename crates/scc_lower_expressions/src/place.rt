@@ -4,9 +4,8 @@ ghost use Rattle.scc_lower_tree_laws.specs.Finding.{AreChosen, IsChosen};
 ghost use Rattle.scc_lower_expressions.specs.Becoming.{IsLocated, chosen_of, given_of};
 
 use crate::lowering::Cells;
-use crate::select::Bits;
 use scc_base::{NoMemory, lost, push};
-use scc_core::{CoreExpr, CoreLeft, CorePart, CorePick, Dim, Named};
+use scc_core::{CoreExpr, CoreLeft, CorePart, Dim, Named};
 use std::alloc::Global;
 
 /// A dimension under an index that isn't static.
@@ -22,32 +21,6 @@ pub struct Chosen<'a> {
 pub struct Found<'a> {
     pub first: u32,
     pub dims: Vec<Chosen<'a>>,
-}
-
-/// Bits that a location picks.
-#[derive(Clone, Copy)]
-pub enum Picked {
-    Range(Bits),
-    /// A bit below 2^32.
-    Bit(u32),
-    /// A bit under a static index that is no bit's number.
-    Nowhere,
-    /// A bit under an index that isn't static.
-    Open,
-}
-
-/// The bits that a pick takes.
-pub fn bits_taken(cells: Cells<'_>, pick: &CorePick) -> Picked {
-    match pick {
-        CorePick::Range { h, l, .. } => Picked::Range(Bits { h: *h, l: *l }),
-        CorePick::Bit { at, .. } => match cells.known.value(at) {
-            None => Picked::Open,
-            Some(v) => match v.small() {
-                Some(i) => Picked::Bit(i),
-                None => Picked::Nowhere,
-            },
-        },
-    }
 }
 
 /// What a location names; None where it names no cell, as past the end of an array.
