@@ -25,8 +25,11 @@ use Rattle.scc_core_look.specs.declared.rows.Rows.{Rows}
 use Rattle.scc_core_look.specs.declared.seen.Seen.{Seen}
 use Rattle.scc_core_look.specs.declared.seen.Test.{Test}
 use Rattle.scc_core_look.specs.Fits.{begins_open, is_open}
-use Rattle.scc_core_look.specs.Rows.{PartLayer, bounded, covered, covering, covers, is_index, key_of, key_part, keyed, no_index, passes, passing, row_covers, row_from, row_of, row_passes, size_at, size_of, sized, within}
+use Rattle.scc_core_look.specs.Rows.{PartLayer, bounded, covered, covering, covers, goes_past, index_at, is_index, key_of, key_part, keyed, no_index, one_past, passes, passing, row_covers, row_from, row_of, row_passes, size_at, size_of, sized, within}
+use Rattle.scc_core_look.specs.Rows as rows
 use Rattle.scc_core_look.specs.Seen.{asked, same_seen, writes}
+use Rattle.scc_core_whole.specs.Parts.{is_past}
+use Rattle.scc_semantics.specs.Scene.{index_of}
 use Rattle.scc_core_look.proofs.Apart.{first, second, both, name_walk}
 
 -- ---- kinds and what is seen of cells
@@ -203,6 +206,55 @@ module _ (cs : Cells) where
       by (tree.Index size at) bs (step.Member m ∷ ys) e w b f = absurd (no-member size (kind_of (term_of at)) (static cs (term_of at)) m.0 (map step_in ys) e)
       by (tree.Index size at) bs (step.Local m ∷ ys) e w b f = absurd (no-local size (kind_of (term_of at)) (static cs (term_of at)) m (map step_in ys) e)
 
+  -- and where an index that is known lies past its bound, nothing agrees
+  never : (bs : List ℕ) (ps : List CorePart) (ys : List NameStep) → agrees (patterns cs ps) (map step_in ys) ≡ true → within bs ys ≡ true → goes_past cs bs ps ≡ true → ⊥
+  never bs [] ys e w b = cc
+  never bs (p ∷ ps) ys e w b = by (out-CorePart p) bs ys e w b (λ ds. never ds ps)
+    where
+      Rest : List ℕ → Type 0
+      Rest ds = (zs : List NameStep) → agrees (patterns cs ps) (map step_in zs) ≡ true → within ds zs ≡ true → goes_past cs ds ps ≡ true → ⊥
+
+      over : (m c i : ℕ) → nat_lt m c ≡ true → nat_eq i m ≡ true → nat_le c i ≡ true → ⊥
+      over m c i e f g = let z : nat_lt m c ≡ false = grind (arith, f, g) in let y : true ≡ false = sym e ∙ z in cc
+
+      at-some : (i c : ℕ) (ds : List ℕ) (m : ℕ) (zs : List NameStep) → (nat_eq i m && agrees (patterns cs ps) (map step_in zs)) ≡ true → (nat_lt m c && within ds zs) ≡ true → (x : Bool) → nat_le c i ≡ x → (x || goes_past cs ds ps) ≡ true → Rest ds → ⊥
+      at-some i c ds m zs e w true is b f = over m c i (first (nat_lt m c) (within ds zs) w) (first (nat_eq i m) (agrees (patterns cs ps) (map step_in zs)) e) is
+      at-some i c ds m zs e w false is b f = f zs (second (nat_eq i m) (agrees (patterns cs ps) (map step_in zs)) e) (second (nat_lt m c) (within ds zs) w) b
+
+      at-index : (size : ℕ) (k : Kind) (o : Option ℕ) (c : ℕ) (ds : List ℕ) (m : ℕ) (zs : List NameStep) → agrees (index_step size k o ∷ patterns cs ps) (At m ∷ map step_in zs) ≡ true → (nat_lt m c && within ds zs) ≡ true → (is_past c (option_map (λ w. index_of k w) o) || goes_past cs ds ps) ≡ true → Rest ds → ⊥
+      at-index size k None c ds m zs e w b f = f zs e (second (nat_lt m c) (within ds zs) w) b
+      at-index size k (Some x) c ds m zs e w b f = at-some (index_of k x) c ds m zs e w (nat_le c (index_of k x)) refl b f
+
+      no-member : (size : ℕ) (k : Kind) (o : Option ℕ) (m : ℕ) (zs : List Step) → agrees (index_step size k o ∷ patterns cs ps) (Named m ∷ zs) ≡ true → ⊥
+      no-member size k None m zs e = cc
+      no-member size k (Some w) m zs e = cc
+
+      no-local : (size : ℕ) (k : Kind) (o : Option ℕ) (m : ℕ) (zs : List Step) → agrees (index_step size k o ∷ patterns cs ps) (Ours m ∷ zs) ≡ true → ⊥
+      no-local size k None m zs e = cc
+      no-local size k (Some w) m zs e = cc
+
+      no-end : (size : ℕ) (k : Kind) (o : Option ℕ) → agrees (index_step size k o ∷ patterns cs ps) [] ≡ true → ⊥
+      no-end size k None e = cc
+      no-end size k (Some w) e = cc
+
+      by : (o : PartLayer) (bs : List ℕ) (ys : List NameStep) → agrees (pattern_step cs o ∷ patterns cs ps) (map step_in ys) ≡ true → within bs ys ≡ true → one_past bs (rows.index_of cs o ∷ map (index_at cs) ps) ≡ true → ((ds : List ℕ) → Rest ds) → ⊥
+      by (tree.Member n) bs (step.Member m ∷ ys) e w b f = f bs ys (second (nat_eq n.0 m.0) (agrees (patterns cs ps) (map step_in ys)) e) w b
+      by (tree.Member n) bs [] e w b f = cc
+      by (tree.Member n) bs (step.Index m ∷ ys) e w b f = cc
+      by (tree.Member n) bs (step.Local m ∷ ys) e w b f = cc
+      by (tree.Index size at) [] (step.Index m ∷ ys) e w b f = cc
+      by (tree.Index size at) (c ∷ ds) (step.Index m ∷ ys) e w b f = at-index size (kind_of (term_of at)) (static cs (term_of at)) c ds m ys e w b (f ds)
+      by (tree.Index size at) bs [] e w b f = no-end size (kind_of (term_of at)) (static cs (term_of at)) e
+      by (tree.Index size at) bs (step.Member m ∷ ys) e w b f = no-member size (kind_of (term_of at)) (static cs (term_of at)) m.0 (map step_in ys) e
+      by (tree.Index size at) bs (step.Local m ∷ ys) e w b f = no-local size (kind_of (term_of at)) (static cs (term_of at)) m (map step_in ys) e
+
+  pub completes_or : (bs : List ℕ) (ps : List CorePart) (ys : List NameStep) → agrees (patterns cs ps) (map step_in ys) ≡ true → within bs ys ≡ true → (bounded bs ps || goes_past cs bs ps) ≡ true → fits (patterns cs ps) (map step_in ys) ≡ true
+  completes_or bs ps ys e w b = by (bounded bs ps) refl b
+    where
+      by : (x : Bool) → bounded bs ps ≡ x → (x || goes_past cs bs ps) ≡ true → fits (patterns cs ps) (map step_in ys) ≡ true
+      by true is b = completes bs ps ys e w is
+      by false is b = absurd (never bs ps ys e w b)
+
 -- ---- the array of a cell
 
 pub record Met (t : Rows) (at : Spot) (ss ys : List NameStep) (x : Seen) (input : Bool) : Type 0 where
@@ -225,14 +277,14 @@ met t at (s ∷ ss) i ys x input e = by (leads t.names at s) refl (second _ _ e)
         let m = f to e in
         record { to = m.to; walks = ap (λ o. option_and_then (λ to. walk t.names to (known ss)) o) is ∙ m.walks; row = m.row }
 
-pub record Told (r : Row) (ys : List NameStep) (ps : List CorePart) (test : Test) (x : Seen) (input : Bool) : Type 0 where
+pub record Told (cs : Cells) (r : Row) (ys : List NameStep) (ps : List CorePart) (test : Test) (x : Seen) (input : Bool) : Type 0 where
   pub asked : asked test x ≡ true
   pub within : within r.bounds ys ≡ true
-  pub bounded : bounded r.bounds ps ≡ true
+  pub sized : (bounded r.bounds ps || goes_past cs r.bounds ps) ≡ true
   pub keeps : writes test ≡ true → input ≡ false
 
-told : (r : Row) (ys : List NameStep) (ps : List CorePart) (test : Test) (x : Seen) (input : Bool) → row_passes r ps test ≡ true → covers r ys x input ≡ true → Told r ys ps test x input
-told r ys ps test x input e f =
+told : (cs : Cells) (r : Row) (ys : List NameStep) (ps : List CorePart) (test : Test) (x : Seen) (input : Bool) → row_passes cs r ps test ≡ true → covers r ys x input ≡ true → Told cs r ys ps test x input
+told cs r ys ps test x input e f =
     let e1 = second (not r.mixed) _ e in
     let e2 = second (asked test r.seen) _ e1 in
     let f1 = second (r.mixed || same_seen r.seen x) _ f in
@@ -240,8 +292,8 @@ told r ys ps test x input e f =
     record {
       asked = ap (asked test) (sym alike) ∙ first (asked test r.seen) _ e1;
       within = second (not input || r.input) (within r.bounds ys) f1;
-      bounded = second (not (writes test) || not r.input) (bounded r.bounds ps) e2;
-      keeps = dry (writes test) r.input input (first (not (writes test) || not r.input) (bounded r.bounds ps) e2) (first (not input || r.input) (within r.bounds ys) f1);
+      sized = second (not (writes test) || not r.input) (bounded r.bounds ps || goes_past cs r.bounds ps) e2;
+      keeps = dry (writes test) r.input input (first (not (writes test) || not r.input) (bounded r.bounds ps || goes_past cs r.bounds ps) e2) (first (not input || r.input) (within r.bounds ys) f1);
     }
   where
     plain : (a b : Bool) → not a ≡ true → (a || b) ≡ true → b ≡ true
@@ -255,14 +307,14 @@ told r ys ps test x input e f =
     dry false a i e f h = absurd cc
 
 -- what an array tells of a cell whose name agrees
-pub record Cellwise (t : Rows) (name : CellName) (ps : List CorePart) (test : Test) (c : Cell) (x : Seen) (input : Bool) : Type 0 where
+pub record Cellwise (cs : Cells) (t : Rows) (name : CellName) (ps : List CorePart) (test : Test) (c : Cell) (x : Seen) (input : Bool) : Type 0 where
   pub row : Row
   pub ys : List NameStep
   pub is : steps_of c.name ≡ steps_of name ++ ys
   pub agree : agrees (opens ps) (map step_in ys) ≡ true
-  pub told : Told row ys ps test x input
+  pub told : Told cs row ys ps test x input
 
-module _ (t : Rows) (name : CellName) (ps : List CorePart) (test : Test) (whole : name.local ≡ None → name.indices ≡ []) (begins : begins_open ps ≡ true) (pass : passes t name ps test ≡ true) where
+module _ (cs : Cells) (t : Rows) (name : CellName) (ps : List CorePart) (test : Test) (whole : name.local ≡ None → name.indices ≡ []) (begins : begins_open ps ≡ true) (pass : passes cs t name ps test ≡ true) where
   begins-index : (qs : List CorePart) (ys : List NameStep) → begins_open qs ≡ true → agrees (opens qs) (map step_in ys) ≡ true → (i : ℕ) × (zs : List NameStep) × (ys ≡ step.Index i ∷ zs)
   begins-index [] ys b e = absurd cc
   begins-index (q ∷ qs) ys b e = by (out-CorePart q) ys b e
@@ -274,7 +326,7 @@ module _ (t : Rows) (name : CellName) (ps : List CorePart) (test : Test) (whole 
       by (tree.Index size at) (step.Local m ∷ ys) b e = absurd cc
       by (tree.Index size at) (step.Index m ∷ ys) b e = (m, ys, refl)
 
-  pub cellwise : (c : Cell) (x : Seen) (input : Bool) → covered t top (steps_of c.name) x input ≡ true → agrees (map step_in (steps_of name) ++ opens ps) (map step_in (steps_of c.name)) ≡ true → Cellwise t name ps test c x input
+  pub cellwise : (c : Cell) (x : Seen) (input : Bool) → covered t top (steps_of c.name) x input ≡ true → agrees (map step_in (steps_of name) ++ opens ps) (map step_in (steps_of c.name)) ≡ true → Cellwise cs t name ps test c x input
   cellwise c x input e f =
       let d = split (steps_of name) (opens ps) (steps_of c.name) f in
       let b = begins-index ps d.ys begins d.agree in
@@ -282,9 +334,9 @@ module _ (t : Rows) (name : CellName) (ps : List CorePart) (test : Test) (whole 
       let there : name_spot t.names name ≡ Some m.to = sym (name_walk t.names name whole) ∙ m.walks in
       let key : map keyed (step.Index b.0 ∷ b.1) ≡ map key_part ps = ap (map keyed) (sym b.2) ∙ one_key ps d.ys d.agree in
       by d.ys d.is d.agree (row_from t m.to (map key_part ps))
-      (ap (passing ps test) (sym (ap (λ o. option_and_then (λ at. row_from t at (map key_part ps)) o) there)) ∙ pass)
+      (ap (passing cs ps test) (sym (ap (λ o. option_and_then (λ at. row_from t at (map key_part ps)) o) there)) ∙ pass)
       ((λ i. covering (b.2 i) x input (row_from t m.to (sym key i))) ∙ m.row)
     where
-      by : (ys : List NameStep) → steps_of c.name ≡ steps_of name ++ ys → agrees (opens ps) (map step_in ys) ≡ true → (o : Option Row) → passing ps test o ≡ true → covering ys x input o ≡ true → Cellwise t name ps test c x input
+      by : (ys : List NameStep) → steps_of c.name ≡ steps_of name ++ ys → agrees (opens ps) (map step_in ys) ≡ true → (o : Option Row) → passing cs ps test o ≡ true → covering ys x input o ≡ true → Cellwise cs t name ps test c x input
       by ys is agree None e f = absurd cc
-      by ys is agree (Some r) e f = record { row = r; ys = ys; is = is; agree = agree; told = told r ys ps test x input e f }
+      by ys is agree (Some r) e f = record { row = r; ys = ys; is = is; agree = agree; told = told cs r ys ps test x input e f }

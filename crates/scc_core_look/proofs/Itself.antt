@@ -9,6 +9,14 @@ use Rattle.scc_core_spec.specs.Named.{Step, Named, At, Ours, Open, cell_at, cell
 use Rattle.scc_core_spec.specs.Program.{Cell, Program, is_pointer}
 use Rattle.scc_core_spec.specs.Static.{Cells, found}
 use Rattle.scc_core_spec.specs.Term.{CellName, Own}
+use Rattle.scc_core.specs.declared.places.Places.{Places}
+use Rattle.scc_core.specs.declared.program.Cell as core
+use Rattle.scc_core.specs.declared.program.CellSort.{CellSort}
+use Rattle.scc_core.specs.declared.program.CellSort.TheVariants as sort
+use Rattle.scc_core.specs.Names.{is_pointer as code_pointer}
+use Rattle.scc_core_view.specs.Programs.{cell_of, sort_of}
+use Rattle.scc_core_whole.specs.Parts.{HaveNames}
+use Rattle.scc_core_look.specs.Own.{are_own, is_own}
 use Rattle.scc_core_look.proofs.Apart.{both, first, second, turned}
 
 number_self : (n : ℕ) → nat_eq n n ≡ true
@@ -118,6 +126,29 @@ only_of (x ∷ ds) k (suc n) c a e p =
     ap (λ b. if b then k ∷ cells_at (k + 1) (steps_of c.name) ds else cells_at (k + 1) (steps_of c.name) ds) (not_before x c apart)
     ∙ only_of ds (k + 1) n c (second (list_all (differs x) ds) (cells_apart ds) a) e p
     ∙ ap (λ m. m ∷ []) (let z : k + 1 + n ≡ k + suc n = omega arith in z)
+
+-- cells under their own names have these for themselves
+own_at : (p : Places) (m : ℕ) (cells : List core.Cell) (n : ℕ) (c : core.Cell) → are_own p m cells ≡ true → slice_get cells n ≡ Some c → code_pointer c.sort ≡ false
+own_at p m [] n c a e = absurd cc
+own_at p m (x ∷ cells) zero c a e = ap (λ (d : core.Cell). code_pointer d.sort) (sym (same_some e)) ∙ off (code_pointer x.sort) (first (not (code_pointer x.sort)) _ (first (is_own p m x) (are_own p (m + 1) cells) a))
+own_at p m (x ∷ cells) (suc n) c a e = own_at p (m + 1) cells n c (second (is_own p m x) (are_own p (m + 1) cells) a) e
+
+no_pointer : (s : CellSort) → code_pointer s ≡ false → is_pointer (sort_of s) ≡ false
+no_pointer sort.Input e = refl
+no_pointer sort.Output e = refl
+no_pointer sort.Signal e = refl
+no_pointer (sort.Variable w f) e = refl
+no_pointer (sort.Local n) e = refl
+no_pointer (sort.Pointer t) e = absurd cc
+no_pointer (sort.Port r) e = refl
+
+viewed : (cells : List core.Cell) (n : ℕ) (c : core.Cell) → slice_get cells n ≡ Some c → slice_get (map cell_of cells) n ≡ Some (cell_of c)
+viewed [] n c e = absurd cc
+viewed (x ∷ cells) zero c e = ap (λ y. Some (cell_of y)) (same_some e)
+viewed (x ∷ cells) (suc n) c e = viewed cells n c e
+
+pub have_names : (p : Places) (cells : List core.Cell) → cells_apart (map cell_of cells) ≡ true → are_own p 0 cells ≡ true → HaveNames cells
+have_names p cells a own n c e = found_of (map cell_of cells) n (cell_of c) a (viewed cells n c e) (no_pointer c.sort (own_at p 0 cells n c own e))
 
 module _ (p : Program) (r : IsResolved p) where
   apart : cells_apart p.cells ≡ true

@@ -41,7 +41,7 @@ use Rattle.scc_core_look.specs.Fits.{IsGround, IsLeft, begins_open, front_passes
 use Rattle.scc_core_look.specs.Own.{is_unnamed}
 use Rattle.scc_core_look.specs.Rows.{PartLayer, cell_covered, passes}
 use Rattle.scc_core_look.specs.Seen.{asks, asked, rooted_input, seen_of, writes}
-use Rattle.scc_core_look.proofs.Agreeing.{Cellwise, cellwise, completes, open_step, opened, opens, pattern_step, patterns}
+use Rattle.scc_core_look.proofs.Agreeing.{Cellwise, cellwise, completes_or, open_step, opened, opens, pattern_step, patterns}
 use Rattle.scc_core_look.proofs.Apart.{both, first, second, fits_same, list_turned, name_walk, steps_same}
 
 -- ---- trees
@@ -271,7 +271,7 @@ module _ (g : Ground) (ground : IsGround g) (test : Test) where
   abbrev covers-it : Cell → Type 0
   covers-it c = cell_covered t g.cells.now c ≡ true
 
-  module _ (place : Place) (name : CellName) (ps : List CorePart) (whole : name.local ≡ None → name.indices ≡ []) (begins : begins_open ps ≡ true) (pass : passes t name ps test ≡ true) where
+  module _ (place : Place) (name : CellName) (ps : List CorePart) (whole : name.local ≡ None → name.indices ≡ []) (begins : begins_open ps ≡ true) (pass : passes cs t name ps test ≡ true) where
     abbrev pub l : Left
     l = to.extended (term.Prefix place (name_of name)) (map part_term ps)
 
@@ -284,8 +284,8 @@ module _ (g : Ground) (ground : IsGround g) (test : Test) where
     pattern-is : pattern cs l ≡ Some (map step_in (steps_of name) ++ patterns cs ps)
     pattern-is = more_pattern cs ps (term.Prefix place (name_of name)) (named.steps_of (name_of name)) refl ∙ ap (λ s. Some (s ++ patterns cs ps)) front
 
-    tells : (c : Cell) → covers-it c → agrees (map step_in (steps_of name) ++ opens ps) (map step_in (steps_of c.name)) ≡ true → Cellwise t name ps test c (seen_of (cell_of c)) (rooted_input cs (cell_of c))
-    tells c h e = cellwise t name ps test whole begins pass c (seen_of (cell_of c)) (rooted_input cs (cell_of c)) h e
+    tells : (c : Cell) → covers-it c → agrees (map step_in (steps_of name) ++ opens ps) (map step_in (steps_of c.name)) ≡ true → Cellwise cs t name ps test c (seen_of (cell_of c)) (rooted_input cs (cell_of c))
+    tells c h e = cellwise cs t name ps test whole begins pass c (seen_of (cell_of c)) (rooted_input cs (cell_of c)) h e
 
     named-each : all_named cs (asks test) l ≡ true
     named-each = by_open cs (asks test) l (more_other ps (term.Prefix place (name_of name)) refl) ∙ ap (all_agreeing cs (asks test)) open-is
@@ -306,7 +306,7 @@ module _ (g : Ground) (ground : IsGround g) (test : Test) where
         let there : map step_in (steps_of c.name) ≡ map step_in (steps_of name) ++ map step_in w.ys = ap (map step_in) w.is ∙ spread (steps_of name) w.ys in
         let rest : agrees (patterns cs ps) (map step_in w.ys) ≡ true = sym (same_front (steps_of name) (patterns cs ps) (map step_in w.ys)) ∙ (ap (agrees (map step_in (steps_of name) ++ patterns cs ps)) (sym there) ∙ e) in
         ap (fits (map step_in (steps_of name) ++ patterns cs ps)) there ∙ behind_front (steps_of name) (patterns cs ps) (map step_in w.ys)
-        ∙ completes cs w.row.bounds ps w.ys rest w.told.within w.told.bounded
+        ∙ completes_or cs w.row.bounds ps w.ys rest w.told.within w.told.sized
 
     sized-each : is_sized cs l ≡ true
     sized-each = ap (λ o. all_agreeing cs (completed o) o) pattern-is
@@ -475,15 +475,15 @@ whole_of g name e f = by name.indices (sym (ap (λ o. is_name (mine g) (record {
     by (i ∷ is) e = absurd cc
 
 module _ (g : Ground) (ground : IsGround g) (test : Test) where
-  pub front_told : (place : Place) (name : CellName) (ps : List CorePart) (called pass named fit outer : Bool) → (called ≡ true → is_name (mine g) (name_of name) ≡ true) → pass ≡ front_passes g name ps test → named ≡ (called && pass)
+  pub front_told : (place : Place) (name : CellName) (ps : List CorePart) (called pass named fit outer : Bool) → (called ≡ true → is_name (mine g) (name_of name) ≡ true) → (pass ≡ true → front_passes g name ps test ≡ true) → named ≡ (called && pass)
       → (fit ≡ true → list_all (part_fits g) ps ≡ true) → outer ≡ (named && fit) → outer ≡ true → IsLeft g test (to.extended (term.Prefix place (name_of name)) (map part_term ps))
   front_told place name ps called pass named fit outer a b c e f t =
       let t2 : (named && fit) ≡ true = sym f ∙ t in
       let t3 : (called && pass) ≡ true = sym c ∙ first named fit t2 in
       let n = a (first called pass t3) in
-      by (begins_open ps) refl n (e (second named fit t2)) (sym b ∙ second called pass t3)
+      by (begins_open ps) refl n (e (second named fit t2)) (b (second called pass t3))
     where
-      by : (b : Bool) → begins_open ps ≡ b → is_name (mine g) (name_of name) ≡ true → list_all (part_fits g) ps ≡ true → (if b then passes g.rows.now name ps test else names_none g name ps) ≡ true → IsLeft g test (to.extended (term.Prefix place (name_of name)) (map part_term ps))
+      by : (b : Bool) → begins_open ps ≡ b → is_name (mine g) (name_of name) ≡ true → list_all (part_fits g) ps ≡ true → (if b then passes (here g) g.rows.now name ps test else names_none g name ps) ≡ true → IsLeft g test (to.extended (term.Prefix place (name_of name)) (map part_term ps))
       by true is n h p = front_passes_all g ground test place name ps (whole_of g name n) is p n h
       by false is n h p = none_passes g ground test place name ps (whole_of g name n) p n
 

@@ -24,6 +24,8 @@ use Rattle.scc_core_spec.specs.Term.{Left, Pick, Term, OneBit, Bits, Whole, kind
 use Rattle.scc_core_spec.specs.Uses.{cells_of, has_sort}
 use Rattle.scc_core_view.specs.Programs.{cell_of, process_of}
 use Rattle.scc_core_view.specs.Terms.{Base, Node, Picking, Taken, base_node, expr_node, joined_behind, part_node, pick_node, pick_of, picked, expr_step, left_step, term_of, taken_of}
+use Rattle.scc_core_view.specs.Whole.{AreWholeCells}
+use Rattle.scc_core_whole.specs.Parts.{HaveNames}
 use Rattle.scc_core_look.specs.declared.seen.Test.{Test}
 use Rattle.scc_core_look.specs.declared.seen.Test.TheVariants as test
 use Rattle.scc_core_look.specs.declared.terms.Ground.{Ground}
@@ -36,6 +38,8 @@ pub record IsGround (g : Ground) : Type 0 where
   pub vectors : List VectorSize2
   pub table : IsTable g.places.now g.cells.now vectors
   pub apart : cells_apart (map cell_of g.cells.now) ≡ true
+  pub names : HaveNames g.cells.now
+  pub whole : AreWholeCells g.cells.now
   pub covered : list_all (cell_covered g.rows.now g.cells.now) g.cells.now ≡ true
 
 abbrev pub here : Ground → Cells
@@ -72,7 +76,7 @@ names_none g n ps = is_nil ps && is_unnamed g.places.now n
 
 -- each cell that a name and its parts may name passes: an array tells it of what has an index, and no other name has a cell
 abbrev pub front_passes : Ground → CellName → List CorePart → Test → Bool
-front_passes g n ps t = if begins_open ps then passes g.rows.now n ps t else names_none g n ps
+front_passes g n ps t = if begins_open ps then passes (here g) g.rows.now n ps t else names_none g n ps
 
 -- no cell that a location names is an input of the top, nor stands for one
 abbrev pub keeps : Cells → Left → Bool

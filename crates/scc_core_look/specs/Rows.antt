@@ -16,7 +16,11 @@ use Rattle.scc_core.specs.declared.program.Cell.{Cell}
 use Rattle.scc_core.specs.declared.program.CellName.{CellName}
 use Rattle.scc_core.specs.Names.{cell_at, leads, name_spot}
 use Rattle.scc_core.specs.Tables.{steps_of, top}
+use Rattle.scc_core_spec.specs.Fold.{static_index}
+use Rattle.scc_core_spec.specs.Static.{Cells}
 use Rattle.scc_core_view.specs.Programs.{cell_of}
+use Rattle.scc_core_view.specs.Terms.{term_of}
+use Rattle.scc_core_whole.specs.Parts.{is_past}
 use Rattle.scc_core_look.specs.declared.rows.Row.{Row}
 use Rattle.scc_core_look.specs.declared.rows.Rows.{Rows}
 use Rattle.scc_core_look.specs.declared.seen.Seen.{Seen}
@@ -78,13 +82,31 @@ sized (b ∷ bs) (Some size ∷ ps) = nat_le b size && sized bs ps
 abbrev pub bounded : List ℕ → List CorePart → Bool
 bounded bs ps = sized bs (map size_at ps)
 
+-- the number of an index that is known
+abbrev pub index_of : Cells → PartLayer → Option (Option ℕ)
+index_of cs (tree.Member n) = None
+index_of cs (tree.Index size at) = Some (static_index cs [] (term_of at))
+
+abbrev pub index_at : Cells → CorePart → Option (Option ℕ)
+index_at cs p = index_of cs (out-CorePart p)
+
+-- an index that is known is no less than the bound of its place, so no cell of the array is meant
+abbrev pub one_past : List ℕ → List (Option (Option ℕ)) → Bool
+one_past bs [] = false
+one_past bs (None ∷ is) = one_past bs is
+one_past [] (Some i ∷ is) = false
+one_past (b ∷ bs) (Some i ∷ is) = is_past b i || one_past bs is
+
+abbrev pub goes_past : Cells → List ℕ → List CorePart → Bool
+goes_past cs bs ps = one_past bs (map (index_at cs) ps)
+
 -- ---- an array, and a cell of it
 
 abbrev pub covers : Row → List NameStep → Seen → Bool → Bool
 covers r ss x input = (r.mixed || same_seen r.seen x) && ((not input || r.input) && within r.bounds ss)
 
-abbrev pub row_passes : Row → List CorePart → Test → Bool
-row_passes r ps t = not r.mixed && (asked t r.seen && ((not (writes t) || not r.input) && bounded r.bounds ps))
+abbrev pub row_passes : Cells → Row → List CorePart → Test → Bool
+row_passes cs r ps t = not r.mixed && (asked t r.seen && ((not (writes t) || not r.input) && (bounded r.bounds ps || goes_past cs r.bounds ps)))
 
 -- ---- arrays by names
 
@@ -98,12 +120,12 @@ row_from t at (s ∷ ss) = option_and_then (λ to. row_from t to ss) (leads t.na
 abbrev pub row_of : Rows → CellName → List CorePart → Option Row
 row_of t name ps = option_and_then (λ at. row_from t at (map key_part ps)) (name_spot t.names name)
 
-abbrev pub passing : List CorePart → Test → Option Row → Bool
-passing ps t None = true
-passing ps t (Some r) = row_passes r ps t
+abbrev pub passing : Cells → List CorePart → Test → Option Row → Bool
+passing cs ps t None = true
+passing cs ps t (Some r) = row_passes cs r ps t
 
-abbrev pub passes : Rows → CellName → List CorePart → Test → Bool
-passes rows name ps t = passing ps t (row_of rows name ps)
+abbrev pub passes : Cells → Rows → CellName → List CorePart → Test → Bool
+passes cs rows name ps t = passing cs ps t (row_of rows name ps)
 
 abbrev pub covering : List NameStep → Seen → Bool → Option Row → Bool
 covering ss x input None = false

@@ -5,6 +5,7 @@ ghost use Rattle.scc_core.specs.Tables.{IsTable};
 ghost use Rattle.scc_core.specs.declared.program.VectorSize2.{VectorSize2};
 ghost use Rattle.scc_core_spec.specs.IsResolved.{cells_apart};
 ghost use Rattle.scc_core_view.specs.Programs.{cell_of};
+ghost use Rattle.scc_core_whole.specs.Parts.{HaveNames};
 ghost use Rattle.scc_core_look.specs.Own.{are_own, is_it, is_name, is_own, is_unnamed};
 
 use crate::exits::both;
@@ -76,7 +77,8 @@ fn are_own(places: &Places, cells: &[Cell]) -> bool
 
 /// Whether no cell is a pointer and no two cells have one name, by the table of their names.
 pub fn names_differ(places: &Places, cells: &[Cell]) -> bool
-    ensures { (vectors : List VectorSize2) → IsTable places.now cells.now vectors → result ≡ true → cells_apart (map cell_of cells.now) ≡ true }
+    ensures apart { (vectors : List VectorSize2) → IsTable places.now cells.now vectors → result ≡ true → cells_apart (map cell_of cells.now) ≡ true }
+    ensures names { (vectors : List VectorSize2) → IsTable places.now cells.now vectors → result ≡ true → HaveNames cells.now }
 {
     are_own(places, cells)
 }

@@ -1,17 +1,21 @@
 //! Cells under open indices: what those of an array have in common, so that a location is looked at once, however many cells it may name.
-ghost use Rattle.std.specs.Prelude.{◌≡◌, ◌++◌, List, IfOk, OnOk, map, true};
+ghost use Rattle.std.specs.Prelude.{◌≡◌, ◌++◌, ◌||◌, List, IfOk, OnOk, map, true};
 ghost use Rattle.std.specs.List.{list_all};
 ghost use Rattle.std.specs.Option.{option_copied};
 ghost use Rattle.scc_core.specs.Tables.{IsTable, own_steps, steps_of};
 ghost use Rattle.scc_core.specs.Names.{step_of};
 ghost use Rattle.scc_core.specs.declared.places.NameStep.TheVariants as step;
 ghost use Rattle.scc_core.specs.declared.program.VectorSize2.{VectorSize2};
-ghost use Rattle.scc_core_look.specs.Rows.{bounded, cell_covered, covered, covers, is_index, key_part, keyed, no_index, passes, row_at, row_covers, row_from, row_of, row_passes, within};
+ghost use Rattle.scc_core_view.specs.Programs.{cell_of};
+ghost use Rattle.scc_core_view.specs.Whole.{AreWholeCells};
+ghost use Rattle.scc_core_whole.specs.Parts.{HaveNames};
+ghost use Rattle.scc_core_look.specs.Rows.{bounded, cell_covered, covered, covers, goes_past, is_index, key_part, keyed, no_index, passes, row_at, row_covers, row_from, row_of, row_passes, within};
 
 use crate::exits::both;
 use crate::seen::{Seen, Test, asked, rooted_input, same_seen, seen_of, writes};
 use scc_base::{List, Name, NoMemory, Path, PathPart, push};
 use scc_core::{Cell, CellName, CorePart, NameStep, Places, Spot, numbered};
+use scc_core_whole::is_past;
 use std::alloc::Global;
 
 /// The cells of one array: what the first of them is, whether some are otherwise, whether one is an input of the top or stands for one, and
@@ -115,16 +119,52 @@ fn covers(row: &Row, steps: &[NameStep], seen: Seen, input: bool) -> bool
     both(alike, both(told, within(row.bounds.as_slice(), steps)))
 }
 
+// Whether an index that is known is no less than the bound of its place.
+fn goes_past(cells: &List<Cell>, bounds: &[u32], parts: &[CorePart]) -> Result<bool, NoMemory>
+    ensures { HaveNames cells.now → AreWholeCells cells.now → IfOk result (λ b. b ≡ true → goes_past (map cell_of cells.now) bounds.now parts.now ≡ true) }
+{
+    match parts {
+        [] => Ok(false),
+        [part, rest @ ..] => match part {
+            CorePart::Index { at, .. } => match bounds {
+                [] => Ok(false),
+                [b, more @ ..] => {
+                    if is_past(cells, at, *b)? {
+                        Ok(true)
+                    } else {
+                        goes_past(cells, more, rest)
+                    }
+                }
+            },
+            CorePart::Member(_) => goes_past(cells, bounds, rest),
+        },
+    }
+}
+
+// Whether no cell of an array is left out that parts may name: their sizes are no less than its bounds, or none is meant.
+fn is_sized(cells: &List<Cell>, row: &Row, parts: &[CorePart]) -> Result<bool, NoMemory>
+    ensures { HaveNames cells.now → AreWholeCells cells.now → IfOk result (λ b. b ≡ true → (bounded row.now.bounds parts.now || goes_past (map cell_of cells.now) row.now.bounds parts.now) ≡ true) }
+{
+    if bounded(row.bounds.as_slice(), parts) {
+        Ok(true)
+    } else {
+        goes_past(cells, row.bounds.as_slice(), parts)
+    }
+}
+
 // Whether each cell of an array passes.
-fn row_passes(row: &Row, parts: &[CorePart], test: Test) -> bool
-    ensures { result ≡ row_passes row.now parts.now test }
+fn row_passes(
+    cells: &List<Cell>,
+    row: &Row,
+    parts: &[CorePart],
+    test: Test,
+) -> Result<bool, NoMemory>
+    ensures { HaveNames cells.now → AreWholeCells cells.now → IfOk result (λ b. b ≡ true → row_passes (map cell_of cells.now) row.now parts.now test ≡ true) }
 {
     let passes = asked(test, row.seen);
     let keeps = !writes(test) || !row.input;
-    both(
-        !row.mixed,
-        both(passes, both(keeps, bounded(row.bounds.as_slice(), parts))),
-    )
+    let sized = is_sized(cells, row, parts)?;
+    Ok(both(!row.mixed, both(passes, both(keeps, sized))))
 }
 
 // ---- the steps of a name
@@ -216,12 +256,18 @@ impl Rows {
     }
 
     /// Whether each cell that a name and its parts may name passes. Of a name that no cell has each does.
-    pub fn passes(&self, name: &CellName, parts: &[CorePart], test: Test) -> bool
-        ensures { result ≡ passes self.now name.now parts.now test }
+    pub fn passes(
+        &self,
+        cells: &List<Cell>,
+        name: &CellName,
+        parts: &[CorePart],
+        test: Test,
+    ) -> Result<bool, NoMemory>
+        ensures { HaveNames cells.now → AreWholeCells cells.now → IfOk result (λ b. b ≡ true → passes (map cell_of cells.now) self.now name.now parts.now test ≡ true) }
     {
         match self.row_of(name, parts) {
-            Some(row) => row_passes(row, parts, test),
-            None => true,
+            Some(row) => row_passes(cells, row, parts, test),
+            None => Ok(true),
         }
     }
 

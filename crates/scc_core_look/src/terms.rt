@@ -101,13 +101,18 @@ fn names_none(g: &Ground<'_>, name: &CellName, parts: &[CorePart]) -> bool
 }
 
 // Whether each cell that a name and its parts may name passes.
-fn front_passes(g: &Ground<'_>, name: &CellName, parts: &[CorePart], test: Test) -> bool
-    ensures { result ≡ front_passes g.now name.now parts.now test }
+fn front_passes(
+    g: &Ground<'_>,
+    name: &CellName,
+    parts: &[CorePart],
+    test: Test,
+) -> Result<bool, NoMemory>
+    ensures { IfOk result (λ b. b ≡ true → IsGround g.now → front_passes g.now name.now parts.now test ≡ true) }
 {
     if begins_open(parts) {
-        g.rows.passes(name, parts, test)
+        g.rows.passes(g.cells, name, parts, test)
     } else {
-        names_none(g, name, parts)
+        Ok(names_none(g, name, parts))
     }
 }
 
@@ -344,7 +349,7 @@ fn front_fits(
     ensures { IfOk result (λ b. b ≡ true → IsGround g.now → (p : Place) → IsLeft g.now test (extended (term.Prefix p (name_of name.now)) (map part_term parts.now))) }
 {
     let fit = parts_fit(g, parts, levels)?;
-    let named = both(name_fits(g, name), front_passes(g, name, parts, test));
+    let named = both(name_fits(g, name), front_passes(g, name, parts, test)?);
     Ok(both(named, fit))
 }
 

@@ -6,6 +6,7 @@ ghost use Rattle.scc_core.specs.declared.program.VectorSize2.{VectorSize2};
 ghost use Rattle.scc_core_spec.specs.IsResolved.{IsResolved, cells_apart};
 ghost use Rattle.scc_core_view.specs.Programs.{cell_of, process_of, program_of};
 ghost use Rattle.scc_core_view.specs.Whole.{AreWholeCells};
+ghost use Rattle.scc_core_whole.specs.Parts.{HaveNames};
 ghost use Rattle.scc_core_look.specs.Fits.{body_fits};
 ghost use Rattle.scc_core_look.specs.Rows.{cell_covered};
 
@@ -29,7 +30,7 @@ fn body_fits(
     rows: &Rows,
     process: &CoreProcess,
 ) -> Result<bool, NoMemory>
-    ensures { (vectors : List VectorSize2) → IsTable places.now cells.now vectors → cells_apart (map cell_of cells.now) ≡ true → list_all (cell_covered rows.now cells.now) cells.now ≡ true → IfOk result (λ b. b ≡ true → body_fits (map cell_of cells.now) (process_of process.now) ≡ true) }
+    ensures { (vectors : List VectorSize2) → IsTable places.now cells.now vectors → cells_apart (map cell_of cells.now) ≡ true → HaveNames cells.now → AreWholeCells cells.now → list_all (cell_covered rows.now cells.now) cells.now ≡ true → IfOk result (λ b. b ≡ true → body_fits (map cell_of cells.now) (process_of process.now) ≡ true) }
 {
     let g = Ground {
         cells,
@@ -46,7 +47,7 @@ fn bodies_fit(
     rows: &Rows,
     processes: &[CoreProcess],
 ) -> Result<bool, NoMemory>
-    ensures { (vectors : List VectorSize2) → IsTable places.now cells.now vectors → cells_apart (map cell_of cells.now) ≡ true → list_all (cell_covered rows.now cells.now) cells.now ≡ true → IfOk result (λ b. b ≡ true → list_all (body_fits (map cell_of cells.now)) (map process_of processes.now) ≡ true) }
+    ensures { (vectors : List VectorSize2) → IsTable places.now cells.now vectors → cells_apart (map cell_of cells.now) ≡ true → HaveNames cells.now → AreWholeCells cells.now → list_all (cell_covered rows.now cells.now) cells.now ≡ true → IfOk result (λ b. b ≡ true → list_all (body_fits (map cell_of cells.now)) (map process_of processes.now) ≡ true) }
 {
     let mut fit = true;
     for process in processes {
@@ -61,13 +62,13 @@ pub fn is_resolved(alloc: Global, core: &Core) -> Result<bool, NoMemory>
     ensures resolved { IfOk result (λ b. b ≡ true → IsResolved (program_of core.now)) }
     ensures cells { IfOk result (λ b. b ≡ true → AreWholeCells core.now.cells) }
 {
-    let resolved = is_told(alloc, core)?;
     let whole = cells_are_whole(&core.cells);
-    Ok(both(resolved, whole))
+    let resolved = is_told(alloc, core)?;
+    Ok(both(whole, resolved))
 }
 
 fn is_told(alloc: Global, core: &Core) -> Result<bool, NoMemory>
-    ensures { IfOk result (λ b. b ≡ true → IsResolved (program_of core.now)) }
+    ensures { IfOk result (λ b. b ≡ true → AreWholeCells core.now.cells → IsResolved (program_of core.now)) }
 {
     let places = Places::of(alloc, &core.cells, &core.vectors)?;
     let rows = rows_of(alloc, &places, &core.cells)?;

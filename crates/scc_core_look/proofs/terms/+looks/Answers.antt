@@ -43,8 +43,8 @@ left_fits-returns-in-Prefix t c = each-ok _ _ c.front_fits.result c.front_fits.e
 
 pub front_fits-returns : goal.front_fits-returns
 front_fits-returns t c = λ e ground p.
-    front_told c.args.g.now ground c.args.test p c.args.name.now c.args.parts.now c.name_fits.result c.front_passes.result c.both-named.result c.in_ok-fit.fit c.both.result
-    c.name_fits.ensures c.front_passes.ensures c.both-named.ensures (λ f. c.in_ok-fit.ensures f ground) c.both.ensures e
+    front_told c.args.g.now ground c.args.test p c.args.name.now c.args.parts.now c.name_fits.result c.in_ok-front_passes.field-0 c.both-named.result c.in_ok-fit.fit c.both.result
+    c.name_fits.ensures (λ f. c.in_ok-front_passes.ensures f ground) c.both-named.ensures (λ f. c.in_ok-fit.ensures f ground) c.both.ensures e
 
 pub some_fit-returns : goal.some_fit-returns
 some_fit-returns t c = λ e ground p.
