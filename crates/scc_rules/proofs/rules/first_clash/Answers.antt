@@ -9,7 +9,7 @@ returns c =
     let clocks = finds_may code.ClockAsData 0 refl refl c.in_ok-clocks.clocks c.in_ok-clocks.ensures.code in
     let writers = finds_may code.TwoWriters 0 refl refl c.in_ok-writers.writers c.in_ok-writers.ensures in
     let shared = finds_may code.SharedVariable 0 refl refl c.in_ok-shared.shared c.in_ok-shared.ensures in
-    let missing = finds_may code.MissingSensitivity 0 refl refl c.in_ok-missing.missing c.in_ok-missing.ensures in
+    let missing = finds_may code.MissingSensitivity 0 refl refl c.in_ok-missing.missing c.in_ok-missing.ensures.code in
     let last = subst (MayFind 0) (sym c.first.ensures) (may_else 0 _ _ shared missing) in
     let more = subst (MayFind 0) (sym c.first-2.ensures) (may_else 0 _ _ writers last) in
     subst (MayFind 0) (sym c.first-3.ensures) (may_else 0 _ _ clocks more)
